@@ -1,4 +1,4 @@
-"""A service whose cache is full: it keeps learning, it forgets the names that end first, and no response fills it."""
+"""A service whose cache is full: it keeps learning, it forgets the names that end first, and neither a response nor a zone fills it."""
 
 from lib.checks import Checks
 from lib.nameserver import NameServers
@@ -6,6 +6,9 @@ from lib.service import HOST, STOPPED, Service
 
 # The most sets that one response brings to the cache, and the owners of a response that is nearly as long as a message may be.
 MOST_SETS, OWNERS = 64, 2_600
+
+# The server of a zone whose owner would fill the cache.
+HOSTILE = "127.0.0.2"
 
 
 def many(asked):
@@ -16,6 +19,14 @@ def many(asked):
     name = asked.question.split()[0]
     others = "".join(f" | additional x{place}.z. 86400 A 192.0.2.2" for place in range(OWNERS))
     yield asked.response(f"aa | answer {name} 60 A 192.0.2.1{others}")
+
+
+def many_names(asked):
+    """A response of one datagram, with an address that lives for a day for each of many names in the zone of the question."""
+    name = asked.question.split()[0]
+    zone = name.split(".", 1)[1]
+    others = "".join(f" | additional {name[:-1].replace('.', '-')[:20]}-{place}.{zone} 86400 A 192.0.2.2" for place in range(MOST_SETS - 1))
+    yield asked.response(f"aa | answer {name} 86400 A 192.0.2.1{others}")
 
 
 def shown(service, name):
@@ -72,12 +83,63 @@ def check_large_responses(checks):
         checks.equal("large responses: stopped", service.stop(), STOPPED)
 
 
+def hits(service, names):
+    """How many of these names are answered from the cache."""
+    misses = asked_of(service)
+    for name in names:
+        service.ask(name)
+    return len(names) - (asked_of(service) - misses)
+
+
+def check_shares(checks):
+    """A zone has no more than a share of the cells, with all zones below its name. Names that end sooner stay in the cache."""
+    honest = [f"n{place}.zone{place % 20}.honest.test." for place in range(200)]
+    zones = {"*": lambda asked: iter([asked.response(f"aa | answer {asked.question.split()[0]} 300 A 192.0.2.1")])}
+    with NameServers({HOST: zones, HOSTILE: {"*": many_names}}) as servers, Service(["192.0.2.9"], "--cells", "2000") as service:
+        for place in range(20):
+            service.obey(f"stub_add zone{place}.honest.test. {HOST}@{servers.port}", f"stub_add zone{place}.owner.test. {HOSTILE}@{servers.port}")
+        service.obey(f"stub_add owner.test. {HOSTILE}@{servers.port}")
+        checks.equal("shares: no name is in the cache yet", hits(service, honest), 0)
+        for place in range(100):
+            service.ask(f"a{place}.owner.test.")
+            service.ask(f"b{place}.zone{place % 20}.owner.test.")
+        checks.equal("shares: each name that ends sooner is still there", hits(service, honest), len(honest))
+        # The zones of each name have at most an eighth of the cells that are free.
+        told = service.figures()
+        checks.equal("shares: a zone has no more than its share", told["cache.cells"] - len(honest) <= 2_000 // 8, True)
+        checks.equal("shares: it has one", told["cache.cells"] - len(honest) >= 2_000 // 12, True)
+        checks.equal("shares: nothing was forgotten", told["cache.forgotten"], 0)
+        checks.equal("shares: the zone is answered all the same", service.ask("last.owner.test.").flags & 0xF, 0)
+        checks.equal("shares: stopped", service.stop(), STOPPED)
+
+
+def check_made_up(checks):
+    """Names that nobody has, below whatever top-level zone, have one share together. A referral is still kept."""
+    def answers(asked):
+        name = asked.question.split()[0]
+        top = name.split(".")[-2]
+        yield asked.response(f"aa rcode 3 | authority {top}. 3600 SOA ns. host. 1 2 3 4 3600")
+
+    with NameServers({HOST: {"*": answers}}) as servers, Service(["192.0.2.9"], "--cells", "1000") as service:
+        for place in range(10):
+            service.obey(f"stub_add top{place}. {HOST}@{servers.port}")
+        for place in range(400):
+            service.ask(f"made-up{place}.top{place % 10}.")
+        told = service.figures()
+        # A set of each zone, with its SOA record, and the denials.
+        checks.equal("made up: they have no more than their share", told["cache.cells"] - 10 <= 1_000 // 8, True)
+        checks.equal("made up: they have one", told["cache.cells"] - 10 >= 1_000 // 12, True)
+        checks.equal("made up: stopped", service.stop(), STOPPED)
+
+
 def main():
     checks = Checks()
     for cells in (1, 2, 3, 20):
         checks.make(check_learning, cells)
     checks.make(check_undone)
     checks.make(check_large_responses)
+    checks.make(check_shares)
+    checks.make(check_made_up)
     checks.end()
 
 

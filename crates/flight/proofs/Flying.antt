@@ -7,6 +7,7 @@ use Rattle.dns_wire.specs.declared.server.query.Query.{Query}
 use Rattle.iterate.specs.declared.answer.Answer.{Answer}
 use Rattle.iterate.specs.declared.phase.Phase.{Phase}
 use Rattle.iterate.specs.declared.task.State.{State}
+use Rattle.iterate.specs.declared.want.Allowance.{Allowance}
 use Rattle.iterate.specs.declared.want.Input.{Input}
 use Rattle.iterate.specs.declared.want.Input.TheVariants.{Begin, Came, Failed}
 use Rattle.iterate.specs.declared.want.Step.{Step}
@@ -48,8 +49,8 @@ module _ {D C : Type 0} {calls : Calls D} {seen : D → ℕ} {hears : Hears} {ti
   flown is answered = goes_on is.flies is.draws answered
 
   -- A reply is heard.
-  pub heard : {steps : List Step} {query : Sent} {n : ℕ} {octets : List ℕ}
-      → Awaits calls seen hears ticks since port question steps query n → hears query (Some octets) → Flies calls seen hears ticks since port question steps (Came octets) n
+  pub heard : {steps : List Step} {query : Sent} {n : ℕ} {octets : List ℕ} {allowance : Allowance}
+      → Awaits calls seen hears ticks since port question steps query n → hears query (Some octets) → Flies calls seen hears ticks since port question steps (Came octets allowance) n
   heard is may = flown is (came may)
 
   -- None is.

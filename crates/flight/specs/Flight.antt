@@ -7,6 +7,7 @@ use Rattle.history.specs.declared.desk.DeskFault.{DeskFault}
 use Rattle.history.specs.declared.event.Event.{Event}
 use Rattle.history.specs.declared.event.Reply.{Reply}
 use Rattle.iterate.specs.declared.answer.Answer.{Answer}
+use Rattle.iterate.specs.declared.want.Allowance.{Allowance}
 use Rattle.iterate.specs.declared.want.Input.{Input}
 use Rattle.iterate.specs.declared.want.Input.TheVariants.{Begin, Reply as Replied, Refused, Came, Failed}
 use Rattle.iterate.specs.declared.want.Step.{Step}
@@ -28,11 +29,11 @@ query_to server over query = record { server = server; over = over; query = quer
 abbrev pub Hears : Type 1
 Hears = Sent → Option (List ℕ) → Type 0
 
--- One call of the desk, or one exchange, answers what a question wants. The desk numbers its calls. The first number is that of the latest call that the desk knew of when this question last called it, or, before its first call, when the octets of its client were taken. The last number is the same afterwards. Calls of other questions may come between two calls of this one.
+-- One call of the desk, or one exchange, answers what a question wants. The desk numbers its calls. The first number is that of the latest call that the desk knew of when this question last called it, or, before its first call, when the octets of its client were taken. The last number is the same afterwards. With a response comes an allowance of finds for the desk, which may be any. Calls of other questions may come between two calls of this one.
 pub data Answered {D : Type 0} (calls : Calls D) (seen : D → ℕ) (hears : Hears) : ℕ → Want → Input → ℕ → Type 0 where
   replied : {n n' : ℕ} {d d' : D} {event : Event} {reply : Reply} → n ≤ seen d → calls d event (Ok reply) d' → n' ≡ seen d' → Answered calls seen hears n (Book event) (Replied reply) n'
   refused : {n n' : ℕ} {d d' : D} {event : Event} {fault : DeskFault} → n ≤ seen d → calls d event (Err fault) d' → n' ≡ seen d' → Answered calls seen hears n (Book event) (Refused fault) n'
-  came : {n : ℕ} {server : Addr} {over : Over} {query octets : List ℕ} → hears (query_to server over query) (Some octets) → Answered calls seen hears n (Send server over query) (Came octets) n
+  came : {n : ℕ} {server : Addr} {over : Over} {query octets : List ℕ} {allowance : Allowance} → hears (query_to server over query) (Some octets) → Answered calls seen hears n (Send server over query) (Came octets allowance) n
   failed : {n : ℕ} {server : Addr} {over : Over} {query : List ℕ} → hears (query_to server over query) None → Answered calls seen hears n (Send server over query) Failed n
 
 -- The task of a question took these steps, since the desk knew of so many calls. Each step read the clock, each query has an identifier that the generator drew, and each step but the first had the answer to the want before it. This input comes next, and n is the number of the desk's latest call that the question knows of.

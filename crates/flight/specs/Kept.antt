@@ -52,7 +52,7 @@ response_kept octets = length octets + NAME_OCTETS * (count_at octets 6 + count_
 
 -- what an input keeps beside its step: a response, or the find or the list of servers that a lookup saw
 abbrev pub input_kept : Input → ℕ
-input_kept (Came octets) = response_kept octets
+input_kept (Came octets allowance) = response_kept octets
 input_kept (Reply (Seen (Held shown))) = find_kept shown.body
 input_kept (Reply (Seen (Named list))) = list_kept list
 input_kept _ = 0

@@ -19,7 +19,7 @@ use crate::outside::{Client, Listened, Outside, Unserved};
 use crate::telling::{lack, refuse, tell};
 use command_text::Clock;
 use dns_text::Octets;
-use iterate::{Input, Want, due_law};
+use iterate::{Allowance, Input, Want, due_law};
 use rand_core::Rng;
 use std::marker::PhantomData;
 
@@ -72,7 +72,16 @@ impl<D: Numbered, L: InFlight, C: Clock, G: Rng, K: Client> Flight<D, L, C, G, K
             (λ origin. origin ≡ origin_in K.network asking) self.old outside.old self.new outside.new }
     {
         let input = match heard {
-            Listened::Came(reply) => Input::Came(reply),
+            Listened::Came(reply) => {
+                let allowance = match asking.task.hunt() {
+                    Some(hunt) => outside.allowance(&hunt.servers.get().zone),
+                    None => Allowance::full(),
+                };
+                Input::Came {
+                    octets: reply,
+                    allowance,
+                }
+            }
             Listened::Nothing => Input::Failed,
             Listened::Broken => Input::Failed,
             Listened::NoMemory => {
@@ -127,7 +136,10 @@ impl<D: Numbered, L: InFlight, C: Clock, G: Rng, K: Client> Flight<D, L, C, G, K
                 return;
             };
             match want {
-                Want::Book(event) => input = ask::<D, L>(desk, &mut asking.seen, event),
+                Want::Book(event) => {
+                    outside.note(&event);
+                    input = ask::<D, L>(desk, &mut asking.seen, event);
+                }
                 Want::Finish(answer) => {
                     let Asking {
                         client,

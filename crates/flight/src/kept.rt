@@ -131,7 +131,7 @@ fn input_kept(input: &Input) -> usize
     ensures { result ≡ capped (input_kept input.now) }
 {
     match input {
-        Input::Came(octets) => response_kept(octets.as_slice()),
+        Input::Came { octets, .. } => response_kept(octets.as_slice()),
         Input::Reply(Reply::Seen(Seen::Held(shown))) => find_kept(shown.body.find()),
         Input::Reply(Reply::Seen(Seen::Servers(list))) => list_kept(list.get()),
         _ => 0,

@@ -45,3 +45,4 @@ pub use numbered::Numbered;
 pub use outside::{Client, Listened, Outside, Unserved};
 pub use reply::ReplyOctets;
 pub use table::{PATIENCE, QUESTION_PATIENCE, limits_law};
+pub use zone::zone_octets;

@@ -15,9 +15,11 @@ use crate::line::InFlight;
 use crate::numbered::Numbered;
 use crate::reply::ReplyOctets;
 use command_text::Clock;
+use dns_name::Name;
 use dns_query::Over;
 use dns_text::{Addr, Octets, Shared};
-use iterate::Hunt;
+use history::Event;
+use iterate::{Allowance, Hunt};
 
 /// A client that is owed a reply. It cannot be cloned and every outcome consumes it, so it is answered at most once.
 pub trait Client: Drop {
@@ -97,6 +99,13 @@ pub trait Outside<D: Numbered, L: InFlight, C: Clock, K: Client> {
     /// The port of name servers that are known by name.
     fn server_port(&self) -> u16
         ensures { result ≡ server_port self.now };
+
+    /// How many finds of a response from a server of this zone may be handed to the desk. It bounds what the zone may bring to the
+    /// cache, and no answer depends on it.
+    fn allowance(&self, zone: &Name) -> Allowance;
+
+    /// Learns of an event that is handed to the desk for a question.
+    fn note(&self, event: &Event);
 
     /// A buffer for a reply. The reply replaces whatever octets it holds.
     fn buffer(&mut self) -> Vec<u8>

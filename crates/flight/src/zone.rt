@@ -18,7 +18,7 @@ fn first_len(octets: &[u8]) -> usize
 }
 
 /// The octets of the last two labels of a name, the one next to the root first. It takes no memory.
-pub(crate) fn zone_octets(name: &Name) -> &[u8]
+pub fn zone_octets(name: &Name) -> &[u8]
     ensures { result.now ≡ octets_of (zone_of name.now) }
 {
     let octets = name.octets();

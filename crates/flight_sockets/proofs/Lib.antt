@@ -1,6 +1,7 @@
 mod Accounting
 mod Beginning
 mod Durations
+mod Filling
 mod Flowing
 mod Hearing
 mod Moving

@@ -20,3 +20,4 @@ pub mod Servers
 pub mod Silences
 pub mod Streaming
 pub mod Taken
+pub mod FilledCells

@@ -1,6 +1,7 @@
 //! How the workers of a service ask name servers.
 
 use crate::permits::Permits;
+use crate::zone_shares::ZoneShares;
 use dns_sockets::AddressRange;
 use std::sync::atomic::AtomicU64;
 
@@ -13,6 +14,8 @@ pub struct Asking<'a> {
     pub do_not_query: &'a [AddressRange],
     /// The permits of exchanges.
     pub permits: &'a Permits,
+    /// The shares of zones in the cache.
+    pub shares: &'a ZoneShares,
     /// A number that rises whenever servers may have to be tried anew, since an operator changed which ones are asked. Workers then
     /// forget which servers were silent.
     pub renewals: &'a AtomicU64,

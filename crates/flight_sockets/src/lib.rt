@@ -59,6 +59,10 @@ mod noting;
 mod permits;
 // The permits of one worker's exchanges.
 mod worker_permits;
+// The cells that the workers filled, by zone.
+mod filled_cells;
+// The shares of zones in the cache.
+mod zone_shares;
 // How the workers of a service ask name servers.
 mod asking;
 // The zones that servers refused lately, each at its server.
@@ -89,3 +93,4 @@ pub use tcp::client_stream::ClientStream;
 pub use tcp::listener::{ClientListener, TcpPoll, share_listener};
 pub use tcp::worker::{TcpWorker, fly_tcp};
 pub use udp_worker::{UdpWorker, fly_udp};
+pub use zone_shares::ZoneShares;

@@ -36,6 +36,7 @@ use rand_core::Rng;
 use std::alloc::Global;
 use std::io;
 use std::marker::Model;
+use std::sync::Wait;
 use std::time::{Duration, Instant};
 
 /// The most datagrams that are taken in one turn.
@@ -81,7 +82,7 @@ impl<'a, R, S: ServiceSocket> Model for Turns<'a, R, S> {
     } };
 }
 
-impl<'a, R: ReadyNet + Log + Elapsing, S: ServiceSocket> Turns<'a, R, S> {
+impl<'a, R: ReadyNet + Log + Elapsing + Wait, S: ServiceSocket> Turns<'a, R, S> {
     /// Takes datagrams at a listener. Exchanges are timed from `start` on. What it does is counted in a tally.
     pub fn new(
         rt: &'a R,
@@ -358,7 +359,7 @@ pub(crate) fn look_all<
     D: Numbered,
     C: Clock,
     G: Rng,
-    R: ReadyNet + Log + Elapsing,
+    R: ReadyNet + Log + Elapsing + Wait,
     K: Client,
     B: ReplySender<K>,
 >(
@@ -392,7 +393,7 @@ pub(crate) fn begin_anew<
     D: Numbered,
     C: Clock,
     G: Rng,
-    R: ReadyNet + Log,
+    R: ReadyNet + Log + Wait,
     K: Client,
     B: ReplySender<K>,
 >(

@@ -45,7 +45,7 @@ impl<'a, R, S: ServiceSocket> Model for UdpWorker<'a, R, S> {
     ghost view = { λ worker. worker.turns };
 }
 
-impl<'a, R: ReadyNet + Log + Elapsing, S: ServiceSocket> UdpWorker<'a, R, S> {
+impl<'a, R: ReadyNet + Log + Elapsing + Wait, S: ServiceSocket> UdpWorker<'a, R, S> {
     /// Takes datagrams at a listener. Exchanges are timed from `start` on. What it does is counted in a tally.
     pub fn new(
         rt: &'a R,

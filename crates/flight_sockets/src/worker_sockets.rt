@@ -39,20 +39,23 @@ use crate::tally::Tally;
 use crate::tcp::client_stream::ClientStream;
 use crate::tcp::front::TcpFront;
 use crate::worker_permits::{PERMIT_GLANCE, WorkerPermits};
+use crate::zone_shares::ZoneShares;
 use command_text::Clock;
+use dns_name::Name;
 use dns_query::Over;
 use dns_sockets::{AddressRange, ReadyNet, glance, is_withheld};
 use dns_text::{Addr, NoMemory, Octets, Shared};
 use dns_wire::{HEADER_OCTETS, Rcode, fault_reply};
 use flight::{Client, Counts, InFlight, Listened, Numbered, Outside, ReplyOctets, Unserved};
 use front_workers::{DEVICE_FAULT, MOST_MESSAGE, wants_reply};
-use history::Servers;
-use iterate::Hunt;
+use history::{Event, Servers};
+use iterate::{Allowance, Hunt};
 use log::{Log, warn};
 use mio::{Events, Poll, Registry, Token};
 use std::alloc::Global;
 use std::io;
 use std::net::SocketAddr;
+use std::sync::Wait;
 use std::sync::atomic::{AtomicU64, Ordering};
 use std::time::Duration;
 
@@ -100,6 +103,8 @@ pub(crate) struct WorkerSockets<'a, R, B> {
     refusals: Refusals,
     /// The permits of the exchanges.
     permits: WorkerPermits<'a>,
+    /// The shares of zones in the cache.
+    shares: &'a ZoneShares,
     /// A number that rises whenever servers may have to be tried anew.
     renewals: &'a AtomicU64,
     /// That number when servers were tried anew last.
@@ -139,6 +144,7 @@ impl<'a, R: Log, B: Drop> WorkerSockets<'a, R, B> {
             pauses: Pauses::new(alloc, seed)?,
             refusals: Refusals::new(alloc, seed)?,
             permits: WorkerPermits::new(alloc, asking.permits)?,
+            shares: asking.shares,
             renewals: asking.renewals,
             renewed: asking.renewals.load(Ordering::SeqCst),
             moment: 0,
@@ -370,7 +376,7 @@ impl<'a, R: ReadyNet + Log, B: Drop> WorkerSockets<'a, R, B> {
     }
 }
 
-impl<'a, D: Numbered, C: Clock, R: ReadyNet + Log, K: Client, B: ReplySender<K>> Outside<
+impl<'a, D: Numbered, C: Clock, R: ReadyNet + Log + Wait, K: Client, B: ReplySender<K>> Outside<
     D,
     SocketLine<R>,
     C,
@@ -392,6 +398,14 @@ impl<'a, D: Numbered, C: Clock, R: ReadyNet + Log, K: Client, B: ReplySender<K>>
 
     fn buffer(&mut self) -> Vec<u8> {
         self.outbox.reply_buffer(self.alloc)
+    }
+
+    fn allowance(&self, zone: &Name) -> Allowance {
+        self.shares.allowance(self.rt, zone, self.moment)
+    }
+
+    fn note(&self, event: &Event) {
+        self.shares.note(self.rt, event, self.moment);
     }
 
     fn open(

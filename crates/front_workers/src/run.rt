@@ -13,7 +13,7 @@ use command_text::Clock;
 use dns_name::NoMemory;
 use dns_text::Question;
 use history::Desk;
-use iterate::{Answer, Hunt, Input, Task, Want, due_law};
+use iterate::{Allowance, Answer, Hunt, Input, Task, Want, due_law};
 use rand_core::Rng;
 use std::alloc::{AllocError, Global};
 
@@ -46,7 +46,10 @@ fn meet<D: Desk, X: Exchange>(
             over,
             bytes,
         } => match exchange.ask(&server, hunt, over, bytes.get().as_slice()) {
-            Ok(octets) => Ok(Outcome::Go(Input::Came(octets))),
+            Ok(octets) => Ok(Outcome::Go(Input::Came {
+                octets,
+                allowance: Allowance::full(),
+            })),
             Err(DeviceFault::Device) => Ok(Outcome::Go(Input::Failed)),
             Err(DeviceFault::NoMemory) => Err(AllocError),
         },

@@ -29,6 +29,7 @@ gave_more {y = y} g a is = record {
   over = g.over;
   bytes = g.bytes;
   octets = g.octets;
+  allowance = g.allowance;
   id = g.id;
   zone = g.zone;
   message = g.message;
@@ -92,4 +93,4 @@ yet_behind before x split u = record {
 
 pub yet_since : {port : ℕ} {log since : List Exchange} {question other : Question} {servers : Servers} → ReachedFor port log question servers since → IsUnknownYet since other → IsUnknownYet log other
 yet_since (ReachedFor.by_book before moment split) u = yet_behind before _ split u
-yet_since (ReachedFor.by_referral before upto server over bytes octets split came known refers are) u = yet_behind before _ split u
+yet_since (ReachedFor.by_referral before upto server over bytes octets allowance split came known refers are) u = yet_behind before _ split u

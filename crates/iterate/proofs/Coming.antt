@@ -1,6 +1,6 @@
 -- What came of a query.
 use Rattle.std.proofs.Common.{◌≡◌, ℕ, ◌+◌, ◌<◌, ◌≤◌, inl, inr, List, [], ◌∷◌, ◌++◌, length, take, drop, get_or, slice_index_or, Result, Ok, Err, IfOk, sym, ap, ◌∙◌, subst, refl, arith}
-use Rattle.iterate.specs.Room.{IsHanded}
+use Rattle.iterate.specs.Room.{IsHanded, allowed_for, allowed_in}
 use Rattle.ranked.specs.declared.find.Find.{Find}
 use Rattle.history.specs.declared.event.Event.TheVariants.{Admit}
 use Rattle.std.specs.List.{Contains, remove, insert}
@@ -90,7 +90,7 @@ orderly_cut {over = over} once udp after same w adds =
 
 -- only over UDP
 pub cut_udp : (port : ℕ) (over : Over) (zone : Labels) (id : ℕ) (question : Question) (input : Input) → IsJudged port over zone id question input Cut → over ≡ Udp
-cut_udp port over zone id question (Came octets) t = t.cut.udp
+cut_udp port over zone id question (Came octets allowance) t = t.cut.udp
 cut_udp port over zone id question Failed t = let e : ⊥ = cc in absurd e
 cut_udp port over zone id question Begin t = absurd t
 cut_udp port over zone id question (Reply reply) t = absurd t
@@ -114,7 +114,7 @@ meant port over id input verdict {zone} {zone'} {question} {question'} z q judge
     subst (λ (l : Labels). IsJudged port over l id question' input verdict) z (subst (λ (k : Question). IsJudged port over zone id k input verdict) q judged)
 
 pub useless : (port : ℕ) (over : Over) (zone : Labels) (id : ℕ) (question : Question) (input : Input) → IsJudged port over zone id question input StruckVerdict → CameUseless port over zone id question input
-useless port over zone id question (Came octets) judged = judged
+useless port over zone id question (Came octets allowance) judged = judged
 useless port over zone id question Failed judged = tt
 useless port over zone id question Begin judged = absurd judged
 useless port over zone id question (Reply reply) judged = absurd judged
@@ -145,12 +145,13 @@ vain {port} {question} {before} {log} {want} {searching} {server} {id} {over} {i
 pub was_truncated : {question : Question} {before log : List Exchange} {want : Want} {searching : Search} {server : Addr} {id : ℕ} {over : Over} (port : ℕ) (zone : Labels) (input : Input)
     → (after : Search) → after ≡ counted searching → IsWaiting port question before want searching server id over → Adds before (exchange want input) log
     → IsJudged port over zone id (question_of searching) input Cut → WasTruncated log server (question_of after)
-was_truncated {before = before} {log = log} {searching = searching} {server = server} {id = id} port zone (Came octets) after same w adds t =
-    let sent = subst (λ (o : Over). Adds before (exchange (Send server o w.bytes) (Came octets)) log) t.cut.udp (here_sent w adds) in
+was_truncated {before = before} {log = log} {searching = searching} {server = server} {id = id} port zone (Came octets allowance) after same w adds t =
+    let sent = subst (λ (o : Over). Adds before (exchange (Send server o w.bytes) (Came octets allowance)) log) t.cut.udp (here_sent w adds) in
     subst (λ (a : Search). WasTruncated log server (question_of a)) (sym same) (record {
       bytes = w.bytes;
       id = id;
       octets = octets;
+      allowance = allowance;
       came = happened_last sent;
       query = w.query;
       truncated = subst (λ (o : Over). IsTruncated o id (question_of searching) octets) t.cut.udp t;
@@ -334,10 +335,10 @@ tells (Refers referral) said = inr (inr (referral, said))
 
 pub hearing : (port : ℕ) (question : Question) (before log : List Exchange) (want : Want) (searching : Search) (server : Addr) (id : ℕ) (over : Over) (input : Input) (after : Search) (heard : Heard)
     → after ≡ counted searching → IsWaiting port question before want searching server id over → Adds before (exchange want input) log
-    → IsJudged port over (hunt_of searching).servers.zone id (question_of searching) input (HeardVerdict heard) → SpelledOnce → IsHearing port question log after heard
-hearing port question before log want searching server id over (Came octets) after heard same w adds h once =
+    → IsJudged port over (hunt_of searching).servers.zone id (question_of searching) input (HeardVerdict heard) → SpelledOnce → IsHearing port question log after heard (allowed_in input heard.says)
+hearing port question before log want searching server id over (Came octets allowance) after heard same w adds h once =
     let here = here_sent w adds in
-    subst (λ (a : Search). IsHearing port question log a heard) (sym same) (record {
+    subst (λ (a : Search). IsHearing port question log a heard (allowed_for heard.says allowance)) (sym same) (record {
       is_search = search_sent w.is_search here refl w.some;
       message = h.message;
       before = before;
@@ -347,6 +348,8 @@ hearing port question before log want searching server id over (Came octets) aft
       over = over;
       bytes = w.bytes;
       octets = octets;
+      allowance = allowance;
+      is_allowed = refl;
       id = id;
       query = w.query;
       response = h.response;
@@ -356,7 +359,7 @@ hearing port question before log want searching server id over (Came octets) aft
       finds = h.finds;
       passing = h.passing;
       says = h.says;
-      orderly = all_sent once port server over w.bytes id (Came octets) w.rest (turn_of over) Turn.heard searching.base searching.path.last searching.frames.items here w.query w.next (λ o was. tt) tt w.orderly;
+      orderly = all_sent once port server over w.bytes id (Came octets allowance) w.rest (turn_of over) Turn.heard searching.base searching.path.last searching.frames.items here w.query w.next (λ o was. tt) tt w.orderly;
       quiet = nothing_sent;
     })
 hearing port question before log want searching server id over Failed after heard same w adds h once = let e : ⊥ = cc in absurd e
@@ -378,7 +381,7 @@ acts_cut port search server id over input (Err e) judged asks = tt
 
 pub acts_heard : {E : Type 0} (port : ℕ) (search : Search) (server : Addr) (id : ℕ) (over : Over) (input : Input) (moment : ℕ) (r : Result Advance E) (heard : Heard)
     → IsJudged port over (hunt_of search).servers.zone id (question_of search) input (HeardVerdict heard)
-    → ((find : Find) → IsHanded heard.harvest.finds 0 find → IfOk r (λ t. t.want ≡ Book (Admit moment find))) → IfOk r (λ t. ActsOn port search server id over input t.want)
+    → ((find : Find) → IsHanded heard.harvest.finds (allowed_in input heard.says) 0 find → IfOk r (λ t. t.want ≡ Book (Admit moment find))) → IfOk r (λ t. ActsOn port search server id over input t.want)
 acts_heard port search server id over input moment (Ok t) heard judged hands = record { verdict = HeardVerdict heard; judged = judged; fits = λ find is. (moment, hands find is) }
 acts_heard port search server id over input moment (Err e) heard judged hands = tt
 

@@ -106,12 +106,12 @@ since_more since y = record { adds = refl }
 
 pub reached_more : {port : ℕ} {log after since : List Exchange} {y : Exchange} {question : Question} {servers : Servers} → ReachedFor port log question servers since → Adds log y after → ReachedFor port after question servers (since ++ y ∷ [])
 reached_more {since = since} (ReachedFor.by_book before moment split) a = ReachedFor.by_book before moment (behind_more before since _ split a)
-reached_more {since = since} (ReachedFor.by_referral before upto server over bytes octets split came known refers are) a =
-    ReachedFor.by_referral before upto server over bytes octets (behind_more before since _ split a) came known refers are
+reached_more {since = since} (ReachedFor.by_referral before upto server over bytes octets allowance split came known refers are) a =
+    ReachedFor.by_referral before upto server over bytes octets allowance (behind_more before since _ split a) came known refers are
 
 pub unknown_since : {port : ℕ} {log since : List Exchange} {question other : Question} {servers : Servers} → ReachedFor port log question servers since → WasUnknown since other → WasUnknown log other
 unknown_since {since = since} (ReachedFor.by_book before moment split) u = record { moment = u.moment; looked = happened_since before since _ split u.looked }
-unknown_since {since = since} (ReachedFor.by_referral before upto server over bytes octets split came known refers are) u = record { moment = u.moment; looked = happened_since before since _ split u.looked }
+unknown_since {since = since} (ReachedFor.by_referral before upto server over bytes octets allowance split came known refers are) u = record { moment = u.moment; looked = happened_since before since _ split u.looked }
 
 pub serve_more : (port : ℕ) {log after : List Exchange} {y : Exchange} (zone : Labels) (addrs : List Addr) → Adds log y after
     → AllByRecursion (λ addr. Known port log (Serves zone addr)) addrs → AllByRecursion (λ addr. Known port after (Serves zone addr)) addrs

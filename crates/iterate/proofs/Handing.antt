@@ -1,5 +1,5 @@
 -- How a find is handed to a book, which may be full.
-use Rattle.std.proofs.Common.{◌≡◌, ℕ, ◌+◌, ◌<◌, ◌≤◌, List, [], ◌∷◌, ◌++◌, length, map, take, get_or, false, Some, None, Result, Ok, Err, IfOk, sym, ap, ◌∙◌, subst, refl, arith}
+use Rattle.std.proofs.Common.{◌≡◌, ℕ, ◌+◌, ◌<◌, ◌≤◌, List, [], ◌∷◌, ◌++◌, length, map, min, take, get_or, false, Some, None, Result, Ok, Err, IfOk, sym, ap, ◌∙◌, subst, refl, arith}
 use Rattle.std.specs.Global.{Box}
 use Rattle.std.specs.List.{Contains}
 use Rattle.std.proofs.lemmas.Bool.{false≢true}
@@ -9,6 +9,7 @@ use Rattle.dns_query.specs.declared.over.Over.{Over}
 use Rattle.dns_text.specs.declared.addr.Addr.{Addr}
 use Rattle.dns_text.specs.declared.record.Question.{Question}
 use Rattle.dns_query.specs.declared.verdict.Heard.{Heard}
+use Rattle.harvest.specs.Harvest.{finds_in}
 use Rattle.neg_rule.specs.Negative.{Said, said_by}
 use Rattle.rand_core.specs.Stream.{Stream}
 use Rattle.ranked.specs.declared.find.Find.{Find}
@@ -79,29 +80,45 @@ unforgotten m owner input other = refl
 -- ---- the find
 
 -- At a place there is one find.
-pub one_find : {finds : List Find} {next : ℕ} {find other : Find} → IsHanded finds next find → IsHanded finds next other → find ≡ other
+pub one_find : {finds : List Find} {allowed next : ℕ} {find other : Find} → IsHanded finds allowed next find → IsHanded finds allowed next other → find ≡ other
 one_find {find = find} {other = other} h k = let e : find ≡ other = cc (sym h.at ∙ k.at) in e
 
-among_first : (finds : List Find) (next : ℕ) (find : Find) → IsHanded finds next find → Contains (take 64 finds) find
-among_first finds next find h =
+among_first : (finds : List Find) (allowed next : ℕ) (find : Find) → IsHanded finds allowed next find → Contains (take (min 64 allowed) finds) find
+among_first finds allowed next find h =
+    let early : next < min 64 allowed = omega (arith, h.early, h.within) in
     let within : next < length finds = omega (arith, ap (λ (xs : List Find). length xs) h.at, length-drop next finds) in
     let zero_more : next + 0 ≡ next = omega arith in
     let at : get_or finds next find ≡ find = sym (ap (λ (n : ℕ). get_or finds n find) zero_more) ∙ sym (get_or-drop next finds 0 find) ∙ ap (λ (xs : List Find). get_or xs 0 find) h.at in
-    (next, omega (arith, h.early, within, length-take 64 finds), get_or-take 64 finds next find h.early ∙ at)
+    (next, omega (arith, early, within, length-take (min 64 allowed) finds), get_or-take (min 64 allowed) finds next find early ∙ at)
 
 mapped : (finds : List Find) (find : Find) → Contains finds find → Contains (map said_by finds) (said_by find)
 mapped finds find among =
     (among.0, omega (arith, among.1, length-map finds said_by), get_or-map said_by finds among.0 find (said_by find) among.1 ∙ ap said_by among.2)
 
 -- A find of the harvest may be handed to a book.
-harvested : {port : ℕ} {question : Question} {log : List Exchange} {searching : Search} {heard : Heard} → IsHearing port question log searching heard → (next : ℕ) (find : Find) → IsHanded heard.harvest.finds next find → IsHarvested port log find
-harvested {searching = searching} {heard = heard} h next find handed = record {
+harvested : {port : ℕ} {question : Question} {log : List Exchange} {searching : Search} {heard : Heard} {allowed : ℕ} → IsHearing port question log searching heard allowed → (next : ℕ) (find : Find) → IsHanded heard.harvest.finds allowed next find → IsHarvested port log find
+harvested {searching = searching} {heard = heard} {allowed = allowed} h next find handed = record {
   zone = (hunt_of searching).servers.zone;
   question = question_of searching;
   message = h.message;
   responds = responding h;
-  among = subst (λ (xs : List Said). Contains (take 64 xs) (said_by find)) h.finds
-      (subst (λ (xs : List Said). Contains xs (said_by find)) (sym (take-map said_by 64 heard.harvest.finds)) (mapped (take 64 heard.harvest.finds) find (among_first heard.harvest.finds next find handed)));
+  says = heard.says;
+  said = h.says;
+  allowance = h.allowance;
+  was_allowed = record {
+    server = h.server;
+    over = h.over;
+    bytes = h.bytes;
+    id = h.id;
+    octets = h.octets;
+    came = record { before = h.before; after = h.since; split = h.split };
+    query = h.query;
+    response = h.response;
+  };
+  among = subst (λ (n : ℕ). Contains (take (min 64 n) (finds_in h.message (question_of searching) (hunt_of searching).servers.zone)) (said_by find)) h.is_allowed
+      (subst (λ (xs : List Said). Contains (take (min 64 allowed) xs) (said_by find)) h.finds
+      (subst (λ (xs : List Said). Contains xs (said_by find)) (sym (take-map said_by (min 64 allowed) heard.harvest.finds))
+      (mapped (take (min 64 allowed) heard.harvest.finds) find (among_first heard.harvest.finds allowed next find handed))));
 }
 
 -- ---- the measure
@@ -143,18 +160,18 @@ unsent attempt.Oldest find log want t = ap sends t.1.wanted
 unsent attempt.Forget find log want t = ap sends t.2.wanted
 unsent attempt.Last find log want t = ap sends t.1.wanted
 
-pub handing_unsent : {finds : List Find} {next : ℕ} {tried : Attempt} {log : List Exchange} {want : Want} → IsHanding finds next tried log want → sends want ≡ false
+pub handing_unsent : {finds : List Find} {allowed next : ℕ} {tried : Attempt} {log : List Exchange} {want : Want} → IsHanding finds allowed next tried log want → sends want ≡ false
 handing_unsent {tried = tried} {log = log} {want = want} h = unsent tried h.find log want h.trying
 
 -- The response is still heard.
-pub heard_on : {port : ℕ} {question : Question} {log : List Exchange} {searching : Search} {heard : Heard} {next : ℕ} {tried : Attempt} {input : Input} → IsTold port question log searching heard next tried input
-    → IsHearing port question log searching heard
+pub heard_on : {port : ℕ} {question : Question} {log : List Exchange} {searching : Search} {heard : Heard} {allowed next : ℕ} {tried : Attempt} {input : Input} → IsTold port question log searching heard allowed next tried input
+    → IsHearing port question log searching heard allowed
 heard_on t = hearing_more t.hearing t.adds (handing_unsent t.handing)
 
-asking : (port : ℕ) (question : Question) (log : List Exchange) (moment : ℕ) (id : Stream) (left : ℕ) (searching : Box Search) (heard : Box Heard) (next : ℕ) (tried : Attempt) (find : Find) (event : Event)
-    → IsHearing port question log searching.value heard.value → IsHanded heard.value.harvest.finds next find → IsTrying tried find log (Book event) → MayCall port question log moment event
-    → left_of_finds searching.value.path next tried < left → Goes port question log moment (idle id) left (Admitting searching heard next tried) (Book event)
-asking port question log moment id left searching heard next tried find event h handed trying may less = record {
+asking : (port : ℕ) (question : Question) (log : List Exchange) (moment : ℕ) (id : Stream) (left : ℕ) (searching : Box Search) (heard : Box Heard) (allowed next : ℕ) (tried : Attempt) (find : Find) (event : Event)
+    → IsHearing port question log searching.value heard.value allowed → IsHanded heard.value.harvest.finds allowed next find → IsTrying tried find log (Book event) → MayCall port question log moment event
+    → left_of_finds searching.value.path next tried < left → Goes port question log moment (idle id) left (Admitting searching heard allowed next tried) (Book event)
+asking port question log moment id left searching heard allowed next tried find event h handed trying may less = record {
   wants = may;
   drawn = refl;
   fits = (h, record { find = find; handed = handed; trying = trying });
@@ -178,11 +195,11 @@ trying_hand attempt.Oldest find log moment by = absurd by
 trying_hand attempt.Forget find log moment by = absurd by
 
 -- A find is handed over.
-pub handing : (port : ℕ) (question : Question) (log : List Exchange) (moment : ℕ) (id : Stream) (left : ℕ) (searching : Box Search) (heard : Box Heard) (next : ℕ) (tried : Attempt) (find : Find)
-    → IsHearing port question log searching.value heard.value → IsHanded heard.value.harvest.finds next find → IsHandedBy tried find log
-    → left_of_finds searching.value.path next tried < left → Goes port question log moment (idle id) left (Admitting searching heard next tried) (Book (Admit moment find))
-handing port question log moment id left searching heard next tried find h handed by less =
-    asking port question log moment id left searching heard next tried find (Admit moment find) h handed (trying_hand tried find log moment by) (refl, harvested h next find handed, may_hand tried find log by) less
+pub handing : (port : ℕ) (question : Question) (log : List Exchange) (moment : ℕ) (id : Stream) (left : ℕ) (searching : Box Search) (heard : Box Heard) (allowed next : ℕ) (tried : Attempt) (find : Find)
+    → IsHearing port question log searching.value heard.value allowed → IsHanded heard.value.harvest.finds allowed next find → IsHandedBy tried find log
+    → left_of_finds searching.value.path next tried < left → Goes port question log moment (idle id) left (Admitting searching heard allowed next tried) (Book (Admit moment find))
+handing port question log moment id left searching heard allowed next tried find h handed by less =
+    asking port question log moment id left searching heard allowed next tried find (Admit moment find) h handed (trying_hand tried find log moment by) (refl, harvested h next find handed, may_hand tried find log by) less
 
 -- ---- a book that is full
 
@@ -196,46 +213,46 @@ found_full before log find want input asked says adds =
     record { moment = asked.moment; stored = came.0; refused = came_as adds asked.wanted came.1 }
 
 -- It is swept.
-pub sweeping : (port : ℕ) (question : Question) (log : List Exchange) (moment : ℕ) (id : Stream) (searching : Box Search) (heard : Box Heard) (next : ℕ) (input : Input)
-    → IsTold port question log searching.value heard.value next attempt.Admit input → SaysFull input
-    → Goes port question log moment (idle id) (left_of_finds searching.value.path next attempt.Admit) (Admitting searching heard next attempt.Sweep) (Book (Sweep moment))
-sweeping port question log moment id searching heard next input t says =
+pub sweeping : (port : ℕ) (question : Question) (log : List Exchange) (moment : ℕ) (id : Stream) (searching : Box Search) (heard : Box Heard) (allowed next : ℕ) (input : Input)
+    → IsTold port question log searching.value heard.value allowed next attempt.Admit input → SaysFull input
+    → Goes port question log moment (idle id) (left_of_finds searching.value.path next attempt.Admit) (Admitting searching heard allowed next attempt.Sweep) (Book (Sweep moment))
+sweeping port question log moment id searching heard allowed next input t says =
     let find = t.handing.find in
     let full : IsFull find log = record { before = t.before; anew = t.handing.trying.0; full = found_full t.before log find t.want input t.handing.trying.1 says t.adds } in
-    asking port question log moment id _ searching heard next attempt.Sweep find (Sweep moment) (heard_on t) t.handing.handed (full, record { moment = moment; wanted = refl }) (refl, (find, full))
+    asking port question log moment id _ searching heard allowed next attempt.Sweep find (Sweep moment) (heard_on t) t.handing.handed (full, record { moment = moment; wanted = refl }) (refl, (find, full))
     (attempt_less searching.value.path next attempt.Admit attempt.Sweep (omega arith) (omega arith))
 
 -- Then the find is handed over again.
-pub swept_hands : (port : ℕ) (question : Question) (log : List Exchange) (searching : Search) (heard : Heard) (next : ℕ) (input : Input) → IsTold port question log searching heard next attempt.Sweep input → input ≡ Reply Swept
-    → (find : Find) → IsHanded heard.harvest.finds next find → IsHandedBy attempt.Again find log
-swept_hands port question log searching heard next input t is find handed =
+pub swept_hands : (port : ℕ) (question : Question) (log : List Exchange) (searching : Search) (heard : Heard) (allowed next : ℕ) (input : Input) → IsTold port question log searching heard allowed next attempt.Sweep input → input ≡ Reply Swept
+    → (find : Find) → IsHanded heard.harvest.finds allowed next find → IsHandedBy attempt.Again find log
+swept_hands port question log searching heard allowed next input t is find handed =
     subst (λ (f : Find). IsSwept f log) (one_find t.handing.handed handed)
     (record { before = t.before; full = t.handing.trying.0; moment = t.handing.trying.1.moment; swept = came_as t.adds t.handing.trying.1.wanted is })
 
 -- It is asked for the name to forget first.
-pub asking_oldest : (port : ℕ) (question : Question) (log : List Exchange) (moment : ℕ) (id : Stream) (searching : Box Search) (heard : Box Heard) (next : ℕ) (input : Input)
-    → IsTold port question log searching.value heard.value next attempt.Again input → SaysFull input
-    → Goes port question log moment (idle id) (left_of_finds searching.value.path next attempt.Again) (Admitting searching heard next attempt.Oldest) (Book (Look moment Oldest))
-asking_oldest port question log moment id searching heard next input t says =
+pub asking_oldest : (port : ℕ) (question : Question) (log : List Exchange) (moment : ℕ) (id : Stream) (searching : Box Search) (heard : Box Heard) (allowed next : ℕ) (input : Input)
+    → IsTold port question log searching.value heard.value allowed next attempt.Again input → SaysFull input
+    → Goes port question log moment (idle id) (left_of_finds searching.value.path next attempt.Again) (Admitting searching heard allowed next attempt.Oldest) (Book (Look moment Oldest))
+asking_oldest port question log moment id searching heard allowed next input t says =
     let find = t.handing.find in
     let full : IsFullAgain find log = record { before = t.before; swept = t.handing.trying.0; full = found_full t.before log find t.want input t.handing.trying.1 says t.adds } in
-    asking port question log moment id _ searching heard next attempt.Oldest find (Look moment Oldest) (heard_on t) t.handing.handed (full, record { moment = moment; wanted = refl }) (refl, (find, full))
+    asking port question log moment id _ searching heard allowed next attempt.Oldest find (Look moment Oldest) (heard_on t) t.handing.handed (full, record { moment = moment; wanted = refl }) (refl, (find, full))
     (attempt_less searching.value.path next attempt.Again attempt.Oldest (omega arith) (omega arith))
 
 -- That name is forgotten.
-pub forgetting : (port : ℕ) (question : Question) (log : List Exchange) (moment : ℕ) (id : Stream) (searching : Box Search) (heard : Box Heard) (next : ℕ) (input : Input) (owner : Labels)
-    → IsTold port question log searching.value heard.value next attempt.Oldest input → input ≡ Reply (Seen (SeenOldest (Some owner)))
-    → Goes port question log moment (idle id) (left_of_finds searching.value.path next attempt.Oldest) (Admitting searching heard next attempt.Forget) (Book (Forget moment owner))
-forgetting port question log moment id searching heard next input owner t is =
+pub forgetting : (port : ℕ) (question : Question) (log : List Exchange) (moment : ℕ) (id : Stream) (searching : Box Search) (heard : Box Heard) (allowed next : ℕ) (input : Input) (owner : Labels)
+    → IsTold port question log searching.value heard.value allowed next attempt.Oldest input → input ≡ Reply (Seen (SeenOldest (Some owner)))
+    → Goes port question log moment (idle id) (left_of_finds searching.value.path next attempt.Oldest) (Admitting searching heard allowed next attempt.Forget) (Book (Forget moment owner))
+forgetting port question log moment id searching heard allowed next input owner t is =
     let find = t.handing.find in
     let named : IsNamed find owner log = record { before = t.before; full = t.handing.trying.0; moment = t.handing.trying.1.moment; named = came_as t.adds t.handing.trying.1.wanted is } in
-    asking port question log moment id _ searching heard next attempt.Forget find (Forget moment owner) (heard_on t) t.handing.handed (owner, named, record { moment = moment; wanted = refl }) (refl, (find, named))
+    asking port question log moment id _ searching heard allowed next attempt.Forget find (Forget moment owner) (heard_on t) t.handing.handed (owner, named, record { moment = moment; wanted = refl }) (refl, (find, named))
     (attempt_less searching.value.path next attempt.Oldest attempt.Forget (omega arith) (omega arith))
 
 -- Then the find is handed over a last time.
-pub forgotten_hands : (port : ℕ) (question : Question) (log : List Exchange) (searching : Search) (heard : Heard) (next : ℕ) (input : Input) → IsTold port question log searching heard next attempt.Forget input → input ≡ Reply Forgotten
-    → (find : Find) → IsHanded heard.harvest.finds next find → IsHandedBy attempt.Last find log
-forgotten_hands port question log searching heard next input t is find handed =
+pub forgotten_hands : (port : ℕ) (question : Question) (log : List Exchange) (searching : Search) (heard : Heard) (allowed next : ℕ) (input : Input) → IsTold port question log searching heard allowed next attempt.Forget input → input ≡ Reply Forgotten
+    → (find : Find) → IsHanded heard.harvest.finds allowed next find → IsHandedBy attempt.Last find log
+forgotten_hands port question log searching heard allowed next input t is find handed =
     subst (λ (f : Find). IsForgotten f log) (one_find t.handing.handed handed)
     (record { before = t.before; owner = t.handing.trying.0; named = t.handing.trying.1; moment = t.handing.trying.2.moment; forgotten = came_as t.adds t.handing.trying.2.wanted is })
 

@@ -57,14 +57,14 @@ known_since {port} {fact} [] upto log split known = subst (λ (l : List Exchange
 known_since {port} {fact} (x ∷ since) upto log split known =
     known_since since (upto ++ x ∷ []) log (split ∙ sym (append_assoc upto (x ∷ []) since)) (Known.kept {before = upto} {after = upto ++ x ∷ []} {x = x} (record { adds = refl }) known)
 
-pub responding : {port : ℕ} {question : Question} {log : List Exchange} {searching : Search} {heard : Heard} → (h : IsHearing port question log searching heard)
+pub responding : {port : ℕ} {question : Question} {log : List Exchange} {searching : Search} {heard : Heard} {allowed : ℕ} → (h : IsHearing port question log searching heard allowed)
     → Known port log (Responds (hunt_of searching).servers.zone (question_of searching) h.message)
 responding {log = log} h =
     known_since h.since h.upto log (h.split ∙ sym (append_assoc h.before _ h.since) ∙ ap (λ (l : List Exchange). l ++ h.since) (sym h.came.adds)) h.responds
 
 -- With an exchange more that is no query, the response is still heard.
-pub hearing_more : {port : ℕ} {question : Question} {log after : List Exchange} {y : Exchange} {searching : Search} {heard : Heard} → IsHearing port question log searching heard → Adds log y after → is_send y ≡ false
-    → IsHearing port question after searching heard
+pub hearing_more : {port : ℕ} {question : Question} {log after : List Exchange} {y : Exchange} {searching : Search} {heard : Heard} {allowed : ℕ} → IsHearing port question log searching heard allowed → Adds log y after → is_send y ≡ false
+    → IsHearing port question after searching heard allowed
 hearing_more {port} {y = y} {searching = searching} h a is = record {
   is_search = search_looked h.is_search a is;
   message = h.message;
@@ -75,6 +75,8 @@ hearing_more {port} {y = y} {searching = searching} h a is = record {
   over = h.over;
   bytes = h.bytes;
   octets = h.octets;
+  allowance = h.allowance;
+  is_allowed = h.is_allowed;
   id = h.id;
   query = h.query;
   response = h.response;
@@ -123,7 +125,7 @@ closed_heard search after s k = record { is_search = k.is_search; orderly = k.or
 question_last : (searching : Search) → searching.frames.items ≡ [] → question_of searching ≡ searching.path.last
 question_last searching none = ap (λ (fs : List Nested). question_behind fs searching.path.last) none
 
-pub denying_last : {port : ℕ} {question : Question} {log : List Exchange} {searching : Search} {heard : Heard} (rcode : ℕ) (negative : Option Find) → IsHearing port question log searching heard → searching.frames.items ≡ []
+pub denying_last : {port : ℕ} {question : Question} {log : List Exchange} {searching : Search} {heard : Heard} (rcode : ℕ) (negative : Option Find) {allowed : ℕ} → IsHearing port question log searching heard allowed → searching.frames.items ≡ []
     → heard.says ≡ Denies rcode negative → IsDenied port log searching.path.last rcode (option_map soa_whole negative)
 denying_last {port} {question} {log} {searching} {heard} rcode negative h none is =
     let zone = (hunt_of searching).servers.zone in
@@ -139,23 +141,23 @@ denying_last {port} {question} {log} {searching} {heard} rcode negative h none i
       soa = refl;
     })
 
-referred : {port : ℕ} {question : Question} {log : List Exchange} {searching : Search} {heard : Heard} (referral : Referral) → (h : IsHearing port question log searching heard) → heard.says ≡ Refers referral
+referred : {port : ℕ} {question : Question} {log : List Exchange} {searching : Search} {heard : Heard} (referral : Referral) {allowed : ℕ} → (h : IsHearing port question log searching heard allowed) → heard.says ≡ Refers referral
     → IsReferral port (hunt_of searching).servers.zone (question_of searching) h.message referral
 referred {port} {searching = searching} referral h is = subst (λ (s : Says). IsSaid port (hunt_of searching).servers.zone (question_of searching) h.message s) is h.says
 
 -- The servers to which a response refers are reached.
-pub referring : {port : ℕ} {question : Question} {log : List Exchange} {searching : Search} {heard : Heard} (referral : Referral) (servers : Servers) → (h : IsHearing port question log searching heard)
+pub referring : {port : ℕ} {question : Question} {log : List Exchange} {searching : Search} {heard : Heard} (referral : Referral) (servers : Servers) {allowed : ℕ} → (h : IsHearing port question log searching heard allowed)
     → heard.says ≡ Refers referral → servers ≡ servers_referred referral → IsReached port log (question_of searching) h.since servers
 referring {port} {question} {log} {searching} {heard} referral servers h is same =
     let r = referred referral h is in
     subst (λ (s : Servers). IsReached port log (question_of searching) h.since s) (sym same) (record {
-      reached = ReachedFor.by_referral h.before h.upto h.server h.over h.bytes h.octets h.split h.came h.responds r refl;
+      reached = ReachedFor.by_referral h.before h.upto h.server h.over h.bytes h.octets h.allowance h.split h.came h.responds r refl;
       listed = Known.referred (responding h) r;
       above = r.above;
       quiet = h.quiet;
     })
 
-pub referring_last : {port : ℕ} {question : Question} {log : List Exchange} {searching : Search} {heard : Heard} (referral : Referral) (servers : Servers) → (h : IsHearing port question log searching heard)
+pub referring_last : {port : ℕ} {question : Question} {log : List Exchange} {searching : Search} {heard : Heard} (referral : Referral) (servers : Servers) {allowed : ℕ} → (h : IsHearing port question log searching heard allowed)
     → searching.frames.items ≡ [] → heard.says ≡ Refers referral → servers ≡ servers_referred referral → IsReached port log searching.path.last h.since servers
 referring_last {port} {log = log} {searching = searching} referral servers h none is same =
     subst (λ (q : Question). IsReached port log q h.since servers) (question_last searching none) (referring referral servers h is same)
@@ -188,7 +190,7 @@ addresses_serve {port} {question} {log} searching frame some is s addrs all =
     subst (λ (fs : List Nested). AllServe port log (hunt_behind (drop 1 fs) searching.base).servers addrs) (sym i.are)
     (serves_all port log behind i.first.target (next_among behind i.first.target known.0.next) addrs here)
 
-pub harvest_heard : {port : ℕ} {question : Question} {log : List Exchange} {searching : Search} {heard : Heard} → IsHearing port question log searching heard → IsHarvestOf port log heard.harvest
+pub harvest_heard : {port : ℕ} {question : Question} {log : List Exchange} {searching : Search} {heard : Heard} {allowed : ℕ} → IsHearing port question log searching heard allowed → IsHarvestOf port log heard.harvest
 harvest_heard {searching = searching} h = record {
   zone = (hunt_of searching).servers.zone;
   asked = question_of searching;
@@ -208,7 +210,7 @@ given_by zone asked message harvest question (Passing set) finds passing first =
     IsGiven.passing (subst (λ (xs : List Set). Contains xs (set_of set.now)) passing (first_contained _ _ _ first.1)) first.1.holds
 
 -- Its alias is that of the response.
-gave : {port : ℕ} {question : Question} {log : List Exchange} {searching : Search} {heard : Heard} → (h : IsHearing port question log searching heard)
+gave : {port : ℕ} {question : Question} {log : List Exchange} {searching : Search} {heard : Heard} {allowed : ℕ} → (h : IsHearing port question log searching heard allowed)
     → (told : AnswerSet) → IsToldBy heard.harvest (alias_question (question_of searching).owner) told → GaveAlias log (question_of searching) told
 gave {searching = searching} {heard = heard} h told t = record {
   before = h.before;
@@ -217,6 +219,7 @@ gave {searching = searching} {heard = heard} h told t = record {
   over = h.over;
   bytes = h.bytes;
   octets = h.octets;
+  allowance = h.allowance;
   id = h.id;
   zone = (hunt_of searching).servers.zone;
   message = h.message;
@@ -234,7 +237,7 @@ harvest_has : (zone : Labels) (asked : Question) (message : Message) (harvest : 
 harvest_has zone asked message harvest question finds passing has =
     subst (λ (xs : List Said). HasSetAmong xs (map set_of harvest.passing) question) (sym finds) (subst (λ (xs : List Set). HasSetAmong (finds_in message asked zone) xs question) (sym passing) has)
 
-answering_here : {port : ℕ} {question : Question} {log : List Exchange} {searching : Search} {heard : Heard} → (h : IsHearing port question log searching heard) → heard.says ≡ Answers
+answering_here : {port : ℕ} {question : Question} {log : List Exchange} {searching : Search} {heard : Heard} {allowed : ℕ} → (h : IsHearing port question log searching heard allowed) → heard.says ≡ Answers
     → IsAnswering port log (question_of searching) heard.harvest
 answering_here {port} {searching = searching} {heard = heard} h is =
     let zone = (hunt_of searching).servers.zone in
@@ -248,7 +251,7 @@ answering_here {port} {searching = searching} {heard = heard} h is =
       gives = gave h;
     }
 
-pub answering_last : {port : ℕ} {question : Question} {log : List Exchange} {searching : Search} {heard : Heard} → IsHearing port question log searching heard → searching.frames.items ≡ [] → heard.says ≡ Answers
+pub answering_last : {port : ℕ} {question : Question} {log : List Exchange} {searching : Search} {heard : Heard} {allowed : ℕ} → IsHearing port question log searching heard allowed → searching.frames.items ≡ [] → heard.says ≡ Answers
     → IsAnswering port log searching.path.last heard.harvest
 answering_last {port} {log = log} {searching = searching} {heard = heard} h none is = subst (λ (q : Question). IsAnswering port log q heard.harvest) (question_last searching none) (answering_here h is)
 

@@ -266,7 +266,7 @@ no_answer m question (Reply NotKept) bad = tt
 no_answer m question (Reply (Buried ticket)) bad = tt
 no_answer m question (Refused fault) bad = tt
 no_answer m question Begin bad = tt
-no_answer m question (Came octets) bad = tt
+no_answer m question (Came octets allowance) bad = tt
 no_answer m question Failed bad = tt
 
 pub first_failing : {port : ℕ} {question : Question} {log : List Exchange} {m moment : ℕ} {id : Stream} (input : Input) → Adds [] (exchange (Book (Look m (Asked question))) input) log

@@ -16,6 +16,7 @@ use Rattle.neg_rule.specs.Negative.{said_by}
 use Rattle.ranked.specs.declared.find.Find.{Find}
 use Rattle.iterate.specs.declared.answer.AnswerSet.{AnswerSet}
 use Rattle.iterate.specs.declared.answer.AnswerSet.TheVariants.{Passing as PassingTold}
+use Rattle.iterate.specs.declared.want.Allowance.{Allowance}
 use Rattle.iterate.specs.declared.want.Input.TheVariants.{Came}
 use Rattle.iterate.specs.declared.want.Want.TheVariants.{Send}
 use Rattle.iterate.specs.Exchanges.{Exchange, exchange, AreQuiet}
@@ -36,10 +37,11 @@ pub record GaveAlias (log : List Exchange) (question : Question) (told : AnswerS
   pub over : Over
   pub bytes : List ℕ
   pub octets : List ℕ
+  pub allowance : Allowance
   pub id : ℕ
   pub zone : Labels
   pub message : Message
-  pub split : log ≡ before ++ exchange (Send server over bytes) (Came octets) ∷ since
+  pub split : log ≡ before ++ exchange (Send server over bytes) (Came octets allowance) ∷ since
   pub quiet : AreQuiet since
   pub query : IsQuery bytes id question
   pub response : IsResponse id question octets message

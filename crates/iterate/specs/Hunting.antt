@@ -1,6 +1,6 @@
 -- What becomes of the servers that are asked: they are reached, asked in turn, and given the addresses that were found.
 use Rattle.std.specs.Prelude.{Bool, true, false, ◌≡◌, ℕ, ◌+◌, ◌^◌, ◌<◌, ◌≤◌, ◌⊎◌, List, [], ◌∷◌, length, take, drop}
-use Rattle.iterate.specs.Room.{IsHanded}
+use Rattle.iterate.specs.Room.{IsHanded, allowed_in}
 use Rattle.ranked.specs.declared.find.Find.{Find}
 use Rattle.std.specs.List.{AllByRecursion, Contains, flat_map}
 use Rattle.dns_name.specs.Labels.{Labels}
@@ -39,6 +39,7 @@ use Rattle.iterate.specs.declared.want.Want.{Want}
 use Rattle.iterate.specs.declared.want.Want.TheVariants.{Book, Send}
 use Rattle.dns_query.specs.declared.over.Over.{Over}
 use Rattle.dns_query.specs.declared.over.Over.TheVariants.{Udp, Tcp}
+use Rattle.dns_query.specs.declared.verdict.Says.{Says}
 use Rattle.dns_query.specs.declared.verdict.Verdict.{Verdict}
 use Rattle.dns_query.specs.declared.verdict.Verdict.TheVariants.{Struck, Cut, Heard}
 use Rattle.dns_query.specs.Query.{address_question}
@@ -211,14 +212,14 @@ AsksSeen port seen want = (server : Addr) × IsAddressSeen port seen server × A
 -- ---- what came of a query
 
 -- After a useless response the next server is asked over UDP, and after a truncated one the same server over TCP. Of a response that is
--- heard the first find is handed to the book.
-abbrev pub FitsVerdict : Search → Addr → Verdict → Want → Type 0
-FitsVerdict search server Struck want = (other : Addr) (rest : List Addr) → IsNextServer search server (other ∷ rest) → AsksOver other Udp want
-FitsVerdict search server Cut want = AsksOver server Tcp want
-FitsVerdict search server (Heard heard) want = (find : Find) → IsHanded heard.harvest.finds 0 find → (moment : ℕ) × (want ≡ Book (Admit moment find))
+-- heard the first find is handed to the book, if any may be.
+abbrev pub FitsVerdict : Search → Addr → (Says → ℕ) → Verdict → Want → Type 0
+FitsVerdict search server allowed Struck want = (other : Addr) (rest : List Addr) → IsNextServer search server (other ∷ rest) → AsksOver other Udp want
+FitsVerdict search server allowed Cut want = AsksOver server Tcp want
+FitsVerdict search server allowed (Heard heard) want = (find : Find) → IsHanded heard.harvest.finds (allowed heard.says) 0 find → (moment : ℕ) × (want ≡ Book (Admit moment find))
 
 -- A verdict on what came is acted on.
 pub record ActsOn (port : ℕ) (search : Search) (server : Addr) (id : ℕ) (over : Over) (input : Input) (want : Want) : Type 0 where
   pub verdict : Verdict
   pub judged : IsJudged port over (hunt_of search).servers.zone id (question_of search) input verdict
-  pub fits : FitsVerdict search server verdict want
+  pub fits : FitsVerdict search server (allowed_in input) verdict want

@@ -17,7 +17,7 @@ use Rattle.iterate.specs.Told.{IsAddressIn}
 
 -- Octets are judged; where nothing came, the server is struck.
 abbrev pub IsJudged : ℕ → Over → Labels → ℕ → Question → Input → Verdict → Type 0
-IsJudged port over zone id question (Came octets) verdict = IsVerdict port over zone id question octets verdict
+IsJudged port over zone id question (Came octets allowance) verdict = IsVerdict port over zone id question octets verdict
 IsJudged port over zone id question Failed verdict = verdict ≡ Struck
 IsJudged port over zone id question input verdict = ⊥
 

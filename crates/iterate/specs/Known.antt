@@ -28,6 +28,7 @@ use Rattle.history.specs.declared.servers.Servers.{Servers}
 use Rattle.history.specs.declared.servers.Origin.TheVariants.{Cache}
 use Rattle.iterate.specs.declared.answer.AnswerSet.{AnswerSet}
 use Rattle.iterate.specs.declared.answer.AnswerSet.TheVariants.{Local as LocalTold, Passing as PassingTold}
+use Rattle.iterate.specs.declared.want.Allowance.{Allowance}
 use Rattle.iterate.specs.declared.want.Input.TheVariants.{Reply, Came}
 use Rattle.iterate.specs.declared.want.Want.TheVariants.{Book, Send}
 use Rattle.iterate.specs.Exchanges.{Exchange, exchange, Adds, AreQuiet, Happened}
@@ -88,8 +89,8 @@ pub data Known (port : ℕ) : List Exchange → Fact → Type 0 where
       → Known port log (Listed servers) → Contains servers.missing target
       → Known port log (Had (address_question target) told) → IsAddressIn port told addr → Known port log (Serves servers.zone addr)
   -- A look at the question found nothing; then a server of a zone in which the name lies was asked, and its response is of use.
-  responded : {before after : List Exchange} {zone : Labels} {server : Addr} {over : Over} {bytes octets : List ℕ} {id : ℕ} {question : Question} {v : Message}
-      → Adds before (exchange (Send server over bytes) (Came octets)) after
+  responded : {before after : List Exchange} {zone : Labels} {server : Addr} {over : Over} {bytes octets : List ℕ} {id : ℕ} {allowance : Allowance} {question : Question} {v : Message}
+      → Adds before (exchange (Send server over bytes) (Came octets allowance)) after
       → WasUnknown before question → Known port before (Serves zone server) → IsQuery bytes id question → IsAtOrBelow question.owner zone
       → IsResponse id question octets v → IsUseful port zone question v
       → Known port after (Responds zone question v)

@@ -26,6 +26,7 @@ use Rattle.iterate.specs.declared.phase.Phase.TheVariants.{Fresh, First, Aliasin
 use Rattle.iterate.specs.declared.phase.Stage.{Stage}
 use Rattle.iterate.specs.declared.phase.Stage.TheVariants.{Address, Alias, Servers}
 use Rattle.iterate.specs.declared.search.Search.{Search}
+use Rattle.iterate.specs.declared.want.Allowance.{Allowance}
 use Rattle.iterate.specs.declared.want.Input.{Input}
 use Rattle.iterate.specs.declared.want.Input.TheVariants.{Begin, Reply, Refused, Came, Failed}
 use Rattle.iterate.specs.declared.want.Step.{Step}
@@ -35,7 +36,7 @@ use Rattle.iterate.specs.Exchanges.{Exchange, exchange, Adds, AreQuiet, last_beh
 use Rattle.iterate.specs.Following.{IsHarvestOf}
 use Rattle.iterate.specs.Known.{Known, Responds, IsUnknownYet}
 use Rattle.iterate.specs.Measure.{left_in}
-use Rattle.iterate.specs.Room.{IsHanding}
+use Rattle.iterate.specs.Room.{IsHanding, allowed_for}
 use Rattle.iterate.specs.Searching.{IsAskable, IsUnasked, IsBehind, IsSearch, IsNext, IsNextServer, Turn, IsOrderly, IsOther, hunt_of, question_of, turn_of}
 use Rattle.iterate.specs.Served.{served_name}
 use Rattle.iterate.specs.Wanted.{MayWant, id_drawn, stream_behind}
@@ -46,7 +47,7 @@ use Rattle.iterate.specs.Wanted.{MayWant, id_drawn, stream_behind}
 abbrev pub Suits : Want → Input → Type 0
 Suits (Book event) (Reply reply) = Unit {0}
 Suits (Book event) (Refused fault) = Unit {0}
-Suits (Send server over bytes) (Came octets) = Unit {0}
+Suits (Send server over bytes) (Came octets allowance) = Unit {0}
 Suits (Send server over bytes) Failed = Unit {0}
 Suits want input = ⊥
 
@@ -100,8 +101,8 @@ pub record IsWaiting (port : ℕ) (question : Question) (log : List Exchange) (w
   pub query : IsQuery bytes id (question_of search)
   pub orderly : IsOrderly port log search (turn_of over)
 
--- A response was heard: it came of a query of the innermost question, and this is what it says.
-pub record IsHearing (port : ℕ) (question : Question) (log : List Exchange) (search : Search) (heard : Heard) : Type 0 where
+-- A response was heard: it came of a query of the innermost question, and this is what it says. So many of its finds may be handed over.
+pub record IsHearing (port : ℕ) (question : Question) (log : List Exchange) (search : Search) (heard : Heard) (allowed : ℕ) : Type 0 where
   pub is_search : IsSearch port question log search
   pub message : Message
   pub before : List Exchange
@@ -111,11 +112,13 @@ pub record IsHearing (port : ℕ) (question : Question) (log : List Exchange) (s
   pub over : Over
   pub bytes : List ℕ
   pub octets : List ℕ
+  pub allowance : Allowance
+  pub is_allowed : allowed ≡ allowed_for heard.says allowance
   pub id : ℕ
   pub query : IsQuery bytes id (question_of search)
   pub response : IsResponse id (question_of search) octets message
-  pub came : Adds before (exchange (Send server over bytes) (Came octets)) upto
-  pub split : log ≡ before ++ exchange (Send server over bytes) (Came octets) ∷ since
+  pub came : Adds before (exchange (Send server over bytes) (Came octets allowance)) upto
+  pub split : log ≡ before ++ exchange (Send server over bytes) (Came octets allowance) ∷ since
   pub responds : Known port upto (Responds (hunt_of search).servers.zone (question_of search) message)
   pub finds : map said_by heard.harvest.finds ≡ finds_in message (question_of search) (hunt_of search).servers.zone
   pub passing : map set_of heard.harvest.passing ≡ passing_in message (question_of search) (hunt_of search).servers.zone
@@ -124,11 +127,11 @@ pub record IsHearing (port : ℕ) (question : Question) (log : List Exchange) (s
   pub quiet : AreQuiet since
 
 -- A response was heard, its find at this place was being handed over in this attempt, and this came of it.
-pub record IsTold (port : ℕ) (question : Question) (log : List Exchange) (search : Search) (heard : Heard) (next : ℕ) (tried : Attempt) (input : Input) : Type 0 where
+pub record IsTold (port : ℕ) (question : Question) (log : List Exchange) (search : Search) (heard : Heard) (allowed next : ℕ) (tried : Attempt) (input : Input) : Type 0 where
   pub before : List Exchange
   pub want : Want
-  pub hearing : IsHearing port question before search heard
-  pub handing : IsHanding heard.harvest.finds next tried before want
+  pub hearing : IsHearing port question before search heard allowed
+  pub handing : IsHanding heard.harvest.finds allowed next tried before want
   pub suits : Suits want input
   pub adds : Adds before (exchange want input) log
 
@@ -142,7 +145,7 @@ Remembers port question log want (Following path harvest) = IsBehind port questi
 Remembers port question log want (Listing path) = IsAskable port question log path × IsLook want (ServersFor (served_name path.last))
 Remembers port question log want (Seeking search target stage) = IsSeeking port question log search.value target stage × IsLook want (ask_at stage target)
 Remembers port question log want (Sent search server id over) = IsWaiting port question log want search.value server id over
-Remembers port question log want (Admitting search heard next tried) = IsHearing port question log search.value heard.value × IsHanding heard.value.harvest.finds next tried log want
+Remembers port question log want (Admitting search heard allowed next tried) = IsHearing port question log search.value heard.value allowed × IsHanding heard.value.harvest.finds allowed next tried log want
 Remembers port question log want Ended = (answer : Answer) × (want ≡ Finish answer) × (count_sends log ≤ MOST_SENDS)
 Remembers port question log want Broken = ⊥
 

@@ -26,6 +26,7 @@ use Rattle.iterate.specs.declared.answer.Answer.TheVariants.{Reply as Replies, S
 use Rattle.iterate.specs.declared.answer.Soa.{Soa}
 use Rattle.iterate.specs.declared.answer.AnswerSet.{AnswerSet}
 use Rattle.iterate.specs.declared.limits.TheConstants.{MOST_ALIASES, MOST_SENDS}
+use Rattle.iterate.specs.declared.want.Allowance.{Allowance}
 use Rattle.iterate.specs.declared.want.Input.{Input}
 use Rattle.iterate.specs.declared.want.Input.TheVariants.{Reply, Came, Failed}
 use Rattle.iterate.specs.declared.want.Want.TheVariants.{Book, Send}
@@ -90,7 +91,7 @@ pub record IsDenied (port : ℕ) (log : List Exchange) (question : Question) (rc
 
 -- What came of a query is of no use.
 abbrev pub CameUseless : ℕ → Over → Labels → ℕ → Question → Input → Type 0
-CameUseless port over zone id question (Came octets) = IsUseless port over zone id question octets
+CameUseless port over zone id question (Came octets allowance) = IsUseless port over zone id question octets
 CameUseless port over zone id question Failed = Unit {0}
 CameUseless port over zone id question input = ⊥
 
@@ -109,9 +110,9 @@ pub data ReachedFor (port : ℕ) (log : List Exchange) (question : Question) (se
   by_book : (before : List Exchange) (moment : ℕ)
       → log ≡ before ++ exchange (Book (Look moment (ServersFor (served_name question)))) (Reply (Seen (SeenServers servers))) ∷ since
       → ReachedFor port log question servers since
-  by_referral : (before upto : List Exchange) (server : Addr) (over : Over) (bytes octets : List ℕ) {zone : Labels} {v : Message} {referral : Referral}
-      → log ≡ before ++ exchange (Send server over bytes) (Came octets) ∷ since
-      → Adds before (exchange (Send server over bytes) (Came octets)) upto
+  by_referral : (before upto : List Exchange) (server : Addr) (over : Over) (bytes octets : List ℕ) (allowance : Allowance) {zone : Labels} {v : Message} {referral : Referral}
+      → log ≡ before ++ exchange (Send server over bytes) (Came octets allowance) ∷ since
+      → Adds before (exchange (Send server over bytes) (Came octets allowance)) upto
       → Known port upto (Responds zone question v) → IsReferral port zone question v referral → servers ≡ servers_referred referral
       → ReachedFor port log question servers since
 

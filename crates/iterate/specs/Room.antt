@@ -1,6 +1,8 @@
 -- How a book that is full makes room for a find: it is swept, and then the name is forgotten whose data end first.
 use Rattle.std.specs.Prelude.{◌≡◌, ℕ, ◌<◌, Bool, true, false, List, ◌∷◌, Some, drop}
 use Rattle.dns_name.specs.Labels.{Labels}
+use Rattle.dns_query.specs.declared.verdict.Says.{Says}
+use Rattle.dns_query.specs.declared.verdict.Says.TheVariants.{Denies}
 use Rattle.ranked.specs.declared.find.Find.{Find}
 use Rattle.history.specs.declared.book.StepFault.TheVariants.{Full}
 use Rattle.history.specs.declared.desk.DeskFault.TheVariants.{Step}
@@ -14,8 +16,9 @@ use Rattle.iterate.specs.declared.phase.Attempt.{Attempt}
 use Rattle.iterate.specs.declared.phase.Attempt.TheVariants as attempt
 use Rattle.iterate.specs.declared.phase.Phase.{Phase}
 use Rattle.iterate.specs.declared.phase.Phase.TheVariants.{Admitting}
+use Rattle.iterate.specs.declared.want.Allowance.{Allowance}
 use Rattle.iterate.specs.declared.want.Input.{Input}
-use Rattle.iterate.specs.declared.want.Input.TheVariants.{Reply, Refused}
+use Rattle.iterate.specs.declared.want.Input.TheVariants.{Reply, Refused, Came}
 use Rattle.iterate.specs.declared.want.Want.{Want}
 use Rattle.iterate.specs.declared.want.Want.TheVariants.{Book}
 use Rattle.iterate.specs.Exchanges.{Exchange, exchange, Adds, AddsLook}
@@ -84,8 +87,19 @@ pub data MayHand (find : Find) (log : List Exchange) : Type 0 where
 
 -- ---- the attempts
 
--- A find is at this place of a harvest, and is among the first ones, which are handed to a book.
-pub record IsHanded (finds : List Find) (next : ℕ) (find : Find) : Type 0 where
+-- how many finds of a response that says this may be handed to a book
+abbrev pub allowed_for : Says → Allowance → ℕ
+allowed_for (Denies rcode negative) allowance = allowance.of_denial
+allowed_for says allowance = allowance.finds
+
+-- how many finds of what came, if it is a response that says this
+abbrev pub allowed_in : Input → Says → ℕ
+allowed_in (Came octets allowance) says = allowed_for says allowance
+allowed_in input says = 0
+
+-- A find is at this place of a harvest, and is among the first ones, of which so many may be handed to a book.
+pub record IsHanded (finds : List Find) (allowed next : ℕ) (find : Find) : Type 0 where
+  pub within : next < allowed
   pub early : next < MOST_FINDS
   pub rest : List Find
   pub at : drop next finds ≡ find ∷ rest
@@ -112,9 +126,9 @@ IsTrying attempt.Forget find log want = (owner : Labels) × IsNamed find owner l
 IsTrying attempt.Last find log want = IsForgotten find log × IsAsked want (λ moment. Admit moment find)
 
 -- The find at this place is being handed over, in this attempt.
-pub record IsHanding (finds : List Find) (next : ℕ) (tried : Attempt) (log : List Exchange) (want : Want) : Type 0 where
+pub record IsHanding (finds : List Find) (allowed next : ℕ) (tried : Attempt) (log : List Exchange) (want : Want) : Type 0 where
   pub find : Find
-  pub handed : IsHanded finds next find
+  pub handed : IsHanded finds allowed next find
   pub trying : IsTrying tried find log want
 
 -- what is asked next for a find, where the book is full and where room was made
@@ -128,7 +142,7 @@ AsksNext tried find moment input want = Unit {0}
 
 -- So it is with the next want of a task in this phase, for the find that is being handed over.
 abbrev pub AsksOn : Phase → ℕ → Input → Want → Type 0
-AsksOn (Admitting search heard next tried) moment input want = (find : Find) → IsHanded heard.value.harvest.finds next find → AsksNext tried find moment input want
+AsksOn (Admitting search heard allowed next tried) moment input want = (find : Find) → IsHanded heard.value.harvest.finds allowed next find → AsksNext tried find moment input want
 AsksOn phase moment input want = Unit {0}
 
 -- what came of a look for the name to forget first names none

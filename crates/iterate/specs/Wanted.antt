@@ -1,5 +1,6 @@
 -- What a task may want.
-use Rattle.std.specs.Prelude.{◌≡◌, ℕ, ◌%◌, ◌^◌, List, take}
+use Rattle.std.specs.Prelude.{◌≡◌, ℕ, ◌%◌, ◌^◌, List, min, take}
+use Rattle.iterate.specs.declared.want.Allowance.{Allowance}
 use Rattle.iterate.specs.declared.want.Input.{Input}
 use Rattle.std.specs.List.{Contains}
 use Rattle.dns_name.specs.Labels.{Labels, IsAtOrBelow}
@@ -9,7 +10,9 @@ use Rattle.dns_wire.specs.declared.message.Message.{Message}
 use Rattle.dns_query.specs.declared.over.Over.{Over}
 use Rattle.dns_query.specs.declared.over.Over.TheVariants.{Udp, Tcp}
 use Rattle.dns_query.specs.Query.{IsQuery, address_question}
-use Rattle.dns_query.specs.Verdict.{IsTruncated}
+use Rattle.dns_query.specs.Response.{IsResponse}
+use Rattle.dns_query.specs.Verdict.{IsSaid, IsTruncated}
+use Rattle.dns_query.specs.declared.verdict.Says.{Says}
 use Rattle.harvest.specs.Harvest.{finds_in}
 use Rattle.neg_rule.specs.Negative.{said_by}
 use Rattle.rand_core.specs.Stream.{Stream, next_u32}
@@ -27,23 +30,39 @@ use Rattle.iterate.specs.Exchanges.{Exchange, exchange, Happened}
 use Rattle.iterate.specs.Come.{HasCome}
 use Rattle.iterate.specs.Known.{Known, Listed, Serves, Responds, WasUnknown, IsUnknownYet}
 use Rattle.iterate.specs.Resolved.{IsResolved, Chain, IsOneOf, ReachedFor, question_at}
-use Rattle.iterate.specs.Room.{IsFull, IsFullAgain, IsNamed, MayHand}
+use Rattle.iterate.specs.Room.{IsFull, IsFullAgain, IsNamed, MayHand, allowed_for}
 use Rattle.iterate.specs.Served.{served_name}
 
--- A find is among the first in the harvest of a response.
+-- The response to a query of this question came with this allowance of finds for the book.
+pub record WasAllowed (log : List Exchange) (question : Question) (message : Message) (allowance : Allowance) : Type 0 where
+  pub server : Addr
+  pub over : Over
+  pub bytes : List ℕ
+  pub id : ℕ
+  pub octets : List ℕ
+  pub came : Happened log (exchange (Send server over bytes) (Came octets allowance))
+  pub query : IsQuery bytes id question
+  pub response : IsResponse id question octets message
+
+-- A find is among the first in the harvest of a response: of those that may be handed to a book, by what the response says.
 pub record IsHarvested (port : ℕ) (log : List Exchange) (find : Find) : Type 0 where
   pub zone : Labels
   pub question : Question
   pub message : Message
   pub responds : Known port log (Responds zone question message)
-  pub among : Contains (take MOST_FINDS (finds_in message question zone)) (said_by find)
+  pub says : Says
+  pub said : IsSaid port zone question message says
+  pub allowance : Allowance
+  pub was_allowed : WasAllowed log question message allowance
+  pub among : Contains (take (min MOST_FINDS (allowed_for says allowance)) (finds_in message question zone)) (said_by find)
 
 -- The server was asked the question over UDP, and its response was truncated.
 pub record WasTruncated (log : List Exchange) (server : Addr) (question : Question) : Type 0 where
   pub bytes : List ℕ
   pub id : ℕ
   pub octets : List ℕ
-  pub came : Happened log (exchange (Send server Udp bytes) (Came octets))
+  pub allowance : Allowance
+  pub came : Happened log (exchange (Send server Udp bytes) (Came octets allowance))
   pub query : IsQuery bytes id question
   pub truncated : IsTruncated Udp id question octets
 

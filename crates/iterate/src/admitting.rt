@@ -31,13 +31,13 @@ use rand_core::Rng;
 use ranked::SharedFind;
 use std::alloc::Global;
 
-/// The find at this place of a response, if it is one of the first ones.
-fn find_at(heard: &Heard, next: usize) -> Result<Option<SharedFind>, NoMemory>
-    ensures { IfOk result (λ found. MatchOption found ((find : Find) → ¬ (IsHanded heard.now.harvest.finds next find))
-        (IsHanded heard.now.harvest.finds next)) }
+/// The find at this place of a response, if it is one of the first ones that may be handed over.
+fn find_at(heard: &Heard, allowed: usize, next: usize) -> Result<Option<SharedFind>, NoMemory>
+    ensures { IfOk result (λ found. MatchOption found ((find : Find) → ¬ (IsHanded heard.now.harvest.finds allowed next find))
+        (IsHanded heard.now.harvest.finds allowed next)) }
 {
     let finds = heard.harvest.finds.as_slice();
-    if next < MOST_FINDS && next < finds.len() {
+    if next < allowed && next < MOST_FINDS && next < finds.len() {
         return Ok(Some(finds[next].share()?));
     }
     Ok(None)
@@ -47,17 +47,19 @@ fn find_at(heard: &Heard, next: usize) -> Result<Option<SharedFind>, NoMemory>
 fn ask_book(
     search: Box<Search>,
     heard: Box<Heard>,
+    allowed: usize,
     next: usize,
     attempt: Attempt,
     event: Event,
 ) -> Advance
-    ensures phase { result.phase ≡ Phase.Admitting search heard next attempt }
+    ensures phase { result.phase ≡ Phase.Admitting search heard allowed next attempt }
     ensures want { result.want ≡ Book event }
 {
     Advance {
         phase: Phase::Admitting {
             search,
             heard,
+            allowed,
             next,
             attempt,
         },
@@ -73,18 +75,26 @@ fn hand<R: Rng>(
     ids: &mut R,
     search: Box<Search>,
     heard: Box<Heard>,
+    allowed: usize,
     next: usize,
     attempt: Attempt,
 ) -> Result<Advance, NoMemory>
-    ensures hands { (find : Find) → IsHanded heard.value.harvest.finds next find
+    ensures hands { (find : Find) → IsHanded heard.value.harvest.finds allowed next find
         → IfOk result (λ told. told.want ≡ Book (Admit moment find)) }
-    ensures goes { (question : Question) (log : List Exchange) (left : ℕ) → IsHearing port question log search.value heard.value
-        → ((find : Find) → IsHanded heard.value.harvest.finds next find → IsHandedBy attempt find log)
+    ensures goes { (question : Question) (log : List Exchange) (left : ℕ) → IsHearing port question log search.value heard.value allowed
+        → ((find : Find) → IsHanded heard.value.harvest.finds allowed next find → IsHandedBy attempt find log)
         → left_of_hearing search.value.path 1 ≤ left → (next < MOST_FINDS → left_of_finds search.value.path next attempt < left)
         → IfOk result (Advances port question log moment (drawing (R.stream ids.old) (R.stream ids.new)) left) }
 {
-    match find_at(&heard, next)? {
-        Some(find) => Ok(ask_book(search, heard, next, attempt, Event::Admit { moment, find })),
+    match find_at(&heard, allowed, next)? {
+        Some(find) => Ok(ask_book(
+            search,
+            heard,
+            allowed,
+            next,
+            attempt,
+            Event::Admit { moment, find },
+        )),
         None => {
             let search = Box::into_inner(search);
             conclude(alloc, port, moment, ids, search, Box::into_inner(heard))
@@ -92,7 +102,7 @@ fn hand<R: Rng>(
     }
 }
 
-/// Hands the first find to the book. If there is none, acts on the response.
+/// Hands the first find to the book, if one may be handed over. If not, acts on the response.
 pub(crate) fn admit<R: Rng>(
     alloc: Global,
     port: u16,
@@ -100,15 +110,26 @@ pub(crate) fn admit<R: Rng>(
     ids: &mut R,
     search: Box<Search>,
     heard: Box<Heard>,
+    allowed: usize,
 ) -> Result<Advance, NoMemory>
-    ensures hands { (find : Find) → IsHanded heard.value.harvest.finds 0 find
+    ensures hands { (find : Find) → IsHanded heard.value.harvest.finds allowed 0 find
         → IfOk result (λ told. told.want ≡ Book (Admit moment find)) }
-    ensures goes { (question : Question) (log : List Exchange) (left : ℕ) → IsHearing port question log search.value heard.value
+    ensures goes { (question : Question) (log : List Exchange) (left : ℕ) → IsHearing port question log search.value heard.value allowed
         → ¬ (MadeRoom log)
         → left_of_hearing search.value.path 1 ≤ left → left_of_finds search.value.path 0 Attempt.Admit < left
         → IfOk result (Advances port question log moment (drawing (R.stream ids.old) (R.stream ids.new)) left) }
 {
-    hand(alloc, port, moment, ids, search, heard, 0, Attempt::Admit)
+    hand(
+        alloc,
+        port,
+        moment,
+        ids,
+        search,
+        heard,
+        allowed,
+        0,
+        Attempt::Admit,
+    )
 }
 
 /// Continues with the next find, if the book may reply so; else fails the question.
@@ -119,12 +140,13 @@ fn pass<R: Rng>(
     ids: &mut R,
     search: Box<Search>,
     heard: Box<Heard>,
+    allowed: usize,
     next: usize,
     lawful: bool,
 ) -> Result<Advance, NoMemory>
-    ensures hands { (find : Find) → lawful ≡ true → IsHanded heard.value.harvest.finds (next + 1) find
+    ensures hands { (find : Find) → lawful ≡ true → IsHanded heard.value.harvest.finds allowed (next + 1) find
         → IfOk result (λ told. told.want ≡ Book (Admit moment find)) }
-    ensures goes { (question : Question) (log : List Exchange) (attempt : Attempt) → IsHearing port question log search.value heard.value
+    ensures goes { (question : Question) (log : List Exchange) (attempt : Attempt) → IsHearing port question log search.value heard.value allowed
         → next < MOST_FINDS → ¬ (MadeRoom log)
         → (lawful ≡ false → Fails port log search.value.path.last (length search.value.path.sets.items))
         → IfOk result (Advances port question log moment (drawing (R.stream ids.old) (R.stream ids.new))
@@ -141,6 +163,7 @@ fn pass<R: Rng>(
         ids,
         search,
         heard,
+        allowed,
         after,
         Attempt::Admit,
     )
@@ -230,21 +253,31 @@ fn handed<R: Rng>(
     ids: &mut R,
     search: Box<Search>,
     heard: Box<Heard>,
+    allowed: usize,
     next: usize,
     input: &Input,
 ) -> Result<Advance, NoMemory>
-    ensures asks { (find : Find) → IsHanded heard.value.harvest.finds next find
+    ensures asks { (find : Find) → IsHanded heard.value.harvest.finds allowed next find
         → IfOk result (λ told. AsksNext Attempt.Admit find moment input.now told.want) }
     ensures goes { (question : Question) (log : List Exchange)
-        → IsTold port question log search.value heard.value next Attempt.Admit input.now
+        → IsTold port question log search.value heard.value allowed next Attempt.Admit input.now
         → IfOk result (Advances port question log moment (drawing (R.stream ids.old) (R.stream ids.new))
         (left_of_finds search.value.path next Attempt.Admit)) }
 {
     if is_full(input) {
-        return Ok(ask_book(search, heard, next, Attempt::Sweep, Event::Sweep { moment }));
+        return Ok(ask_book(
+            search,
+            heard,
+            allowed,
+            next,
+            Attempt::Sweep,
+            Event::Sweep { moment },
+        ));
     }
     let lawful = is_passed(input);
-    pass(alloc, port, moment, ids, search, heard, next, lawful)
+    pass(
+        alloc, port, moment, ids, search, heard, allowed, next, lawful,
+    )
 }
 
 /// Continues with the reply to a sweep: hands the find over again.
@@ -255,13 +288,14 @@ fn swept<R: Rng>(
     ids: &mut R,
     search: Box<Search>,
     heard: Box<Heard>,
+    allowed: usize,
     next: usize,
     input: &Input,
 ) -> Result<Advance, NoMemory>
-    ensures asks { (find : Find) → IsHanded heard.value.harvest.finds next find
+    ensures asks { (find : Find) → IsHanded heard.value.harvest.finds allowed next find
         → IfOk result (λ told. AsksNext Attempt.Sweep find moment input.now told.want) }
     ensures goes { (question : Question) (log : List Exchange)
-        → IsTold port question log search.value heard.value next Attempt.Sweep input.now
+        → IsTold port question log search.value heard.value allowed next Attempt.Sweep input.now
         → IfOk result (Advances port question log moment (drawing (R.stream ids.old) (R.stream ids.new))
         (left_of_finds search.value.path next Attempt.Sweep)) }
 {
@@ -273,12 +307,15 @@ fn swept<R: Rng>(
             ids,
             search,
             heard,
+            allowed,
             next,
             Attempt::Again,
         );
     }
     let lawful = is_sweep_passed(input);
-    pass(alloc, port, moment, ids, search, heard, next, lawful)
+    pass(
+        alloc, port, moment, ids, search, heard, allowed, next, lawful,
+    )
 }
 
 /// Continues with the reply to the admission behind a sweep. If the book was full again, it is asked for the name to forget first.
@@ -289,13 +326,14 @@ fn handed_again<R: Rng>(
     ids: &mut R,
     search: Box<Search>,
     heard: Box<Heard>,
+    allowed: usize,
     next: usize,
     input: &Input,
 ) -> Result<Advance, NoMemory>
-    ensures asks { (find : Find) → IsHanded heard.value.harvest.finds next find
+    ensures asks { (find : Find) → IsHanded heard.value.harvest.finds allowed next find
         → IfOk result (λ told. AsksNext Attempt.Again find moment input.now told.want) }
     ensures goes { (question : Question) (log : List Exchange)
-        → IsTold port question log search.value heard.value next Attempt.Again input.now
+        → IsTold port question log search.value heard.value allowed next Attempt.Again input.now
         → IfOk result (Advances port question log moment (drawing (R.stream ids.old) (R.stream ids.new))
         (left_of_finds search.value.path next Attempt.Again)) }
 {
@@ -304,13 +342,16 @@ fn handed_again<R: Rng>(
         return Ok(ask_book(
             search,
             heard,
+            allowed,
             next,
             Attempt::Oldest,
             Event::Look { moment, ask },
         ));
     }
     let lawful = is_passed(input);
-    pass(alloc, port, moment, ids, search, heard, next, lawful)
+    pass(
+        alloc, port, moment, ids, search, heard, allowed, next, lawful,
+    )
 }
 
 /// Continues with the name to forget first: it is forgotten. If there is none, the find is passed over.
@@ -321,12 +362,13 @@ fn oldest_came<R: Rng>(
     ids: &mut R,
     search: Box<Search>,
     heard: Box<Heard>,
+    allowed: usize,
     next: usize,
     input: &Input,
 ) -> Result<Advance, NoMemory>
     ensures asks { (find : Find) → IfOk result (λ told. AsksNext Attempt.Oldest find moment input.now told.want) }
     ensures goes { (question : Question) (log : List Exchange)
-        → IsTold port question log search.value heard.value next Attempt.Oldest input.now
+        → IsTold port question log search.value heard.value allowed next Attempt.Oldest input.now
         → IfOk result (Advances port question log moment (drawing (R.stream ids.old) (R.stream ids.new))
         (left_of_finds search.value.path next Attempt.Oldest)) }
 {
@@ -336,6 +378,7 @@ fn oldest_came<R: Rng>(
             Ok(ask_book(
                 search,
                 heard,
+                allowed,
                 next,
                 Attempt::Forget,
                 Event::Forget { moment, owner },
@@ -348,6 +391,7 @@ fn oldest_came<R: Rng>(
             ids,
             search,
             heard,
+            allowed,
             next,
             is_look_passed(input),
         ),
@@ -362,21 +406,34 @@ fn forgotten<R: Rng>(
     ids: &mut R,
     search: Box<Search>,
     heard: Box<Heard>,
+    allowed: usize,
     next: usize,
     input: &Input,
 ) -> Result<Advance, NoMemory>
-    ensures asks { (find : Find) → IsHanded heard.value.harvest.finds next find
+    ensures asks { (find : Find) → IsHanded heard.value.harvest.finds allowed next find
         → IfOk result (λ told. AsksNext Attempt.Forget find moment input.now told.want) }
     ensures goes { (question : Question) (log : List Exchange)
-        → IsTold port question log search.value heard.value next Attempt.Forget input.now
+        → IsTold port question log search.value heard.value allowed next Attempt.Forget input.now
         → IfOk result (Advances port question log moment (drawing (R.stream ids.old) (R.stream ids.new))
         (left_of_finds search.value.path next Attempt.Forget)) }
 {
     if is_forgotten(input) {
-        return hand(alloc, port, moment, ids, search, heard, next, Attempt::Last);
+        return hand(
+            alloc,
+            port,
+            moment,
+            ids,
+            search,
+            heard,
+            allowed,
+            next,
+            Attempt::Last,
+        );
     }
     let lawful = is_forget_passed(input);
-    pass(alloc, port, moment, ids, search, heard, next, lawful)
+    pass(
+        alloc, port, moment, ids, search, heard, allowed, next, lawful,
+    )
 }
 
 /// Continues with the reply to the last admission of a find.
@@ -387,16 +444,19 @@ fn handed_last<R: Rng>(
     ids: &mut R,
     search: Box<Search>,
     heard: Box<Heard>,
+    allowed: usize,
     next: usize,
     input: &Input,
 ) -> Result<Advance, NoMemory>
     ensures { (question : Question) (log : List Exchange)
-        → IsTold port question log search.value heard.value next Attempt.Last input.now
+        → IsTold port question log search.value heard.value allowed next Attempt.Last input.now
         → IfOk result (Advances port question log moment (drawing (R.stream ids.old) (R.stream ids.new))
         (left_of_finds search.value.path next Attempt.Last)) }
 {
     let lawful = is_passed(input);
-    pass(alloc, port, moment, ids, search, heard, next, lawful)
+    pass(
+        alloc, port, moment, ids, search, heard, allowed, next, lawful,
+    )
 }
 
 /// Continues with the book's reply to what it was asked for the find at this place.
@@ -407,23 +467,36 @@ pub(crate) fn admitted<R: Rng>(
     ids: &mut R,
     search: Box<Search>,
     heard: Box<Heard>,
+    allowed: usize,
     next: usize,
     attempt: Attempt,
     input: &Input,
 ) -> Result<Advance, NoMemory>
-    ensures asks { (find : Find) → IsHanded heard.value.harvest.finds next find
+    ensures asks { (find : Find) → IsHanded heard.value.harvest.finds allowed next find
         → IfOk result (λ told. AsksNext attempt find moment input.now told.want) }
     ensures goes { (question : Question) (log : List Exchange)
-        → IsTold port question log search.value heard.value next attempt input.now
+        → IsTold port question log search.value heard.value allowed next attempt input.now
         → IfOk result (Advances port question log moment (drawing (R.stream ids.old) (R.stream ids.new))
         (left_of_finds search.value.path next attempt)) }
 {
     match attempt {
-        Attempt::Admit => handed(alloc, port, moment, ids, search, heard, next, input),
-        Attempt::Sweep => swept(alloc, port, moment, ids, search, heard, next, input),
-        Attempt::Again => handed_again(alloc, port, moment, ids, search, heard, next, input),
-        Attempt::Oldest => oldest_came(alloc, port, moment, ids, search, heard, next, input),
-        Attempt::Forget => forgotten(alloc, port, moment, ids, search, heard, next, input),
-        Attempt::Last => handed_last(alloc, port, moment, ids, search, heard, next, input),
+        Attempt::Admit => handed(
+            alloc, port, moment, ids, search, heard, allowed, next, input,
+        ),
+        Attempt::Sweep => swept(
+            alloc, port, moment, ids, search, heard, allowed, next, input,
+        ),
+        Attempt::Again => handed_again(
+            alloc, port, moment, ids, search, heard, allowed, next, input,
+        ),
+        Attempt::Oldest => oldest_came(
+            alloc, port, moment, ids, search, heard, allowed, next, input,
+        ),
+        Attempt::Forget => forgotten(
+            alloc, port, moment, ids, search, heard, allowed, next, input,
+        ),
+        Attempt::Last => handed_last(
+            alloc, port, moment, ids, search, heard, allowed, next, input,
+        ),
     }
 }

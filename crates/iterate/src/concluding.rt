@@ -81,7 +81,7 @@ fn conclude_last<R: Rng>(
         → IfOk result (λ next. TellsDenial search.path rcode negative next.want) }
     ensures refers { (referral : ReferralValue) → heard.says ≡ Says.Refers referral → search.path.sent < MOST_SENDS
         → IfOk result (λ next. AsksOneOf referral.addrs next.want) }
-    ensures goes { (port : ℕ) (question : Question) (log : List Exchange) → IsHearing port question log search heard
+    ensures goes { (port : ℕ) (question : Question) (log : List Exchange) (allowed : ℕ) → IsHearing port question log search heard allowed
         → IfOk result (Advances port question log moment (drawing (R.stream ids.old) (R.stream ids.new)) (left_of_hearing search.path 1)) }
 {
     let Heard { harvest, says } = heard;
@@ -107,7 +107,7 @@ fn search_behind(alloc: Global, port: u16, search: Search, heard: Heard) -> Resu
     ensures refers { (referral : ReferralValue) → heard.says ≡ Says.Refers referral
         → IfOk result (λ after. AreReferred search.frames.items (servers_referred referral) after.frames.items) }
     ensures path { IfOk result (λ after. after.path ≡ search.path) }
-    ensures smaller { (question : Question) (log : List Exchange) → IsHearing port question log search heard
+    ensures smaller { (question : Question) (log : List Exchange) (allowed : ℕ) → IsHearing port question log search heard allowed
         → IfOk result (IsSmaller port question log (left_of_hearing search.path 1)) }
 {
     let Heard { harvest, says } = heard;
@@ -136,7 +136,7 @@ fn conclude_frame<R: Rng>(
     requires { 0 < length search.frames.items }
     ensures refers { (referral : ReferralValue) → heard.says ≡ Says.Refers referral → search.path.sent < MOST_SENDS
         → IfOk result (λ next. AsksOneOf referral.addrs next.want) }
-    ensures goes { (question : Question) (log : List Exchange) → IsHearing port question log search heard
+    ensures goes { (question : Question) (log : List Exchange) (allowed : ℕ) → IsHearing port question log search heard allowed
         → IfOk result (Advances port question log moment (drawing (R.stream ids.old) (R.stream ids.new))
         (left_of_hearing search.path 1)) }
 {
@@ -154,7 +154,7 @@ pub(crate) fn conclude<R: Rng>(
     search: Search,
     heard: Heard,
 ) -> Result<Advance, NoMemory>
-    ensures { (question : Question) (log : List Exchange) → IsHearing port question log search heard
+    ensures { (question : Question) (log : List Exchange) (allowed : ℕ) → IsHearing port question log search heard allowed
         → IfOk result (Advances port question log moment (drawing (R.stream ids.old) (R.stream ids.new)) (left_of_hearing search.path 1)) }
 {
     if search.frames.is_empty() {

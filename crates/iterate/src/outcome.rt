@@ -8,6 +8,7 @@ ghost use Rattle.iterate.specs.declared.want.Want.TheVariants.{Send as SendWant}
 ghost use Rattle.iterate.specs.Exchanges.{Exchange, exchange, Adds};
 ghost use Rattle.iterate.specs.Hunting.{ActsOn, AsksOver, one_vain};
 ghost use Rattle.iterate.specs.Judged.{IsJudged};
+ghost use Rattle.iterate.specs.Room.{allowed_for, allowed_in};
 ghost use Rattle.iterate.specs.Measure.{left_in, left_of_sending};
 ghost use Rattle.iterate.specs.Phase.{Advances, IsWaiting, Suits, drawing};
 ghost use Rattle.iterate.specs.Resolved.{Struck};
@@ -20,9 +21,9 @@ use crate::limits::MOST_SENDS;
 use crate::phase::{Advance, Phase};
 use crate::search::{Hunt, Nested, Search, go_on};
 use crate::sending::send;
-use crate::want::Input;
+use crate::want::{Allowance, Input};
 use dns_name::{Name, NoMemory};
-use dns_query::{Over, Verdict, judge};
+use dns_query::{Over, Says, Verdict, judge};
 use dns_text::{Addr, Question};
 use dns_wire::one_meaning;
 use rand_core::Rng;
@@ -42,8 +43,30 @@ fn judged(
         → IfOk result (IsJudged port over zone.now id question.now input.now) }
 {
     match input {
-        Input::Came(octets) => judge(alloc, port, over, zone, id, question, octets.as_slice()),
+        Input::Came { octets, .. } => {
+            judge(alloc, port, over, zone, id, question, octets.as_slice())
+        }
         _ => Ok(Verdict::Struck),
+    }
+}
+
+/// How many finds of a response that says this may be handed to the book.
+fn allowed_for(says: &Says, allowance: Allowance) -> usize
+    ensures { result ≡ allowed_for says.now allowance }
+{
+    match says {
+        Says::Denies { .. } => allowance.of_denial,
+        _ => allowance.finds,
+    }
+}
+
+/// How many finds of what came may be handed to the book, if it is a response that says this.
+fn allowed_in(input: &Input, says: &Says) -> usize
+    ensures { result ≡ allowed_in input.now says.now }
+{
+    match input {
+        Input::Came { allowance, .. } => allowed_for(says, *allowance),
+        _ => 0,
     }
 }
 
@@ -151,9 +174,10 @@ pub(crate) fn came<R: Rng>(
         Verdict::Struck => go_on(alloc, ids, moment, strike(search.counted())?),
         Verdict::Cut => again(alloc, ids, search.counted(), server),
         Verdict::Heard(heard) => {
+            let allowed = allowed_in(input, &heard.says);
             let search = Box::new(alloc, search.counted())?;
             let heard = Box::new(alloc, heard)?;
-            admit(alloc, port, moment, ids, search, heard)
+            admit(alloc, port, moment, ids, search, heard, allowed)
         }
     }
 }

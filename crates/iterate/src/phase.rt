@@ -88,10 +88,11 @@ pub enum Phase {
         id: u16,
         over: Over,
     },
-    /// It hands the finds of a response to the book, now the one at this place, in this attempt.
+    /// It hands so many finds of a response to the book, now the one at this place, in this attempt.
     Admitting {
         search: Box<Search>,
         heard: Box<Heard>,
+        allowed: usize,
         next: usize,
         attempt: Attempt,
     },
@@ -152,10 +153,11 @@ pub(crate) fn step_on<R: Rng>(
         Phase::Admitting {
             search,
             heard,
+            allowed,
             next,
             attempt,
         } => admitted(
-            alloc, port, moment, ids, search, heard, next, attempt, input,
+            alloc, port, moment, ids, search, heard, allowed, next, attempt, input,
         ),
         Phase::Ended => Err(AllocError),
         Phase::Broken => Err(AllocError),

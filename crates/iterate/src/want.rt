@@ -3,11 +3,33 @@
 ghost use Rattle.std.specs.Prelude.{◌≡◌, IfOk};
 
 use crate::answer::Answer;
+use crate::limits::MOST_FINDS;
 use dns_name::NoMemory;
 use dns_query::Over;
 use dns_text::{Addr, Octets, Shared};
 use history::{DeskFault, Event, Reply};
 use std::alloc::Global;
+
+/// How many finds of a response may be handed to the book. No answer depends on it.
+#[derive(Clone, Copy, PartialEq, Eq)]
+pub struct Allowance {
+    /// Those of an answer, or of a referral.
+    pub finds: usize,
+    /// Those of a response that denies. Strangers choose what is denied, also by zones that are not theirs.
+    pub of_denial: usize,
+}
+
+impl Allowance {
+    /// As many as of any response.
+    pub fn full() -> Allowance
+        ensures { result ≡ record { finds = MOST_FINDS; of_denial = MOST_FINDS } }
+    {
+        Allowance {
+            finds: MOST_FINDS,
+            of_denial: MOST_FINDS,
+        }
+    }
+}
 
 /// An input of a task.
 #[derive(Drop)]
@@ -18,8 +40,11 @@ pub enum Input {
     Reply(Reply),
     /// The book refused the event.
     Refused(DeskFault),
-    /// The server sent these octets.
-    Came(Octets),
+    /// The server sent these octets. So many finds of the response may be handed to the book.
+    Came {
+        octets: Octets,
+        allowance: Allowance,
+    },
     /// No response came.
     Failed,
 }

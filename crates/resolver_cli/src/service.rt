@@ -21,7 +21,7 @@ use crate::worker::{
 };
 use cell_store::NameSeed;
 use dns_sockets::place_of;
-use flight_sockets::{Asking, Permits, Waker};
+use flight_sockets::{Asking, Permits, Waker, ZoneShares};
 use history::Book;
 use log::{Log, info};
 use resolver_args::Service;
@@ -246,6 +246,9 @@ where
     let Ok(permits) = Permits::new(alloc, drawn_seed(rt)?) else {
         return Err(CliFault::no_memory());
     };
+    let Ok(zone_shares) = ZoneShares::new(alloc, service.settings.cells, drawn_seed(rt)?) else {
+        return Err(CliFault::no_memory());
+    };
     let Ok(gauges) = Gauges::new(alloc, service.udp, service.tcp, &service.settings) else {
         return Err(CliFault::no_memory());
     };
@@ -263,6 +266,7 @@ where
             server_port: service.settings.server_port,
             do_not_query: do_not_query.as_slice(),
             permits: &permits,
+            shares: &zone_shares,
             renewals: &gauges.book.get().renewals,
         },
         start,

@@ -7,10 +7,12 @@ ghost use Rattle.flight.specs.Flight.{query_to};
 use crate::digest::Digest;
 use crate::internet::Internet;
 use command_text::Clock;
+use dns_name::Name;
 use dns_query::Over;
 use dns_text::{Addr, Octets, Shared};
 use flight::{Client, Counts, InFlight, Listened, Numbered, Outside, ReplyOctets, Unserved};
-use iterate::Hunt;
+use history::Event;
+use iterate::{Allowance, Hunt};
 use std::alloc::Global;
 use std::cell::Cell;
 use std::collections::VecDeque;
@@ -159,6 +161,12 @@ impl<D: Numbered> Outside<D, Wire, SetClock, Asker> for Network {
     fn server_port(&self) -> u16 {
         self.port
     }
+
+    fn allowance(&self, _zone: &Name) -> Allowance {
+        Allowance::full()
+    }
+
+    fn note(&self, _event: &Event) {}
 
     fn buffer(&mut self) -> Vec<u8> {
         mem::replace(&mut self.buffer, Vec::new(self.alloc))

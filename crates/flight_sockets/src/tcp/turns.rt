@@ -31,6 +31,7 @@ use rand_core::Rng;
 use std::alloc::Global;
 use std::io;
 use std::marker::Model;
+use std::sync::Wait;
 use std::time::{Duration, Instant};
 
 /// The most events that are handled in one turn, so that none waits after too many others.
@@ -89,7 +90,7 @@ impl<'a, R, S: ClientStream, L> Model for TcpTurns<'a, R, S, L> {
     } };
 }
 
-impl<'a, R: ReadyNet + Log + Elapsing, S: ClientStream, L: ClientListener<S>> TcpTurns<
+impl<'a, R: ReadyNet + Log + Elapsing + Wait, S: ClientStream, L: ClientListener<S>> TcpTurns<
     'a,
     R,
     S,

@@ -43,7 +43,7 @@ impl<'a, R, S: ClientStream, L> Model for TcpWorker<'a, R, S, L> {
     ghost view = { λ worker. worker.turns };
 }
 
-impl<'a, R: ReadyNet + Log + Elapsing, S: ClientStream, L: ClientListener<S>> TcpWorker<
+impl<'a, R: ReadyNet + Log + Elapsing + Wait, S: ClientStream, L: ClientListener<S>> TcpWorker<
     'a,
     R,
     S,

@@ -8,11 +8,12 @@ ghost use Rattle.flight.specs.Counted.{CountsSettled};
 use crate::in_flight::worker::LineClock;
 use crate::queries::{push_digits, push_query};
 use crate::said::Said;
-use dns_name::NoMemory;
+use dns_name::{Name, NoMemory};
 use dns_query::Over;
 use dns_text::{Addr, Octets, Shared};
 use flight::{Client, Counts, InFlight, Listened, Numbered, Outside, ReplyOctets, Unserved};
-use iterate::Hunt;
+use history::Event;
+use iterate::{Allowance, Hunt};
 use std::alloc::Global;
 use std::mem;
 
@@ -181,6 +182,12 @@ impl<D: Numbered> Outside<D, Wire, LineClock, Peer> for Sockets {
     fn server_port(&self) -> u16 {
         self.port
     }
+
+    fn allowance(&self, _zone: &Name) -> Allowance {
+        Allowance::full()
+    }
+
+    fn note(&self, _event: &Event) {}
 
     fn buffer(&mut self) -> Vec<u8> {
         Vec::new(self.alloc)

@@ -16,7 +16,7 @@ use crate::words::next_line;
 use dns_query::Over;
 use dns_text::{Addr, Octets, Question, Shared};
 use history::Event;
-use iterate::{Answer, Input, Task, Want, due_law};
+use iterate::{Allowance, Answer, Input, Task, Want, due_law};
 use std::alloc::Global;
 use std::io::{BufRead, Write};
 
@@ -34,7 +34,10 @@ fn came_in(alloc: Global, query: &[u8], line: &[u8]) -> Result<Input, Stop>
         return Ok(Input::Failed);
     };
     match said.octets(alloc, query)? {
-        Some(octets) => Ok(Input::Came(octets)),
+        Some(octets) => Ok(Input::Came {
+            octets,
+            allowance: Allowance::full(),
+        }),
         None => Ok(Input::Failed),
     }
 }

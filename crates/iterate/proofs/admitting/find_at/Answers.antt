@@ -12,6 +12,7 @@ returns-then-next-finds c =
     let within : next < length finds = omega (arith, ap (λ (xs : List Find). length xs) same) in
     let is : slice_index_or finds next found ≡ found = subst (λ (xs : List Find). slice_index_or xs next found ≡ found) same (sym c.index-finds-next.is) in
     record {
+      within = omega arith;
       early = omega arith;
       rest = drop (suc next) finds;
       at = drop-cons finds next found within ∙ ap (λ (f : Find). f ∷ drop (suc next) finds) (is ∙ sym c.in_ok-share.ensures);

@@ -16,7 +16,7 @@ pub returns-then-is_forgotten-clause-goes : goal.returns-then-is_forgotten-claus
 returns-then-is_forgotten-clause-goes g c = λ question log t.
     let path = c.args.search.value.path in
     c.hand.ensures.goes question log (left_of_finds path c.args.next attempt.Forget) (heard_on t)
-    (forgotten_hands c.args.port question log c.args.search.value c.args.heard.value c.args.next c.args.input.now t (c.is_forgotten.ensures.0 c.if-is_forgotten.true))
+    (forgotten_hands c.args.port question log c.args.search.value c.args.heard.value c.args.allowed c.args.next c.args.input.now t (c.is_forgotten.ensures.0 c.if-is_forgotten.true))
     (concluding_less path c.args.next attempt.Forget) (λ early. attempt_less path c.args.next attempt.Forget attempt.Last (omega arith) (omega arith))
 
 pub returns-clause-asks : goal.returns-clause-asks

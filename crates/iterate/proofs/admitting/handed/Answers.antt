@@ -11,7 +11,7 @@ returns-then-is_full-clause-asks g c = λ find handed. full_first find c.args.mo
 pub returns-then-is_full-clause-goes : goal.returns-then-is_full-clause-goes
 returns-then-is_full-clause-goes g c = λ question log t.
     turned c.ask_book.ensures.phase c.ask_book.ensures.want
-    (sweeping c.args.port question log c.args.moment _ c.args.search c.args.heard c.args.next c.args.input.now t (c.is_full.ensures.0 c.if-is_full.true))
+    (sweeping c.args.port question log c.args.moment _ c.args.search c.args.heard c.args.allowed c.args.next c.args.input.now t (c.is_full.ensures.0 c.if-is_full.true))
 
 pub returns-clause-asks : goal.returns-clause-asks
 returns-clause-asks g c = λ find handed.

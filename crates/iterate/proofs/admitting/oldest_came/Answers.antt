@@ -22,7 +22,7 @@ pub returns-in_ok-owner-in-Some-clause-goes : goal.returns-in_ok-owner-in-Some-c
 returns-in_ok-owner-in-Some-clause-goes g c = λ question log t.
     let named = subst (λ (n : Labels). c.args.input.now ≡ Reply (Seen (SeenOldest (Some n)))) (sym c.in_ok-owner-in-Some.ensures) c.in-Some.ensures in
     turned c.ask_book.ensures.phase c.ask_book.ensures.want
-    (forgetting c.args.port question log c.args.moment _ c.args.search c.args.heard c.args.next c.args.input.now c.in_ok-owner-in-Some.owner t named)
+    (forgetting c.args.port question log c.args.moment _ c.args.search c.args.heard c.args.allowed c.args.next c.args.input.now c.in_ok-owner-in-Some.owner t named)
 
 pub returns-in-None-clause-asks : goal.returns-in-None-clause-asks
 returns-in-None-clause-asks g c = λ find. each_ok c.pass.result _ (λ told. none_oldest_asks find c.args.moment c.args.input.now told.want c.in-None.ensures)

@@ -16,7 +16,7 @@ pub returns-then-is_swept-clause-goes : goal.returns-then-is_swept-clause-goes
 returns-then-is_swept-clause-goes g c = λ question log t.
     let path = c.args.search.value.path in
     c.hand.ensures.goes question log (left_of_finds path c.args.next attempt.Sweep) (heard_on t)
-    (swept_hands c.args.port question log c.args.search.value c.args.heard.value c.args.next c.args.input.now t (c.is_swept.ensures.0 c.if-is_swept.true))
+    (swept_hands c.args.port question log c.args.search.value c.args.heard.value c.args.allowed c.args.next c.args.input.now t (c.is_swept.ensures.0 c.if-is_swept.true))
     (concluding_less path c.args.next attempt.Sweep) (λ early. attempt_less path c.args.next attempt.Sweep attempt.Again (omega arith) (omega arith))
 
 pub returns-clause-asks : goal.returns-clause-asks

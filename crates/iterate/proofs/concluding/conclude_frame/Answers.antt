@@ -7,8 +7,8 @@ use Rattle.iterate.proofs.Coming.{from_less}
 use Rattle.iterate.proofs.concluding.conclude_frame.Goals as goal
 
 pub returns-clause-goes : goal.returns-clause-goes
-returns-clause-goes g c = λ question log h.
-    let k = c.in_ok-after.ensures.smaller question log h in
+returns-clause-goes g c = λ question log allowed h.
+    let k = c.in_ok-after.ensures.smaller question log allowed h in
     IfOk-weaker c.go_on.result _ _ (λ t goes. from_less k.falls goes) (c.go_on.ensures.goes c.args.port question log k.is_search k.orderly)
 
 pub returns-clause-refers : goal.returns-clause-refers

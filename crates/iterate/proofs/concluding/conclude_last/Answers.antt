@@ -21,17 +21,17 @@ use Rattle.iterate.proofs.Hearing.{answering_last, denying_last, referring_last,
 use Rattle.iterate.proofs.concluding.conclude_last.Goals as goal
 
 pub returns-in_ok-harvest-in-Answers-clause-goes : goal.returns-in_ok-harvest-in-Answers-clause-goes
-returns-in_ok-harvest-in-Answers-clause-goes g c = λ port question log h.
+returns-in_ok-harvest-in-Answers-clause-goes g c = λ port question log allowed h.
     c.follow_answer.ensures.goes port _ question log
     (subst (λ (x : Harvest). IsAnswering port log c.args.search.path.last x) (sym c.in_ok-harvest-in-Answers.ensures.ok) (answering_last h c.requires c.in-Answers.is))
     (record { is_path = h.is_search.path; unknown = h.is_search.base.unknown })
 
 pub returns-in-Denies-clause-goes : goal.returns-in-Denies-clause-goes
-returns-in-Denies-clause-goes g c = λ port question log h.
+returns-in-Denies-clause-goes g c = λ port question log allowed h.
     c.denied.ensures.goes port c.args.moment _ _ question log (ended_hearing c.args.search.path 1 h.is_search.path) h.is_search.path (denying_last c.in-Denies.rcode c.in-Denies.negative h c.requires c.in-Denies.is)
 
 pub returns-in_ok-refer_base-in-Refers-clause-goes : goal.returns-in_ok-refer_base-in-Refers-clause-goes
-returns-in_ok-refer_base-in-Refers-clause-goes g c = λ port question log h.
+returns-in_ok-refer_base-in-Refers-clause-goes g c = λ port question log allowed h.
     let r = referring_last c.in-Refers.referral c.in_ok-servers-in-Refers.servers h c.requires c.in-Refers.is c.in_ok-servers-in-Refers.ensures in
     let s = c.in_ok-refer_base-in-Refers.ensures.reached port question log h.since h.is_search r in
     IfOk-weaker c.go_on.result _ _ (λ t goes. from_less s.falls goes) (c.go_on.ensures.goes port question log s.is_search s.orderly)

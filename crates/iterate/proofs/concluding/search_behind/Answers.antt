@@ -13,7 +13,7 @@ use Rattle.iterate.proofs.Supplying.{supplied_all}
 use Rattle.iterate.proofs.concluding.search_behind.Goals as goal
 
 pub returns-in-Answers-clause-smaller : goal.returns-in-Answers-clause-smaller
-returns-in-Answers-clause-smaller c = λ question log h.
+returns-in-Answers-clause-smaller c = λ question log allowed h.
     let search_in = c.args.search in
     let all = c.in_ok-addrs-in-Answers.ensures.each log (harvest_heard h) in
     let serve = addresses_serve search_in c.index.result.now c.requires c.index.ensures h.is_search c.in_ok-addrs-in-Answers.addrs.items all in
@@ -22,12 +22,12 @@ returns-in-Answers-clause-smaller c = λ question log h.
     (subst (λ (addrs : List Addr). AllServe c.args.port log (hunt_behind (drop 1 search_in.frames.items) search_in.base).servers addrs) (sym c.deref.ensures.value) serve))
 
 pub returns-in-Denies-clause-smaller : goal.returns-in-Denies-clause-smaller
-returns-in-Denies-clause-smaller c = λ question log h.
+returns-in-Denies-clause-smaller c = λ question log allowed h.
     IfOk-weaker c.close-in-Denies.result _ _ (λ after k. closed_heard c.args.search after h.is_search k)
     (c.close-in-Denies.ensures.further c.args.port question log Turn.heard h.is_search h.orderly tt)
 
 pub returns-clause-smaller : goal.returns-clause-smaller
-returns-clause-smaller c = λ question log h.
+returns-clause-smaller c = λ question log allowed h.
     let r = referring c.in-Refers.referral c.in_ok-servers-in-Refers.servers h c.in-Refers.is c.in_ok-servers-in-Refers.ensures in
     c.refer_frame.ensures.reached c.args.port question log h.since Turn.heard h.is_search h.orderly r
 

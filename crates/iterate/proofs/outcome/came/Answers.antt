@@ -1,6 +1,6 @@
-use Rattle.std.proofs.Common.{◌≡◌, ◌<◌, ◌∷◌, length, sym, ap, ◌∙◌, subst, arith, IfOk}
+use Rattle.std.proofs.Common.{◌≡◌, ℕ, ◌<◌, ◌∷◌, length, sym, ap, ◌∙◌, subst, arith, IfOk}
 use Rattle.iterate.specs.declared.want.Want.TheVariants.{Book}
-use Rattle.iterate.specs.Room.{IsHanded}
+use Rattle.iterate.specs.Room.{IsHanded, allowed_in}
 use Rattle.ranked.specs.declared.find.Find.{Find}
 use Rattle.history.specs.declared.event.Event.TheVariants.{Admit}
 use Rattle.std.proofs.lemmas.Result.{IfOk-weaker}
@@ -57,8 +57,9 @@ returns-clause-goes g c = λ question before log want w suits adds.
     let same : after ≡ counted search_in = c.in_ok-search-in-Heard.ensures.ok ∙ c.counted-in-Heard.ensures (omega (arith, w.some)) in
     let path = ap (λ (x : Search). x.path) same in
     c.admit.ensures.goes question log (left_of_sending search_in.path)
-    (subst (λ (h : Heard). IsHearing c.args.port question log after h) (sym c.in_ok-heard-in-Heard.ensures.ok)
-    (hearing c.args.port question before log want search_in c.args.server c.args.id c.args.over c.args.input.now after c.in-Heard.heard same w adds judged c.one_meaning.ensures.message))
+    (subst (λ (n : ℕ). IsHearing c.args.port question log after c.in_ok-heard-in-Heard.heard.value n) (sym c.allowed_in-allowed.ensures)
+    (subst (λ (h : Heard). IsHearing c.args.port question log after h (allowed_in c.args.input.now c.in-Heard.heard.says)) (sym c.in_ok-heard-in-Heard.ensures.ok)
+    (hearing c.args.port question before log want search_in c.args.server c.args.id c.args.over c.args.input.now after c.in-Heard.heard same w adds judged c.one_meaning.ensures.message)))
     (sent_no_room w.wanted adds)
     (below _ _ (hearing_less search_in.path after.path 1 path (omega arith)))
     (hearing_less search_in.path after.path (attempts_left 0 attempt.Admit) path (omega arith))
@@ -92,5 +93,6 @@ returns-clause-acts g c = λ bytes suits few.
     let zone : c.get.result.now.zone ≡ (hunt_of search_in).servers.zone = ap (λ (s : Servers). s.zone) c.get.ensures ∙ ap (λ (h : Hunt). h.servers.zone) c.hunt.ensures in
     let judged = meant c.args.port c.args.over c.args.id c.args.input.now _ zone c.in_ok-question.ensures (rw c.in-Heard.is at (c.in_ok-judged.ensures c.args.server bytes suits)) in
     acts_heard c.args.port search_in c.args.server c.args.id c.args.over c.args.input.now c.args.moment c.admit.result c.in-Heard.heard judged
-    (subst (λ (h : Heard). (find : Find) → IsHanded h.harvest.finds 0 find → IfOk c.admit.result (λ t. t.want ≡ Book (Admit c.args.moment find)))
-    c.in_ok-heard-in-Heard.ensures.ok c.admit.ensures.hands)
+    (subst (λ (n : ℕ). (find : Find) → IsHanded c.in-Heard.heard.harvest.finds n 0 find → IfOk c.admit.result (λ t. t.want ≡ Book (Admit c.args.moment find))) c.allowed_in-allowed.ensures
+    (subst (λ (h : Heard). (find : Find) → IsHanded h.harvest.finds c.allowed_in-allowed.result 0 find → IfOk c.admit.result (λ t. t.want ≡ Book (Admit c.args.moment find)))
+    c.in_ok-heard-in-Heard.ensures.ok c.admit.ensures.hands))
