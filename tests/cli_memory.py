@@ -267,14 +267,16 @@ look list_local_zones list_local_data list_stubs list_commands list_buried serve
 """.split()
 
 UNTOUCHED = b"0 entries, 0 calls, 0 cells, seen 0, made 0"
+# A full call log (`RECORDED` in `shared_book_drawn`), and the same once its oldest call has left it.
+FULL_LOG, LOG_LESS_ONE = b"60 entries,", b"59 entries,"
 WANT = b"out of memory"
 
 
 def fault_of_steps(whole, done):
     """What is wrong with a run in which an allocation was refused.
 
-    Either the program ended before its first call. Or one call got no memory and changed nothing, and all other replies are as if
-    it had not been made.
+    Either the program ended before its first call. Or one call got no memory and changed nothing but that a full call log may have lost
+    its oldest call, and all other replies are as if it had not been made.
     """
     if done.status == 1 and not done.out:
         return None
@@ -285,14 +287,14 @@ def fault_of_steps(whole, done):
     for place in wants:
         before = lines[place - 1].split(b": ")[0] if place else UNTOUCHED
         after = lines.pop(place).split(b": ")[0]
-        if after != before:
+        if after not in (before, before.replace(FULL_LOG, LOG_LESS_ONE)):
             return f"after {before!r} a call finds no memory, and leaves {after!r}"
     again = b"\n".join(lines)
     return None if again == whole else difference(again, whole)
 
 
 def check_steps(checks, words, kinds, least):
-    """A call that gets no memory leaves the call log, the totals and the pass as they were, and is made again."""
+    """A call that gets no memory leaves the totals and the pass as they were, and the call log but for its oldest call. It is made again."""
     name = " ".join(["recorded calls", *words])
     whole = run([BOOKS, "steps", *words]).out
     for kind in kinds:

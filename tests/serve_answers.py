@@ -279,6 +279,21 @@ def check_journal(checks):
         checks.equal("a journal of two: stopped", service.stop(), STOPPED)
 
 
+def check_short_log(checks):
+    """A call log of four calls moves on past 100 queries, and past two commands and their undos."""
+    with NameServers(WORKED) as servers, serving(servers, "--record", "4") as service:
+        for number in range(50):
+            checks.equal(f"a log of four: query {number}", service.ask("a.test.", "A").words(), ALIAS)
+            if number == 25:
+                told = service.obey("local_zone ads.test. refuse", "flush_zone test.", "undo", "undo")
+                checks.equal("a log of four: commands and their undos", told, ["ok 1", "ok 2", "undone 2", "undone 1"])
+            checks.equal(f"a log of four: query {number} of another name", service.ask("b.test.", "A").words(), "- | answer b.test. A 192.0.2.7")
+        asked = [(ROOT, "udp", "a.test. A"), (TEST, "udp", "a.test. A")]
+        checks.equal("a log of four: each name is resolved once", servers.asked, asked)
+        checks.equal("a log of four: stopped", service.stop(), STOPPED)
+        check_log(checks, "a log of four", service.log())
+
+
 LISTS = {"list_local_zones": "local_zone", "list_local_data": "local_data", "list_stubs": "stub_add"}
 
 
@@ -469,6 +484,7 @@ def main():
     checks.make(check_long_replies)
     checks.make(check_control)
     checks.make(check_journal)
+    checks.make(check_short_log)
     checks.make(check_given_again)
     checks.make(check_full)
     checks.make(check_swept)

@@ -440,7 +440,7 @@ def check_rest(checks):
 
 
 def check_memory(checks):
-    """A hit takes no memory once the call log is full. A larger batch takes more buffers, so 1,000 hits more may allocate some."""
+    """A hit takes no memory, for its entry in the call log neither. A larger batch takes more buffers, so 1,000 hits more may allocate some."""
     once, twice = blocks_of_hits(1_000), blocks_of_hits(2_000)
     few = None not in (once, twice) and 0 < once and twice - once < 100
     checks.check("hits: memory", None if few else f"asked for {once} and {twice} times")

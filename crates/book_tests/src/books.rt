@@ -1,6 +1,7 @@
 //! The plain book, by the calls and events that no line of a script makes.
 
 ghost use Rattle.std.specs.Prelude.{◌≡◌, [], IfOk};
+ghost use Rattle.history.specs.Event.{lagging_of};
 
 use crate::cells::address;
 use crate::outcome::{Outcome, give, outcome_of};
@@ -20,13 +21,30 @@ use undo_book::PlainBook;
 pub fn book(alloc: Global, journal: usize, cells: usize) -> Result<PlainBook, MakeFault>
     ensures { IfOk result (λ b. ⟦<PlainBook as Book>⟧.stands_for b []) }
 {
-    let settings = Settings {
+    PlainBook::new(alloc, settings(alloc, journal, cells))
+}
+
+/// The same, and an opening book to it.
+pub fn books(
+    alloc: Global,
+    journal: usize,
+    cells: usize,
+) -> Result<(PlainBook, PlainBook), MakeFault>
+    ensures lags { IfOk result (λ b. ⟦<PlainBook as Book>⟧.settings b.1 ≡ lagging_of (⟦<PlainBook as Book>⟧.settings b.0)) }
+    ensures fresh { IfOk result (λ b. ⟦<PlainBook as Book>⟧.stands_for b.0 [] × ⟦<PlainBook as Book>⟧.stands_for b.1 []) }
+{
+    let settings = settings(alloc, journal, cells);
+    let opening = PlainBook::lagging(alloc, &settings)?;
+    Ok((PlainBook::new(alloc, settings)?, opening))
+}
+
+fn settings(alloc: Global, journal: usize, cells: usize) -> Settings {
+    Settings {
         journal,
         cells,
         hints: Items::new(Vec::new(alloc)),
         server_port: 53,
-    };
-    PlainBook::new(alloc, settings)
+    }
 }
 
 fn question(alloc: Global) -> Result<Question, Fail> {

@@ -3,5 +3,6 @@
 pub mod events; // what the callers hand in
 pub mod callers; // two callers of one book, and their receipts
 pub mod closing; // whole, and with something wrong
-pub mod limits; // what a book is made with, and a record that is full
+pub mod limits; // what a book is made with
+pub mod moving; // a window that moves on
 pub mod passes; // a pass whose call the book refuses, and two passes in one

@@ -16,7 +16,6 @@ pub fn fall_law<B: Book + 'static, P: CallLedger + 'static, R: Wait + 'static, L
 {}
 
 /// Each reply of the book to a question has a receipt with a higher number than those before it.
-#[tactic(auto, using(crate::proofs::Seats::rises))]
 pub fn rise_law<B: Book + 'static, P: CallLedger + 'static, R: Wait + 'static, L: InFlight>()
     ensures { ReceiptsRise (⟦<Seat<'static, B, P, R> as Desk>⟧.calls) (⟦<Seat<'static, B, P, R> as Numbered>⟧.seen) L.hears P.settings }
 {}

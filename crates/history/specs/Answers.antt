@@ -29,7 +29,12 @@ abbrev pub Answers : Settings → List Event → Event → Result Reply StepFaul
 Answers settings history event answer =
     AnswersBy settings (length history) (count_by is_admission history) (reply_of settings (past_of settings.journal history) event) event answer
 
+-- what a step may answer after a history where nobody reads the reply
+abbrev pub Follows : {A : Type 0} → Settings → List Event → Event → Result A StepFault → Type 0
+Follows settings history event (Ok taken) = IsTimely (length history) event
+Follows settings history event (Err fault) = Answers settings history event (Err fault)
+
 -- An event that is answered with a fault is not in the history.
-abbrev pub history_after : List Event → Event → Result Reply StepFault → List Event
+abbrev pub history_after : {A : Type 0} → List Event → Event → Result A StepFault → List Event
 history_after history event (Ok reply) = history ++ event ∷ []
 history_after history event (Err fault) = history

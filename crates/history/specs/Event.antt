@@ -11,7 +11,7 @@ use Rattle.history.specs.declared.event.Event.TheVariants.{Admit, Look, Sweep, F
 use Rattle.history.specs.declared.event.Settings.{Settings}
 use Rattle.history.specs.declared.event.Command.{Command}
 use Rattle.history.specs.declared.event.Command.TheVariants.{FlushType, Flush, FlushZone}
-use Rattle.history.specs.declared.limits.TheConstants.{MOST_COMMANDS, MOST_CELLS, MOST_HINTS}
+use Rattle.history.specs.declared.limits.TheConstants.{MOST_COMMANDS, MOST_CELLS, MOST_HINTS, LAGGING_CELLS}
 
 -- the moment that an event gives
 abbrev pub moment_of : Event → ℕ
@@ -57,3 +57,7 @@ pub record AreSettings (s : Settings) : Type 0 where
   pub few_cells : s.cells ≤ MOST_CELLS
   pub few_hints : length s.hints ≤ MOST_HINTS
   pub some_port : 1 ≤ s.server_port  -- It has 16 bits.
+
+-- the settings of a book that lags behind one of these: the same, but it may store more cells than it can take events
+abbrev pub lagging_of : Settings → Settings
+lagging_of s = record { journal = s.journal; cells = LAGGING_CELLS; hints = s.hints; server_port = s.server_port }

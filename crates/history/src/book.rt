@@ -7,7 +7,7 @@ ghost use Rattle.history.specs.Event.{is_admission};
 ghost use Rattle.history.specs.History.{past_of, stubs_of, tables_of};
 ghost use Rattle.history.specs.Reply.{seen_of, look_seen};
 ghost use Rattle.history.specs.Servers.{servers_of};
-ghost use Rattle.history.specs.Answers.{Answers, history_after};
+ghost use Rattle.history.specs.Answers.{Answers, Follows, history_after};
 
 use crate::event::{Ask, Event, Look, Reply, Seen, Settings};
 use crate::servers::Servers;
@@ -80,6 +80,24 @@ pub trait Book: Drop {
         ensures same_store { OnErr result (stored self.new ≡ stored self.old) }
         ensures settings { settings self.new ≡ settings self.old };
 
+    /// Takes an event as `step` does, and returns no reply. A book that follows another one needs none, since the other has replied. So
+    /// it may leave out what only replies need, and what has expired until `sweep_some` removes it.
+    fn follow(&mut self, event: Event) -> Result<(), StepFault>
+        ensures answers { (h : List Event) → stands_for self.old h → Follows (settings self.old) h event result }
+        ensures stands { (h : List Event) → stands_for self.old h → stands_for self.new (history_after h event result) }
+        ensures full { (n : ℕ) → IsErrOf result (StepFault.Full n) → stored self.old ≡ n }
+        ensures same_store { OnErr result (stored self.new ≡ stored self.old) }
+        ensures settings { settings self.new ≡ settings self.old }
+    {
+        match self.step(event) {
+            Ok(reply) => {
+                drop(reply);
+                Ok(())
+            }
+            Err(fault) => Err(fault),
+        }
+    }
+
     /// Frees some of the memory of what no reply can show any more, so that no call is long. Returns whether there may be more of it.
     /// It is no event, and takes no memory.
     fn sweep_some(&mut self) -> bool
@@ -113,6 +131,10 @@ pub trait Book: Drop {
     /// How many cells are stored.
     fn stored(&self) -> usize
         ensures { result ≡ stored self.now };
+
+    /// How many cells there may be.
+    fn limit(&self) -> usize
+        ensures { result ≡ (settings self.now).cells };
 
     /// The journal has room for a command.
     ghost has_journal: { (book : Self) (h : List Event) → stands_for book h → 1 ≤ (settings book).journal };

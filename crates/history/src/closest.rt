@@ -85,7 +85,7 @@ fn servers_in_hints(alloc: Global, settings: &Settings) -> Result<Servers, NoMem
     })
 }
 
-fn copy_addrs(alloc: Global, addrs: &Items<Addr>) -> Result<Items<Addr>, NoMemory>
+pub(crate) fn copy_addrs(alloc: Global, addrs: &Items<Addr>) -> Result<Items<Addr>, NoMemory>
     ensures { IfOk result (λ copied. copied ≡ addrs.now) }
 {
     Ok(Items::new(Vec::from_slice(alloc, addrs.as_slice())?))

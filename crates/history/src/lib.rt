@@ -44,8 +44,8 @@ pub use laws::{
     undo_takes_back,
 };
 pub use limits::{
-    MOMENT_END, MOST_CELLS, MOST_COMMANDS, MOST_EVENTS, MOST_HINTS, MakeFault, are_settings,
-    limits_law,
+    LAGGING_CELLS, MOMENT_END, MOST_CELLS, MOST_COMMANDS, MOST_EVENTS, MOST_HINTS, MakeFault,
+    are_settings, limits_law,
 };
 pub use lookup::{share_records, share_stubs, share_zones, sight as question_sight};
 pub use reach::{buried, over, under};

@@ -1,6 +1,7 @@
 //! A book that tells something of each kind.
 
 ghost use Rattle.std.specs.Prelude.{◌≡◌, [], IfOk};
+ghost use Rattle.history.specs.Event.{lagging_of};
 
 use anyhow::anyhow;
 use dns_name::Name;
@@ -15,13 +16,26 @@ use undo_book::{PlainBook, ShelfBook};
 pub fn empty_book(alloc: Global) -> Result<PlainBook, MakeFault>
     ensures { IfOk result (λ b. ⟦<PlainBook as Book>⟧.stands_for b []) }
 {
-    let settings = Settings {
+    PlainBook::new(alloc, small_settings(alloc))
+}
+
+fn small_settings(alloc: Global) -> Settings {
+    Settings {
         journal: 64,
         cells: 100,
         hints: Items::new(Vec::new(alloc)),
         server_port: 53,
-    };
-    PlainBook::new(alloc, settings)
+    }
+}
+
+/// The same, and an opening book to it.
+pub fn empty_books(alloc: Global) -> Result<(PlainBook, PlainBook), MakeFault>
+    ensures lags { IfOk result (λ b. ⟦<PlainBook as Book>⟧.settings b.1 ≡ lagging_of (⟦<PlainBook as Book>⟧.settings b.0)) }
+    ensures fresh { IfOk result (λ b. ⟦<PlainBook as Book>⟧.stands_for b.0 [] × ⟦<PlainBook as Book>⟧.stands_for b.1 []) }
+{
+    let settings = small_settings(alloc);
+    let opening = PlainBook::lagging(alloc, &settings)?;
+    Ok((PlainBook::new(alloc, settings)?, opening))
 }
 
 /// The book of the program, which was given nothing. It can undo one command, and hold as many cells as there may be.

@@ -15,6 +15,7 @@
 //! `wrote OCTETS` for each text. Octets are hexadecimal digits, and so are the texts.
 
 ghost use Rattle.std.specs.Prelude.{◌≡◌, [], IfOk};
+ghost use Rattle.history.specs.Event.{lagging_of};
 
 pub mod messages; // a message is read and written again
 pub mod sharing; // a book that workers share
@@ -59,16 +60,44 @@ impl<'a, B: Book> Obeys for LentBook<'a, B> {
 pub fn largest_book(alloc: Global, hints: Vec<Addr>) -> Result<ShelfBook, Stop>
     ensures { IfOk result (λ book. ⟦<ShelfBook as Book>⟧.stands_for book []) }
 {
-    let settings = Settings {
+    match ShelfBook::new(alloc, largest_settings(hints)) {
+        Ok(book) => Ok(book),
+        Err(fault) => Err(stop_of(fault)),
+    }
+}
+
+/// The same without hints, and an opening book to it.
+pub fn largest_books(alloc: Global) -> Result<(ShelfBook, ShelfBook), Stop>
+    ensures lags { IfOk result (λ b. ⟦<ShelfBook as Book>⟧.settings b.1 ≡ lagging_of (⟦<ShelfBook as Book>⟧.settings b.0)) }
+    ensures fresh { IfOk result (λ b. ⟦<ShelfBook as Book>⟧.stands_for b.0 [] × ⟦<ShelfBook as Book>⟧.stands_for b.1 []) }
+{
+    let settings = largest_settings(Vec::new(alloc));
+    let opening = match ShelfBook::lagging(alloc, &settings) {
+        Ok(opening) => opening,
+        Err(fault) => return Err(stop_of(fault)),
+    };
+    match ShelfBook::new(alloc, settings) {
+        Ok(book) => Ok((book, opening)),
+        Err(fault) => {
+            drop(opening);
+            Err(stop_of(fault))
+        }
+    }
+}
+
+fn largest_settings(hints: Vec<Addr>) -> Settings {
+    Settings {
         journal: MOST_COMMANDS,
         cells: MOST_CELLS,
         hints: Items::new(hints),
         server_port: DNS_PORT,
-    };
-    match ShelfBook::new(alloc, settings) {
-        Ok(book) => Ok(book),
-        Err(MakeFault::BadSettings) => Err(Stop::Device),
-        Err(MakeFault::NoMemory) => Err(Stop::NoMemory),
+    }
+}
+
+fn stop_of(fault: MakeFault) -> Stop {
+    match fault {
+        MakeFault::BadSettings => Stop::Device,
+        MakeFault::NoMemory => Stop::NoMemory,
     }
 }
 

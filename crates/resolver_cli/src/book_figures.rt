@@ -232,6 +232,12 @@ impl<B: Book> Book for WatchedBook<B> {
         replied
     }
 
+    // Nobody reads the figures of a book that follows another one. A lookup changes none, and other events are steps of a book that
+    // replies.
+    fn follow(&mut self, event: Event) -> Result<(), StepFault> {
+        self.book.follow(event)
+    }
+
     fn sweep_some(&mut self) -> bool {
         let more = self.book.sweep_some();
         set(&self.figures.get().cells, self.book.stored() as u64);
@@ -260,5 +266,9 @@ impl<B: Book> Book for WatchedBook<B> {
 
     fn stored(&self) -> usize {
         self.book.stored()
+    }
+
+    fn limit(&self) -> usize {
+        self.book.limit()
     }
 }

@@ -1,11 +1,12 @@
 //! The mode `serve`: workers and a sweeper in threads of their own over one shared book, and operators at the control socket.
 
-ghost use Rattle.std.specs.Prelude.{◌≡◌, ◌+◌, ◌≤◌, []};
+ghost use Rattle.std.specs.Prelude.{◌≡◌, ◌+◌, ◌≤◌, [], IfOk};
 ghost use Rattle.shared_book.specs.declared.kept.TheConstants.{MOST_RECORDED};
 ghost use Rattle.resolver_args.specs.declared.mode.TheConstants.{MOST_WORKERS};
 ghost use Rattle.resolver_args.specs.Mode.{IsService};
+ghost use Rattle.history.specs.Event.{lagging_of};
 
-use crate::book_figures::WatchedBook;
+use crate::book_figures::{BookFigures, WatchedBook};
 use crate::fault::CliFault;
 use crate::first_phase::obey_first;
 use crate::gauges::Gauges;
@@ -21,8 +22,9 @@ use crate::worker::{
 };
 use cell_store::NameSeed;
 use dns_sockets::place_of;
+use dns_text::Shared;
 use flight_sockets::{Asking, Permits, Waker, ZoneShares};
-use history::Book;
+use history::{Book, MakeFault, Settings};
 use log::{Log, info};
 use resolver_args::Service;
 use shared_book::{Blank, CallLedger, Pass, Seat, SharedBook};
@@ -64,7 +66,7 @@ fn obey<L: CallLedger, R: Wait + Clock + Log + Print>(
     if println!(rt; "ready").is_err() {
         return Err(CliFault::failed_write());
     }
-    let desk = Seat::new(rt, alloc, lent.book, pass);
+    let desk = Seat::new(rt, lent.book, pass);
     obey_operators(rt, alloc, lent, queue, desk);
     Ok(())
 }
@@ -95,9 +97,7 @@ where
         tcp,
     } = workers;
     thread::scope(thread::scope_env(), rt, |scope| {
-        let mut started = scope
-            .spawn(move || sweep_often(rt, alloc, lent, sweeper))
-            .is_ok();
+        let mut started = scope.spawn(move || sweep_often(rt, lent, sweeper)).is_ok();
         started &= scope.spawn(move || write_often(rt, lent)).is_ok();
         for worker in udp {
             started &= scope
@@ -147,14 +147,15 @@ where
     }
 }
 
-/// Serves at these sockets, over a book that has taken no event yet. First it obeys the lines of the file, if there is one:
-/// queries that arrive meanwhile wait in the sockets.
+/// Serves at these sockets, over two books that have taken no event yet, of which the opening book lags behind. First it obeys the
+/// lines of the file, if there is one: queries that arrive meanwhile wait in the sockets.
 fn serve_over<L: CallLedger + Send + Sync, R, F: Files>(
     rt: &R,
     files: &F,
     alloc: Global,
     blank: Blank,
     book: ServiceBook,
+    opening: ServiceBook,
     record_limit: u64,
     terms: Terms<'_>,
     gauges: &Gauges,
@@ -173,19 +174,20 @@ where
         + Net<Stream = TcpStream, Listener = TcpListener>,
     requires name { blank.name ≡ L.name }
     requires parts { blank.parts ≡ L.parts }
-    requires some_parts { 1 ≤ blank.parts }
     requires limit { record_limit ≡ L.limit }
-    requires recorded { (1 ≤ record_limit) × (record_limit ≤ MOST_RECORDED) }
+    requires counts { (1 ≤ blank.parts) × ((1 ≤ record_limit) × (record_limit ≤ MOST_RECORDED)) }
     requires settings { ⟦<WatchedBook<ShelfBook> as Book>⟧.settings book ≡ L.settings }
+    requires lags { ⟦<WatchedBook<ShelfBook> as Book>⟧.settings opening ≡ lagging_of L.settings }
     requires few_workers { terms.udp + terms.tcp ≤ MOST_WORKERS }
-    requires fresh { ⟦<WatchedBook<ShelfBook> as Book>⟧.stands_for book [] }
+    requires fresh { ⟦<WatchedBook<ShelfBook> as Book>⟧.stands_for book []
+        × ⟦<WatchedBook<ShelfBook> as Book>⟧.stands_for opening [] }
 {
-    let (shared, mut pass) = SharedBook::<ServiceBook, L>::new(
-        alloc,
-        blank,
-        book,
-        record_limit,
-    ).unwrap();
+    let made = SharedBook::<ServiceBook, L>::new(alloc, blank, book, opening, record_limit);
+    let (shared, mut pass) = match made {
+        Ok(made) => made,
+        Err(MakeFault::NoMemory) => return Err(CliFault::no_memory()),
+        Err(MakeFault::BadSettings) => unreachable!(),
+    };
     let Bound {
         sockets,
         udp,
@@ -215,6 +217,23 @@ fn drawn_seed<R: RandomSource>(rt: &R) -> Result<NameSeed, CliFault> {
     match rt.fill_bytes(&mut octets) {
         Ok(()) => Ok(NameSeed::new(u128::from_le_bytes(octets))),
         Err(_) => Err(CliFault::cannot_start()),
+    }
+}
+
+/// An opening book to these settings. Nobody reads its figures.
+fn opening_of(alloc: Global, settings: &Settings, seed: NameSeed) -> Result<ServiceBook, CliFault>
+    ensures settings { IfOk result (λ b. ⟦<WatchedBook<ShelfBook> as Book>⟧.settings b ≡ lagging_of settings.now) }
+    ensures fresh { IfOk result (λ b. ⟦<WatchedBook<ShelfBook> as Book>⟧.stands_for b []) }
+{
+    let Ok(figures) = Shared::new(alloc, BookFigures::new(settings)) else {
+        return Err(CliFault::no_memory());
+    };
+    match ShelfBook::lagging_seeded(alloc, settings, seed) {
+        Ok(book) => Ok(WatchedBook::new(alloc, book, figures)),
+        Err(_) => {
+            drop(figures);
+            Err(CliFault::no_memory())
+        }
     }
 }
 
@@ -277,6 +296,7 @@ where
         return Err(CliFault::no_memory());
     };
     // The settings are in range, so only memory can be short.
+    let opening = opening_of(alloc, &service.settings, drawn_seed(rt)?)?;
     let Ok(book) = ShelfBook::seeded(alloc, service.settings, seed) else {
         return Err(CliFault::no_memory());
     };
@@ -289,6 +309,7 @@ where
         alloc,
         blank,
         book,
+        opening,
         record_limit,
         terms,
         &gauges,

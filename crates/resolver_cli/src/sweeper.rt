@@ -7,7 +7,6 @@ use dns_sockets::MonotonicClock;
 use history::{Desk, Event};
 use log::{Log, info, warn};
 use shared_book::{CallLedger, Pass, Seat};
-use std::alloc::Global;
 use std::sync::Wait;
 use std::sync::atomic::Ordering;
 use std::thread;
@@ -19,9 +18,9 @@ const GLANCE_MILLISECONDS: u64 = 50;
 /// The least time between two sweeps, in milliseconds. A TTL counts whole seconds, so more sweeps would remove no more.
 const LEAST_MILLISECONDS: u64 = 1_000;
 
-/// A cache of a million names is swept within so many turns: each visits 256 names at most, first for a permanent flush, then to
-/// remove what it has emptied.
-const MOST_TURNS: u32 = 8_192;
+/// A cache of a million names is swept within so many turns, and so is the opening book's: each turn visits 256 names of one of them at
+/// most, first for a permanent flush, then to remove what it has emptied.
+const MOST_TURNS: u32 = 16_384;
 
 /// The time between two turns, in microseconds. Whoever waits for the lock gets it then.
 const BETWEEN_TURNS: u64 = 50;
@@ -33,11 +32,10 @@ const RESTS: u64 = 199;
 /// Sweeps now and then, until the service stops. Each sweep is an event of the history, as an operator's `sweep` is.
 pub(crate) fn sweep_often<L: CallLedger, R: Wait + std::rt::Clock + Log>(
     rt: &R,
-    alloc: Global,
     lent: &Lent<'_, L>,
     pass: Pass<L>,
 ) {
-    let mut desk = Seat::new(rt, alloc, lent.book, pass);
+    let mut desk = Seat::new(rt, lent.book, pass);
     let mut clock = MonotonicClock::new(rt, lent.terms.start);
     let mut due = LEAST_MILLISECONDS;
     let mut room = Room::new();

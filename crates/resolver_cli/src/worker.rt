@@ -192,7 +192,7 @@ where
         ids,
         mut worker,
     } = over;
-    let mut desk = Seat::new(rt, alloc, lent.book, pass);
+    let mut desk = Seat::new(rt, lent.book, pass);
     let clock = MonotonicClock::new(rt, lent.terms.start);
     fly_udp(
         rt,
@@ -221,7 +221,7 @@ where
         ids,
         mut worker,
     } = over;
-    let mut desk = Seat::new(rt, alloc, lent.book, pass);
+    let mut desk = Seat::new(rt, lent.book, pass);
     let clock = MonotonicClock::new(rt, lent.terms.start);
     fly_tcp(
         rt,

@@ -7,7 +7,8 @@ use Rattle.history.specs.declared.event.Settings.{Settings}
 use Rattle.history.specs.declared.book.StepFault.{StepFault}
 use Rattle.history.specs.declared.book.StepFault.TheVariants.{BadMoment, CountEnded, Full, NoMemory}
 use Rattle.history.specs.declared.limits.TheConstants.{MOST_EVENTS}
-use Rattle.history.specs.Answers.{Answers}
+use Rattle.history.specs.Answers.{Answers, IsTimely}
+use Rattle.history.specs.Desk.{IsStep as IsBookStep}
 use Rattle.history.specs.History.{past_of}
 use Rattle.history.specs.Reply.{reply_of}
 use Rattle.shared_book.specs.declared.fault.CallFault.{CallFault}
@@ -16,14 +17,36 @@ use Rattle.shared_book.specs.declared.receipt.Receipt.{Receipt}
 use Rattle.shared_book.specs.Pass.{PassState, after_call}
 use Rattle.shared_book.specs.Kept.{KeptState, IsKept, IsStep, IsCalled}
 use Rattle.shared_book.specs.Calling.{IsReason, IsCallReply, IsFaultOf, IsCall, IsLocked, IsShared, IsReceiptOf, IsJustified, SeatCall, fault_at_desk}
+use Rattle.shared_book.proofs.RecordLaws.{all_events, as_many}
+
+-- a fault that a history explains has its reason
+reason : (settings made_with : Settings) (h : List Event) (event : Event) (fault : StepFault) → made_with ≡ settings → Answers made_with h event (Err fault) → IsReason settings event fault
+reason settings made_with h event BadMoment same answers = answers
+reason settings made_with h event CountEnded same answers = answers.0
+reason settings made_with h event (Full n) same answers = (answers.1, answers.2 ∙ ap (λ (s : Settings). s.cells) same)
+reason settings made_with h event NoMemory same answers = tt
 
 module _ {B : Type 0} (stands_for : B → List Event → Type 0) (made_with : B → Settings) (stored : B → ℕ) where
+  -- the step of the book in a step under the lock
+  pub step_of_book : (before after : KeptState B) (pass pass' : PassState) (event : Event) (answer : Result Reply StepFault)
+      → IsStep stands_for made_with stored before pass event answer after pass' → IsBookStep stands_for made_with stored before.book event answer after.book
+  step_of_book before after pass pass' event answer step =
+      subst (λ (b : B). IsBookStep stands_for made_with stored b event answer after.book) step.moves.same_book step.taken.book
+
+  -- what such a step may answer
+  answers_of : (before after : KeptState B) (pass pass' : PassState) (event : Event) (answer : Result Reply StepFault) (kept : IsKept stands_for made_with before)
+      → IsStep stands_for made_with stored before pass event answer after pass' → Answers (made_with before.book) (all_events stands_for made_with before kept) event answer
+  answers_of before after pass pass' event answer kept step =
+      let book : IsBookStep stands_for made_with stored before.book event answer after.book = step_of_book before after pass pass' event answer step in
+      book.answers (all_events stands_for made_with before kept) kept.stands
+
   ended : (before after : KeptState B) (pass pass' : PassState) (event : Event) (answer : Result Reply CallFault) → IsKept stands_for made_with before
       → IsCall stands_for made_with stored before pass event answer after pass' → IsErrOf answer (Step CountEnded) → MOST_EVENTS ≤ before.total
   ended before after pass pass' event (Ok reply) kept call is = (cc)
   ended before after pass pass' event (Err (Step BadMoment)) kept call is = (cc)
   ended before after pass pass' event (Err (Step CountEnded)) kept call is =
-      let answers = call.1.book.answers kept.history kept.stands in omega (arith, answers.1, kept.counted)
+      let answers = answers_of before after pass pass' event (Err CountEnded) kept call.1 in
+      omega (arith, answers.1, as_many stands_for made_with before kept)
   ended before after pass pass' event (Err (Step (Full n))) kept call is = (cc)
   ended before after pass pass' event (Err (Step NoMemory)) kept call is = (cc)
   ended before after pass pass' event (Err (Behind at)) kept call is = (cc)
@@ -34,7 +57,43 @@ module _ {B : Type 0} (stands_for : B → List Event → Type 0) (made_with : B 
   locked settings before after pass pass' event answer kept same call =
       record { before = before; after = after; kept = kept; same_settings = same; call = call; ended = ended before after pass pass' event answer kept call }
 
-  -- the receipt of a call that is not recorded is the one that the record would have
+  replied_by : (settings : Settings) (before after : KeptState B) (pass pass' : PassState) (event : Event) (reply : Reply) → IsKept stands_for made_with before
+      → made_with before.book ≡ settings → IsCall stands_for made_with stored before pass event (Ok reply) after pass' → IsCallReply settings pass event reply pass'
+  replied_by settings before after pass pass' event reply kept same call =
+      let history : List Event = all_events stands_for made_with before kept in
+      let step : IsStep stands_for made_with stored before pass event (Ok reply) after pass' = call.1 in
+      let called : IsCalled step.between after pass event reply pass' = step.taken.called in
+      let answers : Answers (made_with before.book) history event (Ok reply) = answers_of before after pass pass' event (Ok reply) kept step in
+      let seen : pass'.seen ≡ after.total = ap (λ (p : PassState). p.seen) called.counted in
+      let many : length history ≡ before.total = as_many stands_for made_with before kept in
+      let place : pass'.seen ≡ length history + 1 = omega (arith, seen, called.total, step.moves.same_total, many) in
+      record {
+        counted = called.counted ∙ ap (after_call pass) (sym seen);
+        later = omega (arith, call.0, place, many);
+        justified = record {
+          history = history;
+          place = place;
+          timely = answers.0;
+          reply_is = subst (λ (s : Settings). reply ≡ reply_of s (past_of s.journal history) event) same answers.1;
+        };
+      }
+
+  -- what a caller knows of its reply
+  pub replied : (settings : Settings) (before after : KeptState B) (pass pass' : PassState) (event : Event) (answer : Result Reply CallFault) → IsKept stands_for made_with before
+      → made_with before.book ≡ settings → IsCall stands_for made_with stored before pass event answer after pass' → IfOk answer (λ reply. IsCallReply settings pass event reply pass')
+  replied settings before after pass pass' event (Ok reply) kept same call = replied_by settings before after pass pass' event reply kept same call
+  replied settings before after pass pass' event (Err fault) kept same call = tt
+
+  -- what a caller knows of a fault
+  pub refused : (settings : Settings) (before after : KeptState B) (pass pass' : PassState) (event : Event) (answer : Result Reply CallFault) → IsKept stands_for made_with before
+      → made_with before.book ≡ settings → IsCall stands_for made_with stored before pass event answer after pass' → IfErr answer (λ fault. IsFaultOf settings pass event fault pass')
+  refused settings before after pass pass' event (Ok reply) kept same call = tt
+  refused settings before after pass pass' event (Err (Step fault)) kept same call =
+      let history : List Event = all_events stands_for made_with before kept in
+      record { reason = reason settings (made_with before.book) history event fault same (answers_of before after pass pass' event (Err fault) kept call.1); same = call.1.taken.same_pass }
+  refused settings before after pass pass' event (Err (Behind at)) kept same call = record { reason = omega (arith, call.0, call.1); same = call.3 }
+
+  -- a caller who gets no receipt knows as much as from its receipt
   pub seat_reply : (settings : Settings) (pass pass' : PassState) (event : Event) (reply : Reply) (receipt : Receipt) → receipt.reply ≡ reply
       → IsReceiptOf pass event receipt pass' → IsJustified settings receipt.number event receipt.reply → IsShared stands_for made_with stored settings pass event (Ok receipt.reply) pass'
       → SeatCall stands_for made_with stored settings pass event (Ok reply) pass'

@@ -1,5 +1,6 @@
 -- The receipts with which a book was closed are of one history.
-use Rattle.std.proofs.Common.{◌≡◌, ℕ, zero, suc, ◌+◌, ◌<◌, ◌≤◌, None, List, [], ◌∷◌, ◌++◌, length, get_or, refl, sym, ◌∙◌, ap, subst, arith, append_assoc, length-append}
+use Rattle.std.proofs.Common.{◌≡◌, ℕ, zero, suc, ◌+◌, ◌-◌, ◌<◌, ◌≤◌, Bool, true, false, cond, leb, None, List, [], ◌∷◌, ◌++◌, length, get_or, refl, sym, ◌∙◌, ap, subst, arith, append_assoc, length-append}
+use Rattle.std.proofs.lemmas.Bool.{le-leb}
 use Rattle.std.specs.Prelude.{All, AllPairs, Contains}
 use Rattle.std.proofs.lemmas.List.{length-map}
 use Rattle.std.proofs.lemmas.List.Elements.{All-cons, All-nil, All-weaker, All-contains}
@@ -10,8 +11,8 @@ use Rattle.history.specs.declared.event.Settings.{Settings}
 use Rattle.shared_book.specs.declared.receipt.Receipt.{Receipt}
 use Rattle.shared_book.specs.Pass.{PassState}
 use Rattle.shared_book.specs.Record.{events_of, IsLegalAfter}
-use Rattle.shared_book.specs.Kept.{KeptState, IsWholeRecord}
-use Rattle.shared_book.specs.Closing.{ClosesAs}
+use Rattle.shared_book.specs.Kept.{KeptState, IsKept}
+use Rattle.shared_book.specs.Closing.{ClosesAs, numbered_from}
 use Rattle.shared_book.specs.OneHistory.{IsPlaced, AreOfCaller, AreOfOneHistory, ClosedIsOneHistory}
 
 placed_after : (settings : Settings) (h : List Event) (entries : List Receipt) → IsLegalAfter settings h entries → All (IsPlaced settings (h ++ events_of entries)) entries
@@ -66,23 +67,40 @@ rise first last (r ∷ own) calls =
     AllPairs-cons (λ a b. a.number < b.number) r own (All-weaker (λ x. after.seen < x.number) (λ x. r.number < x.number) (λ x lt. omega (arith, lt, counted)) own (above after last own calls.5))
     (rise after last own calls.5)
 
+-- a receipt that is not behind the window is among those that are not
+contained_from : (first : ℕ) (receipts : List Receipt) (r : Receipt) → first ≤ r.number → Contains receipts r → Contains (numbered_from first receipts) r
+contained_from first [] r within (i, lt, is) = absurd (omega (arith, lt))
+contained_from first (x ∷ xs) r within (zero, lt, is) =
+    let here : leb first x.number ≡ true = le-leb first x.number (subst (λ (y : Receipt). first ≤ y.number) (sym is) within) in
+    rw here (zero, omega arith, is)
+contained_from first (x ∷ xs) r within (suc i, lt, is) = behind (leb first x.number) x (numbered_from first xs) (contained_from first xs r within (i, omega (arith, lt), is)) where
+  behind : (b : Bool) (x : Receipt) (rest : List Receipt) → Contains rest r → Contains (cond b (x ∷ rest) rest) r
+  behind true x rest is = contains_more x r rest is
+  behind false x rest is = is
+
 pub one_history : {B : Type 0} (stands_for : B → List Event → Type 0) (settings : B → Settings) → ClosedIsOneHistory stands_for settings
-one_history stands_for settings kept passes receipts closed whole =
-    let history : List Event = events_of kept.entries in
+one_history stands_for settings kept passes receipts closed k =
     let made_with : Settings = settings kept.book in
+    let history : List Event = k.before ++ events_of kept.window in
+    let given : List Receipt = numbered_from kept.first receipts in
     let in_order = closed.1.moved in
-    let back = IsPermutation-sym receipts kept.entries in_order in
-    let placed : All (IsPlaced made_with history) receipts
-    = All-permutation (IsPlaced made_with history) kept.entries receipts back (placed_after made_with [] kept.entries whole.legal) in
-    let many : length history ≡ length kept.entries = length-map kept.entries (λ (x : Receipt). x.event) in
+    let back = IsPermutation-sym given kept.window in_order in
+    let placed : All (IsPlaced made_with history) given
+    = All-permutation (IsPlaced made_with history) kept.window given back (placed_after made_with k.before kept.window k.legal) in
+    let many : length history ≡ kept.total
+    = length-append k.before (events_of kept.window) ∙ ap (λ n. length k.before + n) (length-map kept.window (λ (x : Receipt). x.event)) ∙ k.counted in
     record {
       history = history;
-      stands = whole.stands;
-      as_many = sym (length_permutation receipts kept.entries in_order) ∙ sym many;
+      stands = k.stands;
+      as_many = many;
       placed = placed;
-      each_event = λ n within.
-          let one = numbered made_with [] kept.entries whole.legal n (omega (arith, within, many)) in
-          (one.0, Contains-permutation kept.entries receipts one.0 back one.1, omega (arith, one.2));
-      in_turn = λ first last own calls held.
-          (rise first last own calls, All-weaker (Contains receipts) (IsPlaced made_with history) (λ r is. All-contains (IsPlaced made_with history) receipts r placed is) own held, caller_is first last own calls);
+      each_event = λ n from within.
+          let one = numbered made_with k.before kept.window k.legal (n - kept.first) (omega (arith, from, within, many, k.numbered, k.counted)) in
+          (one.0, Contains-permutation kept.window given one.0 back one.1, omega (arith, one.2, from, k.numbered));
+      in_turn = λ first last own calls held. (
+        rise first last own calls,
+        All-weaker (Contains receipts) (λ r. kept.first ≤ r.number → IsPlaced made_with history r)
+            (λ r is from. All-contains (IsPlaced made_with history) given r placed (contained_from kept.first receipts r from is)) own held,
+        caller_is first last own calls,
+      );
     }

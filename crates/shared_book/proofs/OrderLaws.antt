@@ -9,10 +9,10 @@ use Rattle.std.specs.Cmp.{nat_cmp_is}
 use Rattle.std.specs.declared.cmp.Ordering.TheVariants.{Equal}
 use Rattle.shared_book.specs.declared.receipt.Receipt.{Receipt}
 use Rattle.shared_book.specs.declared.fault.CloseFault.{CloseFault}
-use Rattle.shared_book.specs.declared.fault.CloseFault.TheVariants.{NotWhole, Missing, Mismatch, NoMemory}
+use Rattle.shared_book.specs.declared.fault.CloseFault.TheVariants.{Missing, Mismatch, NoMemory}
 use Rattle.shared_book.specs.Pass.{PassState}
 use Rattle.shared_book.specs.Kept.{KeptState}
-use Rattle.shared_book.specs.Closing.{IsInOrder, IsFirstOther, IsComplete, ClosesAs, AgreeButMemory}
+use Rattle.shared_book.specs.Closing.{IsInOrder, IsFirstOther, IsComplete, IsMissing, ClosesAs, AgreeButMemory, numbered_from}
 
 abbrev below : Receipt → Receipt → Bool
 below x y = is_lt (nat_cmp x.number y.number)
@@ -149,41 +149,44 @@ one_place first m n xs es o p =
 
 -- ---- one verdict
 
+-- what is missing is not complete
+not_complete : {B : Type 0} (kept : KeptState B) (passes : List PassState) (receipts : List Receipt) (count : ℕ) → IsComplete kept passes receipts → 0 < count → IsMissing kept passes receipts count → ⊥
+not_complete kept ps rs count all some (inl calls) = omega (arith, all.gathered, calls, some)
+not_complete kept ps rs count all some (inr more) = omega (arith, all.handed_in, more.1, some)
+
+-- so much is missing
+one_missing : {B : Type 0} (kept : KeptState B) (passes : List PassState) (receipts : List Receipt) (c d : ℕ) → 0 < c → 0 < d → IsMissing kept passes receipts c → IsMissing kept passes receipts d → c ≡ d
+one_missing kept ps rs c d some more (inl p) (inl q) = omega (arith, p, q)
+one_missing kept ps rs c d some more (inl p) (inr q) = absurd (omega (arith, p, q.0, some))
+one_missing kept ps rs c d some more (inr p) (inl q) = absurd (omega (arith, q, p.0, more))
+one_missing kept ps rs c d some more (inr p) (inr q) = omega (arith, p.1, q.1)
+
 -- where all is handed in, memory may be wanted in place of what the order tells alone
 memory_of_order : {B : Type 0} (kept : KeptState B) (passes : List PassState) (receipts : List Receipt) (b : Option CloseFault)
     → IsComplete kept passes receipts → ClosesAs kept passes receipts b → AgreeButMemory (Some NoMemory) b
 memory_of_order kept ps rs None all q = inr (inl (refl, tt))
 memory_of_order kept ps rs (Some (Mismatch n)) all q = inr (inl (refl, tt))
 memory_of_order kept ps rs (Some NoMemory) all q = inl refl
-memory_of_order kept ps rs (Some NotWhole) all q = absurd (omega (arith, all.recorded, q))
-memory_of_order kept ps rs (Some (Missing c)) all q = absurd (omega (arith, all.handed_in, all.gathered, q.1, q.2))
+memory_of_order kept ps rs (Some (Missing c)) all q = absurd (not_complete kept ps rs c all q.0 q.1)
 
 pub one_verdict : {B : Type 0} (kept : KeptState B) (passes : List PassState) (receipts : List Receipt) (a b : Option CloseFault)
     → ClosesAs kept passes receipts a → ClosesAs kept passes receipts b → AgreeButMemory a b
 one_verdict kept ps rs (Some NoMemory) b p q = memory_of_order kept ps rs b p.0 q
 one_verdict kept ps rs None (Some NoMemory) p q = inr (inr (refl, tt))
 one_verdict kept ps rs (Some (Mismatch m)) (Some NoMemory) p q = inr (inr (refl, tt))
-one_verdict kept ps rs (Some NotWhole) (Some NoMemory) p q = absurd (omega (arith, q.0.recorded, p))
-one_verdict kept ps rs (Some (Missing c)) (Some NoMemory) p q = absurd (omega (arith, q.0.handed_in, q.0.gathered, p.1, p.2))
+one_verdict kept ps rs (Some (Missing c)) (Some NoMemory) p q = absurd (not_complete kept ps rs c q.0 p.0 p.1)
 one_verdict kept ps rs None None p q = inl refl
-one_verdict kept ps rs None (Some NotWhole) p q = absurd (omega (arith, p.0.recorded, q))
-one_verdict kept ps rs None (Some (Missing c)) p q = absurd (omega (arith, p.0.handed_in, p.0.gathered, q.1, q.2))
+one_verdict kept ps rs None (Some (Missing c)) p q = absurd (not_complete kept ps rs c p.0 q.0 q.1)
 one_verdict kept ps rs None (Some (Mismatch n)) p q =
-    let o = subst (λ (xs : List Receipt). IsFirstOther kept.first n xs kept.entries) (in_order_unique rs q.1.0 kept.entries q.1.1 p.1) q.1.2 in
-    absurd (no_other kept.first n kept.entries o)
-one_verdict kept ps rs (Some NotWhole) None p q = absurd (omega (arith, q.0.recorded, p))
-one_verdict kept ps rs (Some NotWhole) (Some NotWhole) p q = inl refl
-one_verdict kept ps rs (Some NotWhole) (Some (Missing c)) p q = absurd (omega (arith, p, q.0))
-one_verdict kept ps rs (Some NotWhole) (Some (Mismatch n)) p q = absurd (omega (arith, p, q.0.recorded))
-one_verdict kept ps rs (Some (Missing c)) None p q = absurd (omega (arith, q.0.handed_in, q.0.gathered, p.1, p.2))
-one_verdict kept ps rs (Some (Missing c)) (Some NotWhole) p q = absurd (omega (arith, q, p.0))
-one_verdict kept ps rs (Some (Missing c)) (Some (Missing d)) p q = let e : c ≡ d = omega (arith, p.2, q.2) in inl (ap (λ n. Some (Missing n)) e)
-one_verdict kept ps rs (Some (Missing c)) (Some (Mismatch n)) p q = absurd (omega (arith, q.0.handed_in, q.0.gathered, p.1, p.2))
+    let o = subst (λ (xs : List Receipt). IsFirstOther kept.first n xs kept.window) (in_order_unique (numbered_from kept.first rs) q.1.0 kept.window q.1.1 p.1) q.1.2 in
+    absurd (no_other kept.first n kept.window o)
+one_verdict kept ps rs (Some (Missing c)) None p q = absurd (not_complete kept ps rs c q.0 p.0 p.1)
+one_verdict kept ps rs (Some (Missing c)) (Some (Missing d)) p q = let e : c ≡ d = one_missing kept ps rs c d p.0 q.0 p.1 q.1 in inl (ap (λ n. Some (Missing n)) e)
+one_verdict kept ps rs (Some (Missing c)) (Some (Mismatch n)) p q = absurd (not_complete kept ps rs c q.0 p.0 p.1)
 one_verdict kept ps rs (Some (Mismatch n)) None p q =
-    let o = subst (λ (xs : List Receipt). IsFirstOther kept.first n xs kept.entries) (in_order_unique rs p.1.0 kept.entries p.1.1 q.1) p.1.2 in
-    absurd (no_other kept.first n kept.entries o)
-one_verdict kept ps rs (Some (Mismatch n)) (Some NotWhole) p q = absurd (omega (arith, q, p.0.recorded))
-one_verdict kept ps rs (Some (Mismatch n)) (Some (Missing c)) p q = absurd (omega (arith, p.0.handed_in, p.0.gathered, q.1, q.2))
+    let o = subst (λ (xs : List Receipt). IsFirstOther kept.first n xs kept.window) (in_order_unique (numbered_from kept.first rs) p.1.0 kept.window p.1.1 q.1) p.1.2 in
+    absurd (no_other kept.first n kept.window o)
+one_verdict kept ps rs (Some (Mismatch n)) (Some (Missing c)) p q = absurd (not_complete kept ps rs c p.0 q.0 q.1)
 one_verdict kept ps rs (Some (Mismatch m)) (Some (Mismatch n)) p q =
-    let o = subst (λ (xs : List Receipt). IsFirstOther kept.first m xs kept.entries) (in_order_unique rs p.1.0 q.1.0 p.1.1 q.1.1) p.1.2 in
-    inl (ap (λ k. Some (Mismatch k)) (one_place kept.first m n q.1.0 kept.entries o q.1.2))
+    let o = subst (λ (xs : List Receipt). IsFirstOther kept.first m xs kept.window) (in_order_unique (numbered_from kept.first rs) p.1.0 q.1.0 p.1.1 q.1.1) p.1.2 in
+    inl (ap (λ k. Some (Mismatch k)) (one_place kept.first m n q.1.0 kept.window o q.1.2))

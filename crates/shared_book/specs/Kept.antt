@@ -1,74 +1,112 @@
 -- What lies under the lock.
-use Rattle.std.specs.Prelude.{◌≡◌, ℕ, ◌+◌, ◌<◌, ◌≤◌, ◌^◌, List, [], ◌∷◌, ◌++◌, length, take, refl, Result, IfOk, OnErr}
+use Rattle.std.specs.Prelude.{◌≡◌, ◌⊎◌, ℕ, ◌+◌, ◌-◌, ◌<◌, ◌≤◌, ◌^◌, min, List, [], ◌∷◌, ◌++◌, length, refl, Result, IfOk, OnOk, OnErr}
 use Rattle.std.specs.Coded.{Coded, code_by, coded×, coded_ℕ, coded_list}
+use Rattle.std.specs.List.{AllByRecursion}
 use Rattle.history.specs.declared.event.Event.{Event}
 use Rattle.history.specs.declared.event.Reply.{Reply}
 use Rattle.history.specs.declared.event.Settings.{Settings}
 use Rattle.history.specs.declared.book.StepFault.{StepFault}
+use Rattle.history.specs.declared.limits.TheConstants.{MOMENT_END}
 use Rattle.history.specs.Desk.{IsStep as IsBookStep}
+use Rattle.history.specs.Event.{moment_of, lagging_of}
 use Rattle.shared_book.specs.declared.receipt.Receipt.{Receipt}
 use Rattle.shared_book.specs.Pass.{PassState, after_call}
 use Rattle.shared_book.specs.Record.{receipt_for, events_of, IsLegalAfter}
 
--- the book, the record of its calls, their total, and how many callers were numbered
+-- the book, the opening book, the window of the last calls, the total of all calls, and how many callers were numbered
 pub record KeptState (B : Type 0) : Type 0 where
   pub book : B
-  pub first : ℕ  -- the number of the first entry
-  pub entries : List Receipt
-  pub limit : ℕ  -- how many calls can be recorded
+  pub opening : B  -- the book as it was before the calls of the window
+  pub first : ℕ  -- the number of the window's first call
+  pub window : List Receipt
+  pub limit : ℕ  -- how many calls the window can have
   pub total : ℕ
   pub callers : ℕ
 
--- a book that has taken no event, with a record of no calls, which takes so many
-abbrev pub first_kept : {B : Type 0} → B → ℕ → KeptState B
-first_kept book limit = record { book = book; first = 1; entries = []; limit = limit; total = 0; callers = 1 }
+-- two books that have taken no event, and a window for so many calls
+abbrev pub first_kept : {B : Type 0} → B → B → ℕ → KeptState B
+first_kept book opening limit = record { book = book; opening = opening; first = 1; window = []; limit = limit; total = 0; callers = 1 }
 
--- The record has each call, is legal, and the book stands for its events.
-pub record IsWholeRecord {B : Type 0} (stands_for : B → List Event → Type 0) (settings : B → Settings) (kept : KeptState B) : Type 0 where
-  pub each_call : length kept.entries ≡ kept.total
-  pub legal : IsLegalAfter (settings kept.book) [] kept.entries
-  pub stands : stands_for kept.book (events_of kept.entries)
+-- the moments of these calls are not too late
+abbrev pub AreTimely : List Receipt → Type 0
+AreTimely entries = AllByRecursion (λ entry. moment_of entry.event < MOMENT_END) entries
 
--- The book stands for a history of as many events as calls were made. The record has the first of them, up to its limit, and is legal.
+-- There is a history that the opening book stands for. The window is legal after it, and the book stands for it followed by the window's events. Together they are all calls. The window has at most its limit of them, and either all or at most one less than its limit.
 pub record IsKept {B : Type 0} (stands_for : B → List Event → Type 0) (settings : B → Settings) (kept : KeptState B) : Type 0 where
-  pub history : List Event
-  pub stands : stands_for kept.book history
-  pub counted : length history ≡ kept.total
+  pub before : List Event
+  pub opened : stands_for kept.opening before
+  pub legal : IsLegalAfter (settings kept.book) before kept.window
+  pub stands : stands_for kept.book (before ++ events_of kept.window)
+  pub numbered : kept.first ≡ length before + 1
+  pub counted : length before + length kept.window ≡ kept.total
+  pub most : length kept.window ≤ kept.limit
+  pub least : min kept.total (kept.limit - 1) ≤ length kept.window
+  pub some : 1 ≤ kept.limit
+  pub lags : settings kept.opening ≡ lagging_of (settings kept.book)
+  pub timely : AreTimely kept.window
   pub few : kept.total < 2 ^ 62
   pub few_callers : kept.callers ≤ 2 ^ 62
-  pub from_one : kept.first ≡ 1
-  pub recorded : events_of kept.entries ≡ take kept.limit history
-  pub legal : IsLegalAfter (settings kept.book) [] kept.entries
 
--- One call more was taken and, up to the limit, recorded.
+-- The window is the same, and the opening book stands for what it did.
+pub record HasStayed {B : Type 0} (stands_for : B → List Event → Type 0) (before after : KeptState B) : Type 0 where
+  pub window : after.window ≡ before.window
+  pub first : after.first ≡ before.first
+  pub opening : (h : List Event) → stands_for before.opening h → stands_for after.opening h
+
+-- The window was full. Its oldest call has left it, and the opening book has taken the event of that call.
+pub record HasMovedOn {B : Type 0} (stands_for : B → List Event → Type 0) (before after : KeptState B) : Type 0 where
+  pub full : length before.window ≡ before.limit
+  pub oldest : Receipt
+  pub window : before.window ≡ oldest ∷ after.window
+  pub first : after.first ≡ before.first + 1
+  pub opening : (h : List Event) → stands_for before.opening h → stands_for after.opening (h ++ oldest.event ∷ [])
+
+-- The window has stayed as it was, or has moved on by one call. Nothing else has changed.
+pub record MovesOn {B : Type 0} (stands_for : B → List Event → Type 0) (settings : B → Settings) (before after : KeptState B) : Type 0 where
+  pub moved : HasStayed stands_for before after ⊎ HasMovedOn stands_for before after
+  pub same_settings : settings after.opening ≡ settings before.opening
+  pub same_book : after.book ≡ before.book
+  pub same_limit : after.limit ≡ before.limit
+  pub same_total : after.total ≡ before.total
+  pub same_callers : after.callers ≡ before.callers
+
+-- One call more was taken, and is the last of the window.
 pub record IsCalled {B : Type 0} (before after : KeptState B) (pass : PassState) (event : Event) (reply : Reply) (pass' : PassState) : Type 0 where
   pub total : after.total ≡ before.total + 1
+  pub window : after.window ≡ before.window ++ receipt_for after.total pass.caller event reply ∷ []
+  pub opening : after.opening ≡ before.opening
   pub first : after.first ≡ before.first
   pub limit : after.limit ≡ before.limit
   pub callers : after.callers ≡ before.callers
   pub counted : pass' ≡ after_call pass after.total
-  pub recorded : after.total ≤ after.limit → after.entries ≡ before.entries ++ receipt_for after.total pass.caller event reply ∷ []
-  pub full : after.limit < after.total → after.entries ≡ before.entries
 
--- Nothing but the book may have changed.
+-- Nothing but the books may have changed.
 pub record IsSameRecord {B : Type 0} (before after : KeptState B) : Type 0 where
   pub first : after.first ≡ before.first
-  pub entries : after.entries ≡ before.entries
+  pub window : after.window ≡ before.window
   pub limit : after.limit ≡ before.limit
   pub total : after.total ≡ before.total
   pub callers : after.callers ≡ before.callers
 
--- One step under the lock: what lay there and the pass, the event, the answer, and both afterwards. The book takes the step as its promise says. A call that got a reply is counted and recorded; after a fault the record and the pass are as they were.
-pub record IsStep {B : Type 0} (stands_for : B → List Event → Type 0) (settings : B → Settings) (stored : B → ℕ) (before : KeptState B) (pass : PassState) (event : Event) (answer : Result Reply StepFault) (after : KeptState B) (pass' : PassState) : Type 0 where
+-- The book takes an event where the window has room. A call that got a reply is counted, and is the last of the window. After a fault all but the book is as it was, and the book as its promise says.
+pub record IsTaken {B : Type 0} (stands_for : B → List Event → Type 0) (settings : B → Settings) (stored : B → ℕ) (before : KeptState B) (pass : PassState) (event : Event) (answer : Result Reply StepFault) (after : KeptState B) (pass' : PassState) : Type 0 where
   pub book : IsBookStep stands_for settings stored before.book event answer after.book
   pub called : IfOk answer (λ reply. IsCalled before after pass event reply pass')
   pub same_record : OnErr answer (IsSameRecord before after)
+  pub same_opening : OnErr answer (after.opening ≡ before.opening)
   pub same_pass : OnErr answer (pass' ≡ pass)
+
+-- One step under the lock: what lay there and the pass, the event, the answer, and both afterwards. First the window moves on if it is full, and then the book takes the event. So a fault may leave the window moved on, and the opening book with it, and changes nothing else.
+pub record IsStep {B : Type 0} (stands_for : B → List Event → Type 0) (settings : B → Settings) (stored : B → ℕ) (before : KeptState B) (pass : PassState) (event : Event) (answer : Result Reply StepFault) (after : KeptState B) (pass' : PassState) : Type 0 where
+  pub between : KeptState B
+  pub moves : MovesOn stands_for settings before between
+  pub room : OnOk answer (length between.window < between.limit)
+  pub taken : IsTaken stands_for settings stored between pass event answer after pass'
 
 -- such a state is stored as the tuple of its fields
 abbrev pub kept_code : {B : Type 0} → Coded B → Coded Receipt → Coded (KeptState B)
 kept_code {B} b r =
-    code_by (B × (ℕ × (List Receipt × (ℕ × (ℕ × ℕ))))) (coded× b (coded× coded_ℕ (coded× (coded_list r) (coded× coded_ℕ (coded× coded_ℕ coded_ℕ)))))
-    (λ k. (k.book, (k.first, (k.entries, (k.limit, (k.total, k.callers))))))
-    (λ p. record { book = p.0; first = p.1.0; entries = p.1.1.0; limit = p.1.1.1.0; total = p.1.1.1.1.0; callers = p.1.1.1.1.1 })
+    code_by (B × (B × (ℕ × (List Receipt × (ℕ × (ℕ × ℕ)))))) (coded× b (coded× b (coded× coded_ℕ (coded× (coded_list r) (coded× coded_ℕ (coded× coded_ℕ coded_ℕ))))))
+    (λ k. (k.book, (k.opening, (k.first, (k.window, (k.limit, (k.total, k.callers)))))))
+    (λ p. record { book = p.0; opening = p.1.0; first = p.1.1.0; window = p.1.1.1.0; limit = p.1.1.1.1.0; total = p.1.1.1.1.1.0; callers = p.1.1.1.1.1.1 })
     (λ _. refl)

@@ -2,6 +2,7 @@ pub mod Ledger
 pub mod Pass
 pub mod Record
 pub mod Ahead
+pub mod Told
 pub mod Kept
 pub mod Calling
 pub mod Closing

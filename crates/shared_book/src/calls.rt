@@ -9,7 +9,6 @@ use crate::fault::{CallFault, SplitFault};
 use crate::kept::Kept;
 use crate::ledger::CallLedger;
 use crate::pass::Pass;
-use dns_text::Shared;
 use history::{Book, Event, Reply};
 use std::sync::ledger::Share;
 
@@ -18,7 +17,7 @@ impl<B: Book, L: CallLedger> Kept<B, L> {
     pub(crate) fn call(
         &mut self,
         pass: &mut Pass<L>,
-        event: Shared<Event>,
+        event: Event,
         copy: Event,
     ) -> Result<Reply, CallFault>
         requires same { copy ≡ event }
@@ -27,32 +26,12 @@ impl<B: Book, L: CallLedger> Kept<B, L> {
         ensures call { IsCall B.stands_for B.settings B.stored self.old pass.old event result self.new pass.new }
     {
         if self.total < pass.seen() {
+            drop(event);
             drop(copy);
             return Err(CallFault::Behind { at: self.total });
         }
         match self.step_by_copy(pass, event, copy) {
             Ok(reply) => Ok(reply),
-            Err(fault) => Err(CallFault::Step(fault)),
-        }
-    }
-
-    /// A step for a pass that has seen all calls that are recorded, and no more than were made.
-    pub(crate) fn call_unrecorded(
-        &mut self,
-        pass: &mut Pass<L>,
-        event: Event,
-    ) -> Result<Reply, CallFault>
-        requires beyond { L.limit ≤ pass.old.seen }
-        ensures kept { IsKept B.stands_for B.settings self.old }
-        ensures made_with { B.settings self.old.book ≡ L.settings }
-        ensures call { IsCall B.stands_for B.settings B.stored self.old pass.old event result self.new pass.new }
-    {
-        if pass.seen() > self.total {
-            drop(event);
-            return Err(CallFault::Behind { at: self.total });
-        }
-        match self.step_unrecorded(pass, event) {
-            Ok(told) => Ok(told),
             Err(fault) => Err(CallFault::Step(fault)),
         }
     }

@@ -1,8 +1,8 @@
-//! The closing of a book: the receipts are compared with the record.
+//! The closing of a book: the receipts are compared with the window.
 
-ghost use Rattle.std.specs.Prelude.{◌≡◌, ◌+◌, ◌<◌, ◌≤◌, ◌^◌, ◌↔◌, IsTrue, length, slice_get, Some, None, OnOk, IfOk, IfErr, IsOk, MatchResult, MatchOption};
-ghost use Rattle.shared_book.specs.Closing.{IsInOrder, IsFirstOther, IsClosed};
-ghost use Rattle.shared_book.specs.Kept.{IsWholeRecord};
+ghost use Rattle.std.specs.Prelude.{◌≡◌, ◌<◌, ◌≤◌, ◌^◌, ◌↔◌, IsTrue, length, slice_get, Some, None, OnOk, IfOk, IfErr, IsOk, MatchResult, MatchOption};
+ghost use Rattle.shared_book.specs.Closing.{numbered_from, IsInOrder, IsFirstOther, IsClosed};
+ghost use Rattle.shared_book.specs.Kept.{IsKept};
 
 use crate::fault::CloseFault;
 use crate::kept::Kept;
@@ -11,6 +11,7 @@ use crate::pass::Pass;
 use crate::receipt::Receipt;
 use dns_name::NoMemory;
 use history::Book;
+use std::collections::VecDeque;
 
 /// The reason that a book is not closed, with what lay under its lock, unchanged.
 #[derive(Drop)]
@@ -20,7 +21,8 @@ pub struct NotClosed<B: Book, L: CallLedger> {
 }
 
 impl<B: Book, L: CallLedger> Kept<B, L> {
-    /// Whether the receipts, in order of number, are the record. An earlier fault of `CloseFault` hides a later one.
+    /// Whether the receipts, in order of number, are those of the window's calls. Receipts of earlier calls are passed over. An earlier
+    /// fault of `CloseFault` hides a later one.
     pub fn close(
         mut self,
         passes: Vec<Pass<L>>,
@@ -29,33 +31,35 @@ impl<B: Book, L: CallLedger> Kept<B, L> {
         ensures same { MatchResult result (λ kept. kept ≡ self) (λ not_closed. not_closed.kept ≡ self) }
         ensures ok { IfOk result (λ kept. IsClosed L.parts kept passes.items receipts.items None) }
         ensures err { IfErr result (λ not_closed. IsClosed L.parts not_closed.kept passes.items receipts.items (Some not_closed.fault)) }
-        ensures whole { IfOk result (λ kept. IsWholeRecord B.stands_for B.settings kept) }
+        ensures kept { IfOk result (λ kept. IsKept B.stands_for B.settings kept) }
     {
         let made = self.gather(passes);
-        if self.total() > self.limit() {
-            return Err(not_closed(CloseFault::NotWhole, self));
+        if made < self.total() {
+            let count = self.total() - made;
+            return Err(not_closed(CloseFault::Missing { count }, self));
         }
-        let held = made.min(receipts.len() as u64);
-        if held < self.total() {
-            let count = self.total() - held;
+        pass_over(&mut receipts, self.first());
+        let recorded = self.window().len();
+        if receipts.len() < recorded {
+            let count = (recorded - receipts.len()) as u64;
             return Err(not_closed(CloseFault::Missing { count }, self));
         }
         match put_in_order(&mut receipts) {
             Ok(()) => {}
             Err(_) => return Err(not_closed(CloseFault::NoMemory, self)),
         }
-        match first_other(self.first(), &receipts, self.entries()) {
+        match first_other(self.first(), &receipts, self.window()) {
             None => Ok(self),
             Some(number) => Err(not_closed(CloseFault::Mismatch { number }, self)),
         }
     }
 
-    /// The number of the first entry.
+    /// The number of the window's first call.
     fn first(&self) -> u64
         ensures first { result ≡ self.now.first }
-        ensures one { result ≡ 1 }
+        ensures few { result ≤ 2 ^ 62 }
     {
-        self.recorded.first
+        self.window.first
     }
 }
 
@@ -64,6 +68,13 @@ fn not_closed<B: Book, L: CallLedger>(fault: CloseFault, kept: Kept<B, L>) -> No
     ensures kept { result.kept ≡ kept }
 {
     NotClosed { fault, kept }
+}
+
+/// Passes over the receipts of the calls before this number.
+fn pass_over(receipts: &mut Vec<Receipt>, first: u64)
+    ensures { receipts.new.items ≡ numbered_from first receipts.old.items }
+{
+    receipts.retain(|receipt| receipt.number >= first);
 }
 
 /// Sorts receipts by number. Equal numbers keep their order.
@@ -79,8 +90,8 @@ fn put_in_order(receipts: &mut Vec<Receipt>) -> Result<(), NoMemory>
 }
 
 /// Whether this entry is the receipt.
-fn is_entry(entries: &[Receipt], i: usize, receipt: &Receipt) -> bool
-    ensures { IsTrue result ↔ (slice_get entries.now i ≡ Some receipt.now) }
+fn is_entry(entries: &VecDeque<Receipt>, i: usize, receipt: &Receipt) -> bool
+    ensures { IsTrue result ↔ (slice_get entries.now.items i ≡ Some receipt.now) }
 {
     if i >= entries.len() {
         return false;
@@ -89,10 +100,10 @@ fn is_entry(entries: &[Receipt], i: usize, receipt: &Receipt) -> bool
 }
 
 /// The number of the first place whose receipt is not that entry, if the entries are numbered from `first`.
-fn first_other(first: u64, receipts: &[Receipt], entries: &[Receipt]) -> Option<u64>
-    requires few { first < 2 ^ 62 }
-    requires each { length entries.now ≤ length receipts.now }
-    ensures { MatchOption result (receipts.now ≡ entries.now) (λ number. IsFirstOther first number receipts.now entries.now) }
+fn first_other(first: u64, receipts: &[Receipt], entries: &VecDeque<Receipt>) -> Option<u64>
+    requires few { first ≤ 2 ^ 62 }
+    requires each { length entries.now.items ≤ length receipts.now }
+    ensures { MatchOption result (receipts.now ≡ entries.now.items) (λ number. IsFirstOther first number receipts.now entries.now.items) }
 {
     for (i, receipt) in receipts.iter().enumerate() {
         if !is_entry(entries, i, receipt) {

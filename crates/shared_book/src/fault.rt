@@ -25,14 +25,11 @@ pub enum SplitFault {
 /// The reason that a book is not closed.
 #[derive(Clone, Copy, Debug, PartialEq, Eq, Error)]
 pub enum CloseFault {
-    /// More calls were made than are recorded.
-    #[error("the record is not whole")]
-    NotWhole,
-    /// So many receipts, or calls of passes, were not handed in.
+    /// So many calls of passes were not handed in, or else so many receipts of the window's calls.
     #[error("{count} calls are missing")]
     Missing { count: u64 },
-    /// The receipt at this place, in order of number, is not the entry of the record. It is the first such place.
-    #[error("receipt {number} is not in the record")]
+    /// Of the receipts in order of number, the one at this place is not the call in the window. It is the first such place.
+    #[error("receipt {number} is not in the window")]
     Mismatch { number: u64 },
     /// Memory was refused.
     #[error("out of memory")]

@@ -1,31 +1,39 @@
-//! The state under the lock: the book, the record of its calls, their total.
+//! The state under the lock: both books, the window between them, and the total of all calls.
 
-ghost use Rattle.std.specs.Prelude.{◌≡◌, ◌<◌, ◌≤◌, ◌^◌, ◌↔◌, List, [], IfOk, IfErr, OnOk, IsOk, IsErrOf};
+ghost use Rattle.std.specs.Prelude.{◌≡◌, ◌<◌, ◌≤◌, ◌^◌, ◌↔◌, List, [], length, IfOk, IfErr, OnOk, IsErrOf};
 ghost use Rattle.history.specs.declared.event.Event.{Event};
 ghost use Rattle.history.specs.Answers.{IsTimely};
+ghost use Rattle.history.specs.Event.{lagging_of};
 ghost use Rattle.shared_book.specs.declared.kept.TheConstants.{MOST_RECORDED};
 ghost use Rattle.shared_book.specs.Pass.{PassState, first_pass};
-ghost use Rattle.shared_book.specs.Kept.{first_kept, IsKept, IsWholeRecord, IsSameRecord, IsStep};
+ghost use Rattle.shared_book.specs.Kept.{first_kept, IsKept, IsSameRecord, MovesOn, IsTaken, IsStep};
 
+use crate::copies::copies;
 use crate::ledger::{Blank, CallLedger};
-use crate::next_reply::{make_ready, told_again};
+use crate::next_reply::tell;
+use crate::opening::{sweep_one, take_in};
 use crate::pass::Pass;
 use crate::receipt::Receipt;
-use crate::record::CallRecord;
+use crate::told::Told;
+use crate::window::Window;
+use dns_name::NoMemory;
 use dns_text::Shared;
 use history::{Book, Event, MOMENT_END, MOST_EVENTS, MakeFault, Reply, StepFault};
 use std::alloc::Global;
+use std::collections::VecDeque;
 use std::marker::Model;
 use std::sync::ledger::{Book as Calls, Share};
 
-/// The most calls that can be recorded.
+/// The most calls that a window can have.
 pub const MOST_RECORDED: u64 = 1_000_000;
 
-/// The book, the record of its calls and their total.
+/// A book, a window of the last calls, and an opening book, which is the book as it was before them.
 #[derive(Drop)]
 pub struct Kept<B: Book, L: CallLedger> {
+    pub(crate) alloc: Global,
     pub(crate) book: B,
-    pub(crate) recorded: CallRecord,
+    pub(crate) opening: B,
+    pub(crate) window: Window,
     pub(crate) total: u64,
     pub(crate) callers: u64,
     pub(crate) calls: Calls<L>,
@@ -43,51 +51,60 @@ impl<B: Book, L: CallLedger> Model for Kept<B, L> {
 
     ghost view = { λ k. record {
       book = k.book;
-      first = k.recorded.first;
-      entries = k.recorded.entries.items;
-      limit = k.recorded.limit;
+      opening = k.opening;
+      first = k.window.first;
+      window = k.window.calls.items;
+      limit = k.window.limit;
       total = k.total;
       callers = k.callers;
     } };
 
-    ghost invariant = { λ k. (k.total ≡ k.calls.total) × ((k.recorded.limit ≡ L.limit) × (B.settings k.book ≡ L.settings))
+    ghost invariant = { λ k. (k.total ≡ k.calls.total) × ((k.window.limit ≡ L.limit) × (B.settings k.book ≡ L.settings))
         × IsKept B.stands_for B.settings
         (record {
           book = k.book;
-          first = k.recorded.first;
-          entries = k.recorded.entries.items;
-          limit = k.recorded.limit;
+          opening = k.opening;
+          first = k.window.first;
+          window = k.window.calls.items;
+          limit = k.window.limit;
           total = k.total;
           callers = k.callers;
         }) };
 }
 
 impl<B: Book, L: CallLedger> Kept<B, L> {
-    /// A book that has taken no event, with an empty record for so many calls, and the first pass.
+    /// Two books that have taken no event, of which the opening book lags behind, an empty window for so many calls, and the first
+    /// pass.
     pub fn new(
         alloc: Global,
         blank: Blank,
         book: B,
+        opening: B,
         limit: u64,
     ) -> Result<(Kept<B, L>, Pass<L>), MakeFault>
         requires name { blank.name ≡ L.name }
         requires parts { blank.parts ≡ L.parts }
         requires limit { limit ≡ L.limit }
         requires settings { B.settings book ≡ L.settings }
-        requires fresh { B.stands_for book [] }
+        requires lags { B.settings opening ≡ lagging_of L.settings }
+        requires fresh { B.stands_for book [] × B.stands_for opening [] }
         ensures refused { IsErrOf result MakeFault.BadSettings ↔ ¬ ((1 ≤ blank.parts) × (1 ≤ limit) × (limit ≤ MOST_RECORDED)) }
-        ensures made { 1 ≤ blank.parts → 1 ≤ limit → limit ≤ MOST_RECORDED → IsOk result }
-        ensures first { IfOk result (λ made. (made.0 ≡ first_kept book limit) × (made.1 ≡ first_pass blank.parts)) }
+        ensures first { IfOk result (λ made. (made.0 ≡ first_kept book opening limit) × (made.1 ≡ first_pass blank.parts)) }
     {
         let parts = blank.parts();
         if parts < 1 || limit < 1 || limit > MOST_RECORDED {
             return Err(MakeFault::BadSettings);
         }
+        let Ok(window) = Window::new(alloc, limit) else {
+            return Err(MakeFault::NoMemory);
+        };
         let (calls, mut share) = blank.open::<L>();
         let none = share.empty();
         let kept = Kept {
+            alloc,
             book,
-            recorded: CallRecord::new(alloc, limit),
+            opening,
+            window,
             total: 0,
             callers: 1,
             calls,
@@ -104,21 +121,29 @@ impl<B: Book, L: CallLedger> Kept<B, L> {
         self.total
     }
 
-    /// The number of calls that can be recorded.
+    /// The number of calls that the window can have.
     pub fn limit(&self) -> u64
         ensures limit { result ≡ self.now.limit }
         ensures same { result ≡ L.limit }
     {
-        self.recorded.limit
+        self.window.limit
     }
 
-    /// The record: the first calls, up to the limit.
-    pub fn entries(&self) -> &[Receipt]
-        ensures entries { result.now ≡ self.now.entries }
+    /// The window: the last calls, oldest first.
+    pub fn window(&self) -> &VecDeque<Receipt>
+        ensures window { result.now.items ≡ self.now.window }
         ensures kept { IsKept B.stands_for B.settings self.now }
-        ensures whole { self.now.total ≤ self.now.limit → IsWholeRecord B.stands_for B.settings self.now }
     {
-        self.recorded.entries.as_slice()
+        &self.window.calls
+    }
+
+    /// The book as it was before the calls of the window.
+    pub fn opening(&self) -> &B
+        ensures opening { result.now ≡ self.now.opening }
+        ensures settings { B.settings result.now ≡ lagging_of L.settings }
+        ensures kept { IsKept B.stands_for B.settings self.now }
+    {
+        &self.opening
     }
 
     /// The book.
@@ -129,18 +154,21 @@ impl<B: Book, L: CallLedger> Kept<B, L> {
         &self.book
     }
 
-    /// Frees some of the memory of what no reply can show any more, and returns whether there may be more of it. It is no call, so it
-    /// takes no pass and is not recorded. Before a sweep it is called again and again, so that the sweep has little left to do.
+    /// Frees some of the memory of what no reply can show any more, of one of the books, and returns whether there may be more of it. It
+    /// is no call, so it takes no pass and is not recorded. Before a sweep it is called again and again, so that the sweep has little
+    /// left to do.
     pub fn sweep_some(&mut self) -> bool
         ensures stands { (h : List Event) → B.stands_for self.old.book h → B.stands_for self.new.book h }
+        ensures opening { (h : List Event) → B.stands_for self.old.opening h → B.stands_for self.new.opening h }
         ensures stored { B.stored self.new.book ≤ B.stored self.old.book }
-        ensures settings { B.settings self.new.book ≡ B.settings self.old.book }
+        ensures settings { (B.settings self.new.book ≡ B.settings self.old.book) × (B.settings self.new.opening ≡ B.settings self.old.opening) }
         ensures same_record { IsSameRecord self.old self.new }
     {
-        self.book.sweep_some()
+        sweep_one(&mut self.book, &mut self.opening)
     }
 
-    /// Takes an event, and records the call.
+    /// Takes an event, and records the call. First, if the window is full, its oldest call leaves it for the opening book. So a fault
+    /// may leave the opening book one call further on.
     pub fn step(&mut self, pass: &mut Pass<L>, event: Shared<Event>) -> Result<Reply, StepFault>
         ensures { IsStep B.stands_for B.settings B.stored self.old pass.old event result self.new pass.new }
     {
@@ -148,8 +176,11 @@ impl<B: Book, L: CallLedger> Kept<B, L> {
             Ok(()) => {}
             Err(fault) => return Err(fault),
         }
-        match event.get().copy() {
-            Ok(copy) => self.take(pass, event, copy),
+        match copies(event.get()) {
+            Ok(copies) => {
+                let (event, copy) = copies;
+                self.take(pass, event, copy)
+            }
             Err(_) => Err(StepFault::NoMemory),
         }
     }
@@ -158,94 +189,81 @@ impl<B: Book, L: CallLedger> Kept<B, L> {
     pub(crate) fn step_by_copy(
         &mut self,
         pass: &mut Pass<L>,
-        event: Shared<Event>,
+        event: Event,
         copy: Event,
     ) -> Result<Reply, StepFault>
         requires { copy ≡ event }
         ensures { IsStep B.stands_for B.settings B.stored self.old pass.old event result self.new pass.new }
     {
-        match self.timely(event.get()) {
+        match self.timely(&event) {
             Ok(()) => self.take(pass, event, copy),
             Err(fault) => {
+                drop(event);
                 drop(copy);
                 Err(fault)
             }
         }
     }
 
-    /// Takes an event after all calls that are recorded.
-    pub(crate) fn step_unrecorded(
-        &mut self,
-        pass: &mut Pass<L>,
-        event: Event,
-    ) -> Result<Reply, StepFault>
-        requires { self.old.limit ≤ self.old.total }
-        ensures { IsStep B.stands_for B.settings B.stored self.old pass.old event result self.new pass.new }
-    {
-        match self.timely(&event) {
-            Ok(()) => self.pass_by(pass, event),
-            Err(fault) => {
-                drop(event);
-                Err(fault)
-            }
-        }
-    }
-
-    /// Takes a timely event after all calls that are recorded.
-    fn pass_by(&mut self, pass: &mut Pass<L>, event: Event) -> Result<Reply, StepFault>
-        requires timely { IsTimely self.old.total event }
-        requires beyond { self.old.limit ≤ self.old.total }
-        ensures { IsStep B.stands_for B.settings B.stored self.old pass.old event result self.new pass.new }
-    {
-        let reply = self.book.step(event)?;
-        let number = self.total + 1;
-        pass.count(&mut self.calls, number);
-        self.total = number;
-        Ok(reply)
-    }
-
     /// Takes a timely event by its copy, and records the call.
-    fn take(
-        &mut self,
-        pass: &mut Pass<L>,
-        event: Shared<Event>,
-        copy: Event,
-    ) -> Result<Reply, StepFault>
+    fn take(&mut self, pass: &mut Pass<L>, event: Event, copy: Event) -> Result<Reply, StepFault>
         requires timely { IsTimely self.old.total event }
         requires same { copy ≡ event }
         ensures { IsStep B.stands_for B.settings B.stored self.old pass.old event result self.new pass.new }
     {
-        if self.total >= self.recorded.limit {
-            return self.pass_by(pass, copy);
-        }
-        let number = self.total + 1;
-        // Calls drop what is owned: else each way out is proved once for each variant of an event.
-        let ahead = match make_ready(&mut self.recorded.entries, &self.book, event.get()) {
-            Ok(ahead) => ahead,
-            Err(fault) => {
+        match self.make_room() {
+            Ok(()) => self.append(pass, event, copy),
+            Err(_) => {
+                drop(event);
                 drop(copy);
-                return Err(StepFault::from(fault));
+                Err(StepFault::NoMemory)
             }
-        };
-        let reply = match self.book.step(copy) {
-            Ok(reply) => reply,
+        }
+    }
+
+    /// Makes room in the window: if it is full, its oldest call leaves it for the opening book.
+    fn make_room(&mut self) -> Result<(), NoMemory>
+        ensures kept { IsKept B.stands_for B.settings self.old }
+        ensures moves { MovesOn B.stands_for B.settings self.old self.new }
+        ensures room { OnOk result (length self.new.window < self.new.limit) }
+    {
+        if !self.window.is_full() {
+            return Ok(());
+        }
+        let event = self.window.oldest_event()?;
+        take_in(&mut self.opening, event)?;
+        self.window.move_on();
+        Ok(())
+    }
+
+    /// Takes a timely event by its copy if the window has room, and records the call.
+    fn append(&mut self, pass: &mut Pass<L>, event: Event, copy: Event) -> Result<Reply, StepFault>
+        requires timely { IsTimely self.old.total event }
+        requires same { copy ≡ event }
+        requires room { length self.old.window < self.old.limit }
+        ensures { IsTaken B.stands_for B.settings B.stored self.old pass.old event result self.new pass.new }
+    {
+        let told = match tell(self.alloc, &mut self.book, copy) {
+            Ok(told) => told,
             Err(fault) => {
-                drop(ahead);
+                drop(event);
                 return Err(fault);
             }
         };
+        let Told { reply, kept } = told;
+        let number = self.total + 1;
         pass.count(&mut self.calls, number);
         self.total = number;
-        self.recorded.entries.push_reserved(Receipt {
+        self.window.push(Receipt {
             number,
             caller: pass.caller(),
             event,
-            reply: told_again(&reply, ahead),
+            reply: kept,
         });
         Ok(reply)
     }
 
-    /// Whether an event is timely, or else the fault of its step. A timely event may still find no memory.
+    /// Whether an event is timely, or else the fault of its step.
     fn timely(&self, event: &Event) -> Result<(), StepFault>
         ensures ok { OnOk result (IsTimely self.now.total event.now) }
         ensures err { IfErr result (λ fault. (pass : PassState) →

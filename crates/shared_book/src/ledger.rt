@@ -9,7 +9,7 @@ use std::sync::ledger::{Blank as BlankLedger, Book as Calls, Ledger, Share};
 pub trait CallLedger: Ledger {
     ghost use Rattle.history.specs.declared.event.Settings.{Settings};
 
-    // The number of calls that can be recorded.
+    // The number of calls that the window can have.
     ghost limit: { ℕ };
 
     // The settings of the book.

@@ -1,23 +1,29 @@
-//! One book for many callers: a lock, a record of the calls, and receipts that are checked when it is closed.
+//! One book for many callers: a lock, a window of the last calls, and receipts that are checked when it is closed.
 #![tactic(auto)]
 
 // The faults of calls, splits and closings.
 mod fault;
-// The receipt of a call, of which the record has a copy.
+// The receipt of a call, of which the window has a copy.
 mod receipt;
 // The ledger of the calls of one book.
 mod ledger;
 // A caller's right to call, with what it has seen.
 mod pass;
-// The calls that are recorded.
-mod record;
-// The reply that a lookup is about to get, of which the record needs a copy.
+// The window: the last calls, oldest first.
+mod window;
+// Two copies of an event.
+mod copies;
+// A reply or a view with its copy for the window.
+mod told;
+// A reply and its copy for the window.
 mod next_reply;
-// The state under the lock: the book, the record of its calls, their total.
+// An opening book, which takes the calls that leave the window.
+mod opening;
+// The state under the lock: both books, the window between them, and the total of all calls.
 mod kept;
 // The calls to that state, by callers with a pass.
 mod calls;
-// The closing of a book: the receipts are compared with the record.
+// The closing of a book: the receipts are compared with the window.
 mod close;
 // The laws of closing, by the definitions alone.
 mod laws;

@@ -1,52 +1,108 @@
-//! The reply that a lookup is about to get. The record keeps it, since a reply cannot be copied without memory.
+//! A reply and its copy for the window. A reply cannot be copied without memory, so that of a lookup is made twice, beforehand.
 
-ghost use Rattle.std.specs.Prelude.{◌≡◌, ◌<◌, List, IfOk, OnOk, vec_len, vec_capacity};
+ghost use Rattle.std.specs.Prelude.{◌≡◌, List, length, IfOk};
+ghost use Rattle.std.specs.Option.{option_map};
 ghost use Rattle.history.specs.declared.event.Event.{Event};
+ghost use Rattle.history.specs.declared.event.Settings.{Settings};
+ghost use Rattle.history.specs.Answers.{IsTimely};
+ghost use Rattle.history.specs.Desk.{IsStep as IsBookStep};
 ghost use Rattle.history.specs.History.{past_of};
-ghost use Rattle.shared_book.specs.Ahead.{seen_ahead, ShowsNothing, IsEcho};
+ghost use Rattle.history.specs.Reply.{reply_of, seen_of};
+ghost use Rattle.shared_book.specs.Ahead.{seen_ahead, ShowsNothing};
+ghost use Rattle.shared_book.specs.Told.{answer_told};
 
-use crate::receipt::Receipt;
+use crate::told::{Ahead, Told};
 use dns_name::NoMemory;
-use history::{Book, Event, Reply, Seen};
+use history::{Ask, Book, Event, Reply, StepFault};
+use std::alloc::Global;
 
-/// The reply that a lookup is about to get.
-fn look_ahead<B: Book>(book: &B, event: &Event) -> Result<Option<Seen>, NoMemory>
+/// What a lookup is about to see. The answer to a question is looked up once.
+fn see_ahead<B: Book>(alloc: Global, book: &B, ask: &Ask, moment: u64) -> Result<Ahead, NoMemory>
+    requires { (h : List Event) × B.stands_for book.now h }
     ensures { (h : List Event) → B.stands_for book.now h →
-        IfOk result (λ ahead. ahead ≡ seen_ahead (B.settings book.now) (past_of (B.settings book.now).journal h) event.now) }
+        IfOk result (λ ahead. ahead.seen ≡ seen_of (B.settings book.now) (past_of (B.settings book.now).journal h) ask.now moment) }
+{
+    if let Ask::Answer(question) = ask {
+        let look = book.look(question, moment);
+        let seen = look.to_seen(alloc)?;
+        return Ok(Ahead {
+            seen,
+            kept: look.to_seen(alloc)?,
+        });
+    }
+    let seen = book.seen(ask, moment)?;
+    Ok(Ahead {
+        seen,
+        kept: book.seen(ask, moment)?,
+    })
+}
+
+/// What an event is about to see, if it is a lookup.
+fn look_ahead<B: Book>(alloc: Global, book: &B, event: &Event) -> Result<Option<Ahead>, NoMemory>
+    requires { (h : List Event) × B.stands_for book.now h }
+    ensures { (h : List Event) → B.stands_for book.now h →
+        IfOk result (λ ahead. option_map (λ a. a.seen) ahead
+        ≡ seen_ahead (B.settings book.now) (past_of (B.settings book.now).journal h) event.now) }
 {
     match event {
-        Event::Look { moment, ask } => Ok(Some(book.seen(ask, *moment)?)),
+        Event::Look { moment, ask } => Ok(Some(see_ahead(alloc, book, ask, *moment)?)),
         _ => Ok(None),
     }
 }
 
-/// Makes room for one entry, and finds the reply that a lookup is about to get.
-pub(crate) fn make_ready<B: Book>(
-    entries: &mut Vec<Receipt>,
-    book: &B,
-    event: &Event,
-) -> Result<Option<Seen>, NoMemory>
-    ensures same { entries.new.items ≡ entries.old.items }
-    ensures room { OnOk result (vec_len entries.new < vec_capacity entries.new) }
-    ensures ahead { (h : List Event) → B.stands_for book.now h →
-        IfOk result (λ ahead. ahead ≡ seen_ahead (B.settings book.now) (past_of (B.settings book.now).journal h) event.now) }
+/// Takes an event, and returns its reply twice.
+pub(crate) fn tell<B: Book>(alloc: Global, book: &mut B, event: Event) -> Result<Told, StepFault>
+    requires some { (h : List Event) × B.stands_for book.old h }
+    requires timely { (h : List Event) → B.stands_for book.old h → IsTimely (length h) event }
+    ensures { IsBookStep B.stands_for B.settings B.stored book.old event (answer_told result) book.new }
 {
-    entries.reserve(1)?;
-    look_ahead(book, event)
-}
-
-/// The same reply, which for a lookup was found ahead. It takes no memory.
-pub(crate) fn told_again(reply: &Reply, ahead: Option<Seen>) -> Reply
-    requires { IsEcho reply.now ahead }
-    ensures { result ≡ reply.now }
-{
+    let ahead = match look_ahead(alloc, book, &event) {
+        Ok(ahead) => ahead,
+        Err(_) => {
+            drop(event);
+            return Err(StepFault::NoMemory);
+        }
+    };
     match ahead {
-        Some(seen) => Reply::Seen(seen),
-        None => told_alike(reply),
+        Some(ahead) => tell_seen(book, event, ahead),
+        None => tell_silent(book, event),
     }
 }
 
-/// A copy of a reply that shows nothing.
+/// Takes a lookup whose reply is known. So the book need not make it.
+fn tell_seen<B: Book>(book: &mut B, event: Event, ahead: Ahead) -> Result<Told, StepFault>
+    requires { (h : List Event) → B.stands_for book.old h →
+        reply_of (B.settings book.old) (past_of (B.settings book.old).journal h) event ≡ Reply.Seen ahead.seen }
+    ensures { IsBookStep B.stands_for B.settings B.stored book.old event (answer_told result) book.new }
+{
+    match book.follow(event) {
+        Ok(()) => Ok(Told {
+            reply: Reply::Seen(ahead.seen),
+            kept: Reply::Seen(ahead.kept),
+        }),
+        Err(fault) => {
+            drop(ahead);
+            Err(fault)
+        }
+    }
+}
+
+/// Takes an event that is no lookup.
+fn tell_silent<B: Book>(book: &mut B, event: Event) -> Result<Told, StepFault>
+    requires some { (h : List Event) × B.stands_for book.old h
+        × ShowsNothing (reply_of (B.settings book.old) (past_of (B.settings book.old).journal h) event) }
+    ensures { IsBookStep B.stands_for B.settings B.stored book.old event (answer_told result) book.new }
+{
+    match book.step(event) {
+        Ok(reply) => {
+            let kept = told_alike(&reply);
+            Ok(Told { reply, kept })
+        }
+        Err(fault) => Err(fault),
+    }
+}
+
+/// A copy of a reply that shows nothing. It takes no memory.
 fn told_alike(reply: &Reply) -> Reply
     requires { ShowsNothing reply.now }
     ensures { result ≡ reply.now }

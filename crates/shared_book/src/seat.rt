@@ -6,38 +6,24 @@ ghost use Rattle.shared_book.specs.Calling.{fault_at_desk, SeatCall};
 use crate::fault::CallFault;
 use crate::ledger::CallLedger;
 use crate::pass::Pass;
-use crate::receipt::Receipt;
 use crate::shared::SharedBook;
-use dns_text::Shared;
 use history::{Book, Desk, DeskFault, Event, Reply, StepFault};
-use std::alloc::Global;
 use std::sync::Wait;
 
 /// A caller's place at a shared book.
 #[derive(Drop)]
 pub struct Seat<'a, B: Book, L: CallLedger, R: Wait> {
     rt: &'a R,
-    alloc: Global,
     book: &'a SharedBook<B, L>,
     pass: Pass<L>,
 }
 
 impl<'a, B: Book, L: CallLedger, R: Wait> Seat<'a, B, L, R> {
     /// The place of this pass.
-    pub fn new(
-        rt: &'a R,
-        alloc: Global,
-        book: &'a SharedBook<B, L>,
-        pass: Pass<L>,
-    ) -> Seat<'a, B, L, R>
+    pub fn new(rt: &'a R, book: &'a SharedBook<B, L>, pass: Pass<L>) -> Seat<'a, B, L, R>
         ensures { result.pass ≡ pass }
     {
-        Seat {
-            rt,
-            alloc,
-            book,
-            pass,
-        }
+        Seat { rt, book, pass }
     }
 
     /// The number of the latest call that its pass knows of.
@@ -47,26 +33,12 @@ impl<'a, B: Book, L: CallLedger, R: Wait> Seat<'a, B, L, R> {
         self.pass.seen()
     }
 
-    /// Takes an event that may be recorded, and is shared with the record.
-    fn call_recorded(&mut self, event: Event) -> Result<Reply, DeskFault>
-        ensures { SeatCall B.stands_for B.settings B.stored L.settings self.old.pass event result self.new.pass }
-    {
-        let Ok(event) = Shared::new(self.alloc, event) else {
-            return Err(DeskFault::Step(StepFault::NoMemory));
-        };
-        match self.book.call(self.rt, &mut self.pass, event) {
-            Ok(receipt) => Ok(reply_of(receipt)),
-            Err(fault) => Err(desk_fault(fault)),
-        }
-    }
-
     /// The pass.
     pub fn into_pass(self) -> Pass<L>
         ensures { result ≡ self.entry.pass }
     {
         let Seat {
             rt: _,
-            alloc: _,
             book: _,
             pass,
         } = self;
@@ -78,27 +50,15 @@ impl<'a, B: Book, L: CallLedger, R: Wait> Desk for Seat<'a, B, L, R> {
     ghost calls = { λ before event answer after. SeatCall B.stands_for B.settings B.stored L.settings before.pass event answer after.pass };
 
     fn call(&mut self, event: Event) -> Result<Reply, DeskFault> {
-        if self.pass.seen() < self.book.limit() {
-            return self.call_recorded(event);
-        }
-        match self.book.call_unrecorded(self.rt, &mut self.pass, event) {
+        let Ok(copy) = event.copy() else {
+            drop(event);
+            return Err(DeskFault::Step(StepFault::NoMemory));
+        };
+        match self.book.step(self.rt, &mut self.pass, event, copy) {
             Ok(reply) => Ok(reply),
             Err(fault) => Err(desk_fault(fault)),
         }
     }
-}
-
-/// The reply of a receipt.
-fn reply_of(receipt: Receipt) -> Reply
-    ensures { result ≡ receipt.reply }
-{
-    let Receipt {
-        number: _,
-        caller: _,
-        event: _,
-        reply,
-    } = receipt;
-    reply
 }
 
 /// The fault of a desk for the fault of a call.

@@ -1,13 +1,15 @@
-//! One lock around a book and the record of its calls.
+//! One lock around a book and the window of its last calls.
 
-ghost use Rattle.std.specs.Prelude.{◌≡◌, ◌≤◌, ◌↔◌, [], Some, None, IfOk, IfErr, OnErr, IsOk, IsErr, IsErrOf, MatchResult};
+ghost use Rattle.std.specs.Prelude.{◌≡◌, ◌≤◌, ◌↔◌, [], Some, None, IfOk, IfErr, OnErr, IsErr, IsErrOf, MatchResult};
+ghost use Rattle.history.specs.Event.{lagging_of};
 ghost use Rattle.shared_book.specs.declared.kept.TheConstants.{MOST_RECORDED};
 ghost use Rattle.shared_book.specs.Pass.{first_pass, IsSplit, IsJoined};
 ghost use Rattle.shared_book.specs.Calling.{IsReceiptOf, IsJustified, IsCallReply, IsFaultOf, IsLocked, IsShared, answer_of};
 ghost use Rattle.shared_book.specs.Closing.{IsClosed};
-ghost use Rattle.shared_book.specs.Kept.{IsWholeRecord};
+ghost use Rattle.shared_book.specs.Kept.{IsKept};
 
 use crate::close::NotClosed;
+use crate::copies::copies;
 use crate::fault::{CallFault, SplitFault};
 use crate::kept::Kept;
 use crate::ledger::{Blank, CallLedger};
@@ -22,33 +24,31 @@ use std::sync::{Mutex, Wait};
 #[derive(Drop)]
 pub struct SharedBook<B: Book, L: CallLedger> {
     kept: Mutex<Kept<B, L>>,
-    /// The number of calls that can be recorded.
-    limit: u64,
-    ghost same_limit: { limit ≡ L.limit },
 }
 
 impl<B: Book, L: CallLedger> SharedBook<B, L> {
-    /// A book that has taken no event, with an empty record for so many calls, and the first pass.
+    /// Two books that have taken no event, of which the opening book lags behind, an empty window for so many calls, and the first
+    /// pass.
     pub fn new(
         alloc: Global,
         blank: Blank,
         book: B,
+        opening: B,
         limit: u64,
     ) -> Result<(SharedBook<B, L>, Pass<L>), MakeFault>
         requires name { blank.name ≡ L.name }
         requires parts { blank.parts ≡ L.parts }
         requires limit { limit ≡ L.limit }
         requires settings { B.settings book ≡ L.settings }
-        requires fresh { B.stands_for book [] }
+        requires lags { B.settings opening ≡ lagging_of L.settings }
+        requires fresh { B.stands_for book [] × B.stands_for opening [] }
         ensures refused { IsErrOf result MakeFault.BadSettings ↔ ¬ ((1 ≤ blank.parts) × (1 ≤ limit) × (limit ≤ MOST_RECORDED)) }
-        ensures made { 1 ≤ blank.parts → 1 ≤ limit → limit ≤ MOST_RECORDED → IsOk result }
         ensures pass { IfOk result (λ made. made.1 ≡ first_pass blank.parts) }
     {
-        match Kept::new(alloc, blank, book, limit) {
+        match Kept::new(alloc, blank, book, opening, limit) {
             Ok((kept, pass)) => Ok((
                 SharedBook {
                     kept: Mutex::new(kept),
-                    limit,
                 },
                 pass,
             )),
@@ -84,44 +84,25 @@ impl<B: Book, L: CallLedger> SharedBook<B, L> {
         ensures err { IfErr result (λ fault. IsFaultOf L.settings pass.old event fault pass.new) }
         ensures shared { IsShared B.stands_for B.settings B.stored L.settings pass.old event (answer_of result) pass.new }
     {
-        let Ok(recorded) = event.share() else {
+        let Ok(own) = event.get().copy() else {
             return Err(CallFault::Step(StepFault::NoMemory));
         };
-        let Ok(copy) = event.get().copy() else {
+        let Ok((kept, copy)) = copies(event.get()) else {
+            drop(own);
             return Err(CallFault::Step(StepFault::NoMemory));
         };
-        match self.step(rt, pass, recorded, copy) {
+        match self.step(rt, pass, kept, copy) {
             Ok(reply) => Ok(Receipt {
                 number: pass.seen(),
                 caller: pass.caller(),
-                event,
+                event: own,
                 reply,
             }),
-            Err(fault) => Err(fault),
+            Err(fault) => {
+                drop(own);
+                Err(fault)
+            }
         }
-    }
-
-    /// The number of calls that can be recorded.
-    pub fn limit(&self) -> u64
-        ensures { result ≡ L.limit }
-    {
-        self.limit
-    }
-
-    /// Takes an event of a pass that has seen as many calls as are recorded, and gives no receipt. So the event need not be
-    /// kept, and takes no block of memory.
-    pub fn call_unrecorded<R: Wait>(
-        &self,
-        rt: &R,
-        pass: &mut Pass<L>,
-        event: Event,
-    ) -> Result<Reply, CallFault>
-        requires beyond { L.limit ≤ pass.old.seen }
-        ensures ok { IfOk result (λ reply. IsCallReply L.settings pass.old event reply pass.new) }
-        ensures err { IfErr result (λ fault. IsFaultOf L.settings pass.old event fault pass.new) }
-        ensures locked { IsLocked B.stands_for B.settings B.stored L.settings pass.old event result pass.new }
-    {
-        self.kept.lock(rt).call_unrecorded(pass, event)
     }
 
     /// Frees some of the memory of what no reply can show any more, and returns whether there may be more of it. A service calls it
@@ -130,22 +111,24 @@ impl<B: Book, L: CallLedger> SharedBook<B, L> {
         self.kept.lock(rt).sweep_some()
     }
 
-    /// The step. Only this is done under the lock.
-    fn step<R: Wait>(
+    /// Takes an event by its copy, and gives no receipt. Only this is done under the lock.
+    pub(crate) fn step<R: Wait>(
         &self,
         rt: &R,
         pass: &mut Pass<L>,
-        event: Shared<Event>,
+        event: Event,
         copy: Event,
     ) -> Result<Reply, CallFault>
         requires same { copy ≡ event }
-        ensures { IsLocked B.stands_for B.settings B.stored L.settings pass.old event result pass.new }
+        ensures ok { IfOk result (λ reply. IsCallReply L.settings pass.old event reply pass.new) }
+        ensures err { IfErr result (λ fault. IsFaultOf L.settings pass.old event fault pass.new) }
+        ensures locked { IsLocked B.stands_for B.settings B.stored L.settings pass.old event result pass.new }
     {
         self.kept.lock(rt).call(pass, event, copy)
     }
 
-    /// Whether the receipts, in order of number, are the record. An earlier fault of `CloseFault` hides a later one; each hands back
-    /// what lay under the lock.
+    /// Whether the receipts, in order of number, are those of the window's calls. Receipts of earlier calls are passed over. An earlier
+    /// fault of `CloseFault` hides a later one; each hands back what lay under the lock.
     pub fn close(
         self,
         passes: Vec<Pass<L>>,
@@ -154,7 +137,7 @@ impl<B: Book, L: CallLedger> SharedBook<B, L> {
         ensures ok { IfOk result (λ kept. IsClosed L.parts kept passes.items receipts.items None) }
         ensures err { IfErr result (λ not_closed. IsClosed L.parts not_closed.kept passes.items receipts.items (Some not_closed.fault)) }
         ensures limit { MatchResult result (λ kept. kept.limit ≡ L.limit) (λ not_closed. not_closed.kept.limit ≡ L.limit) }
-        ensures whole { IfOk result (λ kept. IsWholeRecord B.stands_for B.settings kept) }
+        ensures kept { IfOk result (λ kept. IsKept B.stands_for B.settings kept) }
     {
         let SharedBook { kept, .. } = self;
         kept.into_inner().close(passes, receipts)

@@ -2,7 +2,7 @@
 
 use crate::draws::shared_event;
 use history::Book;
-use rand_core::SeedableRng;
+use rand_core::{Rng, SeedableRng};
 use rand_pcg::Pcg32;
 use shared_book::{CallLedger, Pass, Receipt, SharedBook};
 use std::alloc::Global;
@@ -23,8 +23,14 @@ pub struct Handed<L: CallLedger> {
     pub receipts: Vec<Receipt>,
 }
 
-/// How many calls a caller makes, so that eight and the four between them make 500.
-const CALLS: u32 = 62;
+/// The most calls that a caller makes. So eight and the four between them make 500 at most.
+const MOST_CALLS: u32 = 62;
+
+/// How many calls a caller of this seed makes.
+fn drawn_count(seed: u64) -> u32 {
+    let mut rng = Pcg32::seed_from_u64(seed);
+    rng.next_u32() % MOST_CALLS + 1
+}
 
 /// Adds a receipt. What is not added is dropped by a call, since the prover follows any other drop variant by variant.
 fn keep(receipts: &mut Vec<Receipt>, receipt: Receipt) -> Result<(), Stop> {
@@ -110,8 +116,15 @@ fn two<B: Book + Send + Sync, L: CallLedger + Send + Sync, R: Threads + Wait + S
     };
     let (a, b) = thread::join(
         rt,
-        || calls(rt, alloc, book, pass, seed, CALLS),
-        || calls(rt, alloc, book, other, seed ^ 1 << 32, CALLS),
+        || calls(rt, alloc, book, pass, seed, drawn_count(seed)),
+        || calls(
+            rt,
+            alloc,
+            book,
+            other,
+            seed ^ 1 << 32,
+            drawn_count(seed ^ 1 << 32),
+        ),
     );
     let Handed { pass, receipts } = joined(rt, book, a?, b?)?;
     let last = calls(rt, alloc, book, pass, seed ^ 1 << 33, 1)?;

@@ -2,6 +2,7 @@
 //! that, and the other brings an address. Each looks at what it did.
 
 ghost use Rattle.std.specs.Prelude.{◌≡◌, []};
+ghost use Rattle.history.specs.Event.{lagging_of};
 
 use crate::callers::{Handed, Stop, joined};
 use crate::replayed::closed;
@@ -19,7 +20,7 @@ use std::sync::Wait;
 use std::thread::Threads;
 use std::{io, thread};
 
-/// How many calls can be recorded.
+/// How many calls the window can have.
 pub const RECORDED_OF_TWO: u64 = 100;
 
 /// What a call gave, or why it gave nothing.
@@ -249,7 +250,7 @@ fn call_in_threads<B: Book + Send, L: CallLedger + Send + Sync, R: Print + Threa
     both_shown(rt, alloc, book, a?, b?)
 }
 
-/// Closes the book. It prints how many calls the record has, and to how many of them a new book replies the same.
+/// Closes the book. It prints how many calls the window has, and to how many calls a new book replies the same.
 fn show_closed<B: Book, L: CallLedger, R: Print>(
     rt: &R,
     alloc: Global,
@@ -257,7 +258,10 @@ fn show_closed<B: Book, L: CallLedger, R: Print>(
     handed: Result<Handed<L>, Stop>,
 ) -> Result<(), Stop> {
     let shown = match closed(alloc, book, handed?)? {
-        Some((entries, alike)) => println!(rt; "{entries} entries, {alike} replied alike"),
+        Some(closed) => println!(rt;
+            "{} entries, {} replied alike",
+            closed.recorded, closed.alike
+        ),
         None => println!(rt; "not closed"),
     };
     match shown {
@@ -272,14 +276,17 @@ pub fn two_threads<B: Book + Send, L: CallLedger + Send + Sync, R: Print + Threa
     alloc: Global,
     blank: Blank,
     book: B,
+    opening: B,
 ) -> Result<(), Stop>
     requires name { blank.name ≡ L.name }
     requires parts { blank.parts ≡ L.parts }
     requires limit { RECORDED_OF_TWO ≡ L.limit }
     requires settings { B.settings book ≡ L.settings }
-    requires fresh { B.stands_for book [] }
+    requires lags { B.settings opening ≡ lagging_of L.settings }
+    requires fresh { B.stands_for book [] × B.stands_for opening [] }
 {
-    let Ok((shared, pass)) = SharedBook::<B, L>::new(alloc, blank, book, RECORDED_OF_TWO) else {
+    let made = SharedBook::<B, L>::new(alloc, blank, book, opening, RECORDED_OF_TWO);
+    let Ok((shared, pass)) = made else {
         return Err(Stop);
     };
     let handed = call_in_threads(rt, alloc, &shared, pass);

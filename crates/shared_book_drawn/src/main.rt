@@ -1,6 +1,7 @@
-//! Eight callers, in threads of their own, make 500 drawn calls of every kind on a shared book, with passes that are split
-//! before and joined after. The book is closed with their receipts, and the record's events are given to a fresh book, whose
-//! replies are counted where they are those of the record. That is done with 40 books.
+//! Eight callers, in threads of their own, make drawn calls of every kind on a shared book, each a drawn number of them, with passes
+//! that are split before and joined after. The events of their receipts are given to a fresh book, whose replies are counted where they
+//! are those of the receipts, and the book is closed with the receipts. That is done with 40 books, whose windows have 1, 2, 4 and
+//! 1,000 calls.
 //!
 //! Then 21 pairs of a book that replays and a book that keeps no history are given 10,000 drawn events each, with journals of
 //! 1, 3 and 64 commands, and the events to which both reply the same are counted. The arguments `pairs N EVENTS` do that with N
@@ -12,10 +13,11 @@
 #![tactic(auto)]
 
 ghost use Rattle.std.specs.Prelude.{◌≡◌, []};
+ghost use Rattle.history.specs.Event.{lagging_of};
 
 mod callers; // eight callers of one book
 mod draws; // events by chance
-mod replayed; // the record, given to a fresh book
+mod replayed; // the calls of all receipts, given to a fresh book, and the closing
 mod both; // drawn events, given to both books
 mod texts; // events and replies as text
 mod steps; // one caller, and calls that find no memory
@@ -26,7 +28,7 @@ use callers::{Stop, eight};
 use dns_text::Shared;
 use history::{Book, Event};
 use in_threads::{of_both, two_threads};
-use replayed::{closed, plain, shelf};
+use replayed::{Closing, closed, plains, shelves};
 use shared_book::{Blank, CallLedger, SharedBook};
 use std::alloc::Global;
 use std::marker::Brand;
@@ -36,21 +38,24 @@ use std::{env, io};
 use steps::{drawn_events, steps};
 use undo_book::{PlainBook, ShelfBook};
 
-/// How many entries a book's record has, and to how many of them a fresh book replies the same. None where it is not closed.
+/// What closing a book comes to, whose window can have so many calls. None if it is not closed.
 fn one_book<B: Book + Send + Sync, L: CallLedger + Send + Sync, R: Threads + Wait + Sync>(
     rt: &R,
     alloc: Global,
     blank: Blank,
     book: B,
+    opening: B,
+    limit: u64,
     seed: u64,
-) -> Result<Option<(usize, usize)>, Stop>
+) -> Result<Option<Closing>, Stop>
     requires name { blank.name ≡ L.name }
     requires parts { blank.parts ≡ L.parts }
-    requires limit { 500 ≡ L.limit }
+    requires limit { limit ≡ L.limit }
     requires settings { B.settings book ≡ L.settings }
-    requires fresh { B.stands_for book [] }
+    requires lags { B.settings opening ≡ lagging_of L.settings }
+    requires fresh { B.stands_for book [] × B.stands_for opening [] }
 {
-    let Ok((shared, pass)) = SharedBook::<B, L>::new(alloc, blank, book, 500) else {
+    let Ok((shared, pass)) = SharedBook::<B, L>::new(alloc, blank, book, opening, limit) else {
         return Err(Stop);
     };
     let handed = eight(rt, alloc, &shared, pass, seed)?;
@@ -60,27 +65,38 @@ fn one_book<B: Book + Send + Sync, L: CallLedger + Send + Sync, R: Threads + Wai
 fn one_book_as<R: Threads + Wait + Sync>(
     rt: &R,
     alloc: Global,
+    limit: u64,
     seed: u64,
-) -> Result<Option<(usize, usize)>, Stop> {
-    let Ok(book) = plain(alloc) else {
+) -> Result<Option<Closing>, Stop> {
+    let Ok((book, opening)) = plains(alloc) else {
         return Err(Stop);
     };
-    one_book::<PlainBook, Brand, R>(rt, alloc, Blank::new(1 << 10), book, seed)
+    one_book::<PlainBook, Brand, R>(rt, alloc, Blank::new(1 << 10), book, opening, limit, seed)
 }
 
+/// The calls that the windows can have.
+const WINDOWS: [u64; 4] = [1, 2, 4, 1_000];
+
 fn books<R: Print + Threads + Wait + Sync>(rt: &R, alloc: Global) -> io::Result<()> {
-    let mut closed = 0u64;
-    let mut calls = 0u64;
+    let mut windows = 0u64;
     let mut same = 0u64;
-    for seed in 0..40u64 {
-        if let Ok(Some((entries, alike))) = one_book_as(rt, alloc, seed) {
-            closed = closed.wrapping_add(1);
-            calls = calls.wrapping_add(entries as u64);
-            same = same.wrapping_add(alike as u64);
+    for limit in WINDOWS {
+        for seed in 0..10u64 {
+            if let Ok(Some(closed)) = one_book_as(rt, alloc, limit, seed ^ limit << 8) {
+                if closed.recorded == closed.calls.min(limit as usize) {
+                    windows = windows.wrapping_add(1);
+                }
+                if closed.alike == closed.calls {
+                    same = same.wrapping_add(1);
+                }
+            }
         }
     }
-    println!(rt; "books closed {}", closed)?;
-    println!(rt; "calls {}, replied alike {}", calls, same)
+    println!(rt;
+        "books closed with the last calls in their windows {}",
+        windows
+    )?;
+    println!(rt; "books whose replies a fresh book repeats {}", same)
 }
 
 /// How long the journals of the compared books are.
@@ -102,26 +118,26 @@ fn compared<R: Print>(rt: &R, alloc: Global, pairs: u64, events: u64) -> io::Res
 }
 
 fn steps_as<R: Print>(rt: &R, alloc: Global, events: Vec<Shared<Event>>) -> Result<(), Stop> {
-    let Ok(book) = plain(alloc) else {
+    let Ok((book, opening)) = plains(alloc) else {
         return Err(Stop);
     };
-    steps::<PlainBook, Brand, R>(rt, alloc, Blank::new(1), book, events)
+    steps::<PlainBook, Brand, R>(rt, alloc, Blank::new(1), book, opening, events)
 }
 
 /// The two callers of a book that replays its history.
 fn of_plain<R: Print + Threads + Wait + Sync>(rt: &R, alloc: Global) -> Result<(), Stop> {
-    let Ok(book) = plain(alloc) else {
+    let Ok((book, opening)) = plains(alloc) else {
         return Err(Stop);
     };
-    two_threads::<PlainBook, Brand, R>(rt, alloc, Blank::new(2), book)
+    two_threads::<PlainBook, Brand, R>(rt, alloc, Blank::new(2), book, opening)
 }
 
 /// The two callers of a book that keeps no history.
 fn of_shelf<R: Print + Threads + Wait + Sync>(rt: &R, alloc: Global) -> Result<(), Stop> {
-    let Ok(book) = shelf(alloc) else {
+    let Ok((book, opening)) = shelves(alloc) else {
         return Err(Stop);
     };
-    two_threads::<ShelfBook, Brand, R>(rt, alloc, Blank::new(2), book)
+    two_threads::<ShelfBook, Brand, R>(rt, alloc, Blank::new(2), book, opening)
 }
 
 fn main(rt: HostRuntime) -> anyhow::Result<()> {

@@ -1,6 +1,7 @@
 //! One caller's calls of a book that lies under no lock. A call that finds no memory is made once more.
 
 ghost use Rattle.std.specs.Prelude.{◌≡◌, []};
+ghost use Rattle.history.specs.Event.{lagging_of};
 
 use crate::callers::Stop;
 use crate::draws::shared_event;
@@ -12,14 +13,14 @@ use rand_pcg::Pcg32;
 use shared_book::{Blank, CallLedger, Kept, Pass};
 use std::alloc::Global;
 
-/// How many calls are made, and how many of them are recorded.
+/// How many calls are made, and how many of them a window can have.
 const CALLS: u32 = 80;
 
 pub const RECORDED: u64 = 60;
 
-/// Events of every kind, among those that are recorded too.
+/// Events of every kind, also among those that the window has at the end. Of these an undo and a redo succeed, with a ticket and without.
 pub fn drawn_events(alloc: Global) -> Result<Vec<Shared<Event>>, Stop> {
-    let mut rng = Pcg32::seed_from_u64(115);
+    let mut rng = Pcg32::seed_from_u64(4507);
     let mut events = Vec::new(alloc);
     for _ in 0..CALLS {
         let Ok(event) = shared_event(&mut rng, alloc, 0) else {
@@ -46,7 +47,7 @@ fn show<B: Book, L: CallLedger, R: Print>(
     };
     let shown = println!(rt;
         "{} entries, {} calls, {} cells, seen {}, made {}: {text}",
-        kept.entries().len(),
+        kept.window().len(),
         kept.total(),
         kept.book().stored(),
         pass.seen(),
@@ -77,21 +78,24 @@ fn step<B: Book, L: CallLedger, R: Print>(
     Ok(found_none)
 }
 
-/// Makes the calls, and shows the record.
+/// Makes the calls, and shows the window.
 pub fn steps<B: Book, L: CallLedger, R: Print>(
     rt: &R,
     alloc: Global,
     blank: Blank,
     book: B,
+    opening: B,
     events: Vec<Shared<Event>>,
 ) -> Result<(), Stop>
     requires name { blank.name ≡ L.name }
     requires parts { blank.parts ≡ L.parts }
     requires limit { RECORDED ≡ L.limit }
     requires settings { B.settings book ≡ L.settings }
-    requires fresh { B.stands_for book [] }
+    requires lags { B.settings opening ≡ lagging_of L.settings }
+    requires fresh { B.stands_for book [] × B.stands_for opening [] }
 {
-    let Ok((mut kept, mut pass)) = Kept::<B, L>::new(alloc, blank, book, RECORDED) else {
+    let made = Kept::<B, L>::new(alloc, blank, book, opening, RECORDED);
+    let Ok((mut kept, mut pass)) = made else {
         return Err(Stop);
     };
     for event in events.iter() {
@@ -99,7 +103,7 @@ pub fn steps<B: Book, L: CallLedger, R: Print>(
             step(rt, alloc, &mut kept, &mut pass, event)?;
         }
     }
-    for entry in kept.entries() {
+    for entry in kept.window() {
         let text = entry_shown(alloc, entry)?;
         if rt.println(format_args!("{text}")).is_err() {
             return Err(Stop);

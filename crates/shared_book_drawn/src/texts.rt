@@ -100,7 +100,7 @@ fn reply_line(alloc: Global, reply: &Reply) -> Result<Vec<u8>, NoMemory> {
 
 fn entry_line(alloc: Global, entry: &Receipt) -> Result<Vec<u8>, NoMemory> {
     let mut out = format!(in alloc; "{} {} ", entry.number, entry.caller)?.into_bytes();
-    push_event(alloc, entry.event.get(), &mut out)?;
+    push_event(alloc, &entry.event, &mut out)?;
     out.extend_from_slice(b": ")?;
     push_reply(alloc, &entry.reply, &mut out)?;
     Ok(out)
@@ -135,7 +135,7 @@ pub fn fault_shown(alloc: Global, fault: &StepFault) -> Result<String, Stop> {
     }
 }
 
-/// An entry of the record on one line: its number, its caller, the event and the reply. A text for which there is no memory is
+/// A call of the window on one line: its number, its caller, the event and the reply. A text for which there is no memory is
 /// made once more.
 pub fn entry_shown(alloc: Global, entry: &Receipt) -> Result<String, Stop> {
     if let Ok(line) = entry_line(alloc, entry) {

@@ -88,7 +88,7 @@ pub record IsShelf (shelf : Shelf) : Type 0 where
   pub settles : AllByRecursion (λ own. CanSettleFlush shelf.owners own.number own.flush) shelf.kept.items
   pub counted : shelf.stored ≡ stored_in shelf.owners
   pub few : shelf.stored ≤ shelf.limit
-  pub small : shelf.limit ≤ 2 ^ 32
+  pub small : shelf.limit ≤ 2 ^ 62
   pub room : length shelf.kept.items ≤ vec_capacity shelf.numbers
   pub ends : AreEnds shelf.kept.items shelf.owners.entries shelf.ends
   pub settling : IfSome shelf.settling (IsSettling shelf.top shelf.owners)

@@ -92,7 +92,7 @@ impl Shelf {
 
     /// An empty cache of at most `limit` places, whose index hashes with the fixed seed. It is for scripts and tests.
     pub fn new(alloc: Global, limit: u64) -> Shelf
-        requires { limit ≤ 2 ^ 32 }
+        requires { limit ≤ 2 ^ 62 }
         ensures cells { IsShelfOf result [] }
         ensures whole { IsShelf result }
         ensures kept { result.kept.items ≡ [] }
@@ -105,7 +105,7 @@ impl Shelf {
 
     /// An empty cache whose index hashes with a seed that the program drew, since strangers choose the names.
     pub fn seeded(alloc: Global, limit: u64, seed: NameSeed) -> Shelf
-        requires { limit ≤ 2 ^ 32 }
+        requires { limit ≤ 2 ^ 62 }
         ensures cells { IsShelfOf result [] }
         ensures whole { IsShelf result }
         ensures kept { result.kept.items ≡ [] }

@@ -51,7 +51,7 @@ impl Store {
 
     /// Empty tables and an empty cache that may store so many cells. The cache's index hashes with this seed.
     pub fn new(alloc: Global, limit: u64, seed: NameSeed) -> Store
-        requires { limit ≤ 2 ^ 32 }
+        requires { limit ≤ 2 ^ 62 }
         ensures { IsUntouched ⟦<Store as World>⟧ empty_face limit result }
     {
         Store {

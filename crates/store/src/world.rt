@@ -72,7 +72,7 @@ impl ShelfWorld {
 
     /// An empty cache that may store so many cells. It keeps no flushes, and its index hashes with the fixed seed.
     pub fn new(alloc: Global, limit: u64) -> ShelfWorld
-        requires { limit ≤ 2 ^ 32 }
+        requires { limit ≤ 2 ^ 62 }
         ensures { IsUntouched ⟦<ShelfWorld as World>⟧ empty_cells limit result }
     {
         ShelfWorld::seeded(alloc, limit, NameSeed::fixed())
@@ -80,7 +80,7 @@ impl ShelfWorld {
 
     /// The same, but its index hashes with a seed that the program drew, since strangers choose the names.
     pub fn seeded(alloc: Global, limit: u64, seed: NameSeed) -> ShelfWorld
-        requires { limit ≤ 2 ^ 32 }
+        requires { limit ≤ 2 ^ 62 }
         ensures { IsUntouched ⟦<ShelfWorld as World>⟧ empty_cells limit result }
     {
         let shelf = Shelf::seeded(alloc, limit, seed);

@@ -1,7 +1,7 @@
 //! The book that keeps its history and replays it.
 
-ghost use Rattle.std.specs.Prelude.{◌≡◌, ◌↔◌, ℕ, [], IfOk, OnOk, OnErr, IsOk, IsErrOf};
-ghost use Rattle.history.specs.Event.{AreSettings};
+ghost use Rattle.std.specs.Prelude.{◌≡◌, ◌≤◌, ◌↔◌, ℕ, [], IfOk, OnOk, OnErr, IsOk, IsErrOf};
+ghost use Rattle.history.specs.Event.{AreSettings, lagging_of};
 ghost use Rattle.history.specs.History.{tables_of};
 ghost use Rattle.undo_book.specs.PlainPast.{past_in};
 
@@ -41,11 +41,34 @@ impl PlainBook {
         if !are_settings(&settings) {
             return Err(MakeFault::BadSettings);
         }
-        Ok(PlainBook {
+        Ok(PlainBook::with_settings(alloc, settings))
+    }
+
+    /// A book of no events, to lag behind one that has these settings. It is never full.
+    pub fn lagging(alloc: Global, settings: &Settings) -> Result<PlainBook, MakeFault>
+        ensures empty { IfOk result (λ b. ⟦<PlainBook as Book>⟧.stands_for b []) }
+        ensures settings { IfOk result (λ b. ⟦<PlainBook as Book>⟧.settings b ≡ lagging_of settings.now) }
+        ensures refused { IsErrOf result MakeFault.BadSettings ↔ ¬ (AreSettings settings.now) }
+    {
+        if !are_settings(settings) {
+            return Err(MakeFault::BadSettings);
+        }
+        match settings.lagging(alloc) {
+            Ok(lagging) => Ok(PlainBook::with_settings(alloc, lagging)),
+            Err(_) => Err(MakeFault::NoMemory),
+        }
+    }
+
+    fn with_settings(alloc: Global, settings: Settings) -> PlainBook
+        requires { 1 ≤ settings.journal }
+        ensures empty { ⟦<PlainBook as Book>⟧.stands_for result [] }
+        ensures settings { ⟦<PlainBook as Book>⟧.settings result ≡ settings }
+    {
+        PlainBook {
             past: PlainPast::new(alloc, settings),
             tables: Tables::new(alloc),
             alloc,
-        })
+        }
     }
 
     /// Takes an event. What can fail comes before anything changes.
@@ -92,7 +115,7 @@ impl Book for PlainBook {
 
     ghost stored = { stored_in };
 
-    ghost has_journal = { λ book history is. book.past.in_range.some_commands };
+    ghost has_journal = { λ book history is. book.past.has_journal };
 
     ghost stores_few = { λ book history is.
         stores_counted (settings_in book).journal (past_in book.past) history (stored_in book) book.past.counted is };
@@ -153,5 +176,9 @@ impl Book for PlainBook {
         ensures counted { (h : List Event) → StandsFor self.now h → result ≡ counted_of h }
     {
         self.past.stored
+    }
+
+    fn limit(&self) -> usize {
+        self.past.settings.cells
     }
 }

@@ -2,7 +2,6 @@
 
 ghost use Rattle.std.specs.Prelude.{◌≡◌, ℕ, ◌+◌, ◌<◌, ◌≤◌, ◌^◌, [], length, OnOk};
 ghost use Rattle.history.specs.Counts.{counted_in};
-ghost use Rattle.history.specs.Event.{AreSettings};
 ghost use Rattle.history.specs.Tickets.{InOne};
 ghost use Rattle.undo_book.specs.Index.{index_from};
 ghost use Rattle.undo_book.specs.Plain.{marks_in, marks_by, entries_in, AreFlagged, AreFlagged-prop, HasRoom, content_of, question_of};
@@ -26,7 +25,7 @@ pub struct PlainPast {
     pub log: Vec<Logged>,
     pub index: Vec<Indexed>,
     pub stored: usize,
-    pub ghost in_range: { AreSettings settings },
+    pub ghost has_journal: { 1 ≤ settings.journal },
     pub ghost few_tickets: { marks.tickets ≤ length log.items },
     pub ghost counted: { stored ≡ counted_in (entries_in log.items) },
     pub ghost indexed: { index.items ≡ index_from 0 log.items },
@@ -42,7 +41,7 @@ impl PlainPast {
 
     /// The history of no events. It takes no memory.
     pub fn new(alloc: Global, settings: Settings) -> PlainPast
-        requires { AreSettings settings }
+        requires { 1 ≤ settings.journal }
         ensures nothing { past_in result ≡ nothing }
         ensures settings { result.settings ≡ settings }
     {

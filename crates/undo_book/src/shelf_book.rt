@@ -1,7 +1,7 @@
 //! The book that keeps no history: the tables and the cache under a journal of their changes.
 
-ghost use Rattle.std.specs.Prelude.{◌≡◌, ◌↔◌, [], IfOk, IsErrOf};
-ghost use Rattle.history.specs.Event.{AreSettings};
+ghost use Rattle.std.specs.Prelude.{◌≡◌, ◌≤◌, ◌^◌, ◌↔◌, [], IfOk, IsErr, IsErrOf};
+ghost use Rattle.history.specs.Event.{AreSettings, lagging_of};
 
 use cell_store::NameSeed;
 use dns_name::{Name, NoMemory};
@@ -41,6 +41,51 @@ impl ShelfBook {
         if !are_settings(&settings) {
             return Err(MakeFault::BadSettings);
         }
+        let book = ShelfBook::with_settings(alloc, settings, seed)?;
+        Ok(book)
+    }
+
+    /// A book of no events, to lag behind one that has these settings. It is never full. Its cache hashes names with the fixed seed.
+    pub fn lagging(alloc: Global, settings: &Settings) -> Result<ShelfBook, MakeFault>
+        ensures empty { IfOk result (λ b. ⟦<ShelfBook as Book>⟧.stands_for b []) }
+        ensures settings { IfOk result (λ b. ⟦<ShelfBook as Book>⟧.settings b ≡ lagging_of settings.now) }
+        ensures refused { IsErrOf result MakeFault.BadSettings ↔ ¬ (AreSettings settings.now) }
+    {
+        let book = ShelfBook::lagging_seeded(alloc, settings, NameSeed::fixed())?;
+        Ok(book)
+    }
+
+    /// The same, but its cache hashes names with a seed that the program drew.
+    pub fn lagging_seeded(
+        alloc: Global,
+        settings: &Settings,
+        seed: NameSeed,
+    ) -> Result<ShelfBook, MakeFault>
+        ensures empty { IfOk result (λ b. ⟦<ShelfBook as Book>⟧.stands_for b []) }
+        ensures settings { IfOk result (λ b. ⟦<ShelfBook as Book>⟧.settings b ≡ lagging_of settings.now) }
+        ensures refused { IsErrOf result MakeFault.BadSettings ↔ ¬ (AreSettings settings.now) }
+    {
+        if !are_settings(settings) {
+            return Err(MakeFault::BadSettings);
+        }
+        let Ok(lagging) = settings.lagging(alloc) else {
+            return Err(MakeFault::NoMemory);
+        };
+        let book = ShelfBook::with_settings(alloc, lagging, seed)?;
+        Ok(book)
+    }
+
+    fn with_settings(
+        alloc: Global,
+        settings: Settings,
+        seed: NameSeed,
+    ) -> Result<ShelfBook, MakeFault>
+        requires journal { 1 ≤ settings.journal }
+        requires cells { settings.cells ≤ 2 ^ 62 }
+        ensures empty { IfOk result (λ b. ⟦<ShelfBook as Book>⟧.stands_for b []) }
+        ensures settings { IfOk result (λ b. ⟦<ShelfBook as Book>⟧.settings b ≡ settings) }
+        ensures no_memory { IsErr result → IsErrOf result MakeFault.NoMemory }
+    {
         let store = Store::new(alloc, settings.cells as u64, seed);
         match WorldBook::new(alloc, settings, store) {
             Ok(book) => Ok(ShelfBook { book }),
@@ -55,7 +100,7 @@ impl Book for ShelfBook {
     ghost use Rattle.dns_name.specs.Labels.{Labels};
     ghost use Rattle.ranked.specs.declared.find.Scope.{Scope};
     ghost use Rattle.history.specs.declared.event.Event.{Event};
-    ghost use Rattle.history.specs.Answers.{Answers, history_after};
+    ghost use Rattle.history.specs.Answers.{Answers, Follows, history_after};
     ghost use Rattle.history.specs.History.{past_of};
     ghost use Rattle.world_book.specs.Versions.{count_pairs, pairs_left, AreAliveAfter, ForgetsOldest, IsFreeIn};
 
@@ -104,6 +149,28 @@ impl Book for ShelfBook {
         }
     }
 
+    fn follow(&mut self, event: Event) -> Result<(), StepFault>
+        ensures answers { (h : List Event) → ⟦<WorldBook<StoreChange> as Book>⟧.stands_for self.old.book h →
+            Follows (⟦<WorldBook<StoreChange> as Book>⟧.settings self.old.book) h event result }
+        ensures stands { (h : List Event) → ⟦<WorldBook<StoreChange> as Book>⟧.stands_for self.old.book h →
+            ⟦<WorldBook<StoreChange> as Book>⟧.stands_for self.new.book (history_after h event result) }
+        ensures full { (n : ℕ) → IsErrOf result (StepFault.Full n) → ⟦<WorldBook<StoreChange> as Book>⟧.stored self.old.book ≡ n }
+        ensures same_store { OnErr result (⟦<WorldBook<StoreChange> as Book>⟧.stored self.new.book
+            ≡ ⟦<WorldBook<StoreChange> as Book>⟧.stored self.old.book) }
+        ensures settings { ⟦<WorldBook<StoreChange> as Book>⟧.settings self.new.book
+            ≡ ⟦<WorldBook<StoreChange> as Book>⟧.settings self.old.book }
+
+        // A sweep, a forget, an undo or a redo that reaches a flush, and an admission whose pair is alive in some version need no memory.
+        ensures free { (h : List Event) → ⟦<WorldBook<StoreChange> as Book>⟧.stands_for self.old.book h →
+            IsFreeIn (past_of (⟦<WorldBook<StoreChange> as Book>⟧.settings self.old.book).journal h) event →
+            IfErr result (λ fault. (fault ≡ StepFault.BadMoment) ⊎ (fault ≡ StepFault.CountEnded)) }
+    {
+        match self.book.follow(event) {
+            Ok(()) => Ok(()),
+            Err(fault) => Err(fault),
+        }
+    }
+
     fn sweep_some(&mut self) -> bool {
         self.book.sweep_some()
     }
@@ -145,5 +212,9 @@ impl Book for ShelfBook {
             AreAliveAfter (⟦<WorldBook<StoreChange> as Book>⟧.settings self.now.book).journal h pairs → count_pairs pairs ≤ result }
     {
         self.book.stored()
+    }
+
+    fn limit(&self) -> usize {
+        self.book.limit()
     }
 }

@@ -1,6 +1,7 @@
-//! Jobs of a worker at a shared book whose call log is full, as those of a service are.
+//! Jobs of a worker at a shared book, whose window has as many calls as that of a service.
 
 ghost use Rattle.std.specs.Prelude.{◌≡◌, []};
+ghost use Rattle.history.specs.Event.{lagging_of};
 
 use crate::answers::answer;
 use crate::block_list::block;
@@ -46,12 +47,16 @@ fn work_at<D: Numbered + Drop>(
     Ok(worker.network.digest.sum())
 }
 
-/// Does a job at a shared book that is empty. One call is recorded, and all others are not.
+/// The calls that the window has, as many as a service's by default.
+const WINDOW: u64 = 10_000;
+
+/// Does a job at a shared book that is empty.
 fn work_over<B: Book, L: CallLedger, R: Wait>(
     rt: &R,
     alloc: Global,
     blank: Blank,
     book: B,
+    opening: B,
     job: Job,
     seed: u32,
     size: u32,
@@ -59,19 +64,13 @@ fn work_over<B: Book, L: CallLedger, R: Wait>(
 ) -> anyhow::Result<u64>
     requires name { blank.name ≡ L.name }
     requires parts { blank.parts ≡ L.parts }
-    requires limit { 1 ≡ L.limit }
+    requires limit { WINDOW ≡ L.limit }
     requires settings { B.settings book ≡ L.settings }
-    requires fresh { B.stands_for book [] }
+    requires lags { B.settings opening ≡ lagging_of L.settings }
+    requires fresh { B.stands_for book [] × B.stands_for opening [] }
 {
-    let (book, pass) = SharedBook::<B, L>::new(alloc, blank, book, 1)?;
-    work_at(
-        alloc,
-        Seat::new(rt, alloc, &book, pass),
-        job,
-        seed,
-        size,
-        count,
-    )
+    let (book, pass) = SharedBook::<B, L>::new(alloc, blank, book, opening, WINDOW)?;
+    work_at(alloc, Seat::new(rt, &book, pass), job, seed, size, count)
 }
 
 /// The settings of the book.
@@ -94,6 +93,18 @@ pub fn shared_job<R: Wait>(
     size: u32,
     count: u32,
 ) -> anyhow::Result<u64> {
-    let book = ShelfBook::new(alloc, settings(alloc)?)?;
-    work_over::<ShelfBook, Brand, R>(rt, alloc, Blank::new(1), book, job, seed, size, count)
+    let settings = settings(alloc)?;
+    let opening = ShelfBook::lagging(alloc, &settings)?;
+    let book = ShelfBook::new(alloc, settings)?;
+    work_over::<ShelfBook, Brand, R>(
+        rt,
+        alloc,
+        Blank::new(1),
+        book,
+        opening,
+        job,
+        seed,
+        size,
+        count,
+    )
 }

@@ -1,6 +1,6 @@
 -- A book goes on standing for its history, with the event or without it.
 use Rattle.std.proofs.Common.{◌≡◌, ℕ, ◌+◌, ◌<◌, ◌≤◌, Bool, true, false, cond, List, [], ◌∷◌, ◌++◌, map, max, refl, sym, ap, subst, ◌∙◌, arith, inl, inr, length-append}
-use Rattle.std.specs.Prelude.{count_by, not, ◌&&◌, ◌||◌, filter, Ok, Err}
+use Rattle.std.specs.Prelude.{count_by, not, ◌&&◌, ◌||◌, ◌⊎◌, filter, Result, Ok, Err, IfErr}
 use Rattle.std.specs.Set.{is_member}
 use Rattle.std.proofs.lemmas.List.{map-append}
 use Rattle.std.proofs.lemmas.List.Folds.{list_any-append}
@@ -27,7 +27,7 @@ use Rattle.history.specs.declared.tables.Tables.{Tables}
 use Rattle.history.specs.Answers.{Answers}
 use Rattle.history.specs.Event.{moment_of, is_admission}
 use Rattle.history.specs.History.{Past, past_of, nothing, followed_by}
-use Rattle.world_book.specs.Book.{BookState, IsBookOf, IsUntouched}
+use Rattle.world_book.specs.Book.{BookState, IsBookOf, IsPassed, IsUntouched}
 use Rattle.world_book.specs.Deeds.{empty_face}
 use Rattle.world_book.specs.Step.{ForgetsPairs, IsFaultOf}
 use Rattle.world_book.specs.Versions.{finds_after, finds_left, pairs_left, ForgetsOldest}
@@ -90,6 +90,14 @@ among_left counts finds owner w w' among adds gone pair has =
     elim (cases_Bool (name_eq owner pair.0)) [
       | inl same ↦ absurd (false≢true (sym (gone pair same) ∙ has))
       | inr other ↦ still_among owner pair finds other (among pair (adds pair has))
+    ]
+
+-- A book that refuses an event as too late, or as one too many, is not full.
+pub never_full : {A Q : Type 0} (answer : Result A StepFault) (n : ℕ) → IfErr answer (λ fault. (fault ≡ BadMoment) ⊎ (fault ≡ CountEnded)) → answer ≡ Err (Full n) → Q
+never_full {A} answer n untimely is =
+    elim (subst (λ (r : Result A StepFault). IfErr r (λ fault. (fault ≡ BadMoment) ⊎ (fault ≡ CountEnded))) is untimely) [
+      | inl early ↦ absurd (cc)
+      | inr ended ↦ absurd (cc)
     ]
 
 module _ {W S : Type 0} (by : Ghosts W Tables S Command) where
@@ -178,6 +186,28 @@ module _ {W S : Type 0} (by : Ghosts W Tables S Command) where
       let past = past_of book.settings.journal h in
       let at : clock ≡ max past.now (moment_of event) = is ∙ ap (λ (m : ℕ). max m (moment_of event)) so.moment in
       (record { moment = timely; count_goes_on = subst (λ (n : ℕ). n < MOST_EVENTS) so.count counted }, told book.settings.journal past at so.tied)
+
+  -- an event that changes nothing but the clock, of which no reply is read
+  pub passed : {A : Type 0} (book : BookState W S) (w' : W) (clock : ℕ) (event : Event) (taken : A) → clock ≡ max book.moment (moment_of event) → moment_of event < MOMENT_END → book.count < MOST_EVENTS →
+      TakesIn by clock event book.world book.changes w' book.changes → by.stored w' ≤ by.stored book.world + cond (is_admission event) 1 0 → by.limit w' ≡ by.limit book.world →
+      AddsPairs by.counts (pairs_left (event ∷ [])) book.world w' → ForgetsPairs by event w' →
+      IsPassed by book event (Ok taken) (record { world = w'; changes = book.changes; settings = book.settings; moment = clock; count = book.count + 1 })
+  passed book w' clock event taken is timely counted takes fewer same adds gone = record {
+    answers = λ h so. record { moment = timely; count_goes_on = subst (λ (n : ℕ). n < MOST_EVENTS) so.count counted };
+    stands = goes_on book w' book.changes clock event is takes fewer same adds gone;
+    same_store = tt;
+    same_settings = refl;
+    untimely = tt;
+  }
+
+  -- such an event that is too late, and one after the last that is counted
+  pub too_late : {A : Type 0} (book : BookState W S) (event : Event) → MOMENT_END ≤ moment_of event → IsPassed {A = A} by book event (Err BadMoment) book
+  too_late book event late =
+      record { answers = λ h so. late; stands = λ h so. so; same_store = refl; same_settings = refl; untimely = inl refl }
+
+  pub count_ended : {A : Type 0} (book : BookState W S) (event : Event) → moment_of event < MOMENT_END → MOST_EVENTS ≤ book.count → IsPassed {A = A} by book event (Err CountEnded) book
+  count_ended book event early ended =
+      record { answers = λ h so. (early, subst (λ (n : ℕ). MOST_EVENTS ≤ n) so.count ended); stands = λ h so. so; same_store = refl; same_settings = refl; untimely = inr refl }
 
   pub faulted : (book : BookState W S) (event : Event) (fault : StepFault) → moment_of event < MOMENT_END → book.count < MOST_EVENTS →
       IsFaultOf by book.world event fault → (h : List Event) → BookOf book h → Answers book.settings h event (Err fault)

@@ -1,5 +1,5 @@
 -- What a book keeps, and which histories it represents.
-use Rattle.std.specs.Prelude.{◌≡◌, ◌≤◌, ℕ, Bool, List, [], length, count_by, refl}
+use Rattle.std.specs.Prelude.{◌≡◌, ◌≤◌, ◌⊎◌, ℕ, Bool, List, [], length, count_by, refl, Result, IfErr, OnErr}
 use Rattle.std.specs.Coded.{Coded, code_by, coded×, coded_ℕ}
 use Rattle.change_law.specs.declared.world.World.{Ghosts}
 use Rattle.change_law.specs.Face.{Face, IsSame}
@@ -9,7 +9,10 @@ use Rattle.history.specs.declared.event.Command.{Command}
 use Rattle.history.specs.declared.event.Event.{Event}
 use Rattle.history.specs.declared.event.Settings.{Settings}
 use Rattle.history.specs.declared.tables.Tables.{Tables}
+use Rattle.history.specs.declared.book.StepFault.{StepFault}
+use Rattle.history.specs.declared.book.StepFault.TheVariants.{BadMoment, CountEnded}
 use Rattle.history.specs.declared.limits.TheConstants.{MOST_EVENTS}
+use Rattle.history.specs.Answers.{Follows, history_after}
 use Rattle.history.specs.Event.{is_admission}
 use Rattle.history.specs.History.{past_of}
 use Rattle.world_book.specs.Step.{IsSound}
@@ -46,6 +49,14 @@ pub record IsBookOf {W S : Type 0} (by : Ghosts W Tables S Command) (book : Book
   pub pairs : CountsAmong by.counts (pairs_left history) book.world
   pub most : by.limit book.world ≡ book.settings.cells
   pub some_commands : 1 ≤ book.settings.journal
+
+-- A book took an event that changes nothing but the clock, or it was not timely. Nobody reads the reply.
+pub record IsPassed {W S A : Type 0} (by : Ghosts W Tables S Command) (book : BookState W S) (event : Event) (answer : Result A StepFault) (book' : BookState W S) : Type 0 where
+  pub answers : (h : List Event) → IsBookOf by book h → Follows book.settings h event answer
+  pub stands : (h : List Event) → IsBookOf by book h → IsBookOf by book' (history_after h event answer)
+  pub same_store : OnErr answer (by.stored book'.world ≡ by.stored book.world)
+  pub same_settings : book'.settings ≡ book.settings
+  pub untimely : IfErr answer (λ fault. (fault ≡ BadMoment) ⊎ (fault ≡ CountEnded))
 
 -- Nothing has happened to a world: it keeps no change, by each choice it shows this face, it knows no ticket, it stores no cell, and no pair counts. It may store so many.
 pub record IsUntouched {W T S D : Type 0} (by : Ghosts W T S D) (shown : Face T) (most : ℕ) (world : W) : Type 0 where

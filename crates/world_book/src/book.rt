@@ -1,11 +1,10 @@
 //! A book of a world under a journal of its changes. It keeps no history.
 
-ghost use Rattle.std.specs.Prelude.{◌≡◌, [], IfOk};
-ghost use Rattle.history.specs.Event.{AreSettings};
-ghost use Rattle.world_book.specs.Book.{IsUntouched};
+ghost use Rattle.std.specs.Prelude.{◌≡◌, ◌≤◌, [], IfOk};
+ghost use Rattle.world_book.specs.Book.{IsPassed, IsUntouched};
 ghost use Rattle.world_book.specs.Deeds.{empty_face};
 
-use crate::finds::sweep_some;
+use crate::finds::{sweep_some, sweep_unread};
 use crate::obey::obey;
 use crate::seen::seen;
 use crate::world::{BookChange, BookWorld};
@@ -46,7 +45,7 @@ impl<C: BookChange> Model for WorldBook<C> {
 impl<C: BookChange> WorldBook<C> {
     /// A book of no events, over a world to which nothing has happened.
     pub fn new(alloc: Global, settings: Settings, world: C::World) -> Result<WorldBook<C>, NoMemory>
-        requires settings { AreSettings settings }
+        requires journal { 1 ≤ settings.journal }
         requires untouched { IsUntouched C.World.World empty_face settings.cells world }
         ensures empty { IfOk result (λ b. ⟦<WorldBook<C> as Book>⟧.stands_for b []) }
         ensures settings { IfOk result (λ b. ⟦<WorldBook<C> as Book>⟧.settings b ≡ settings) }
@@ -61,6 +60,40 @@ impl<C: BookChange> WorldBook<C> {
             alloc,
         })
     }
+
+    /// Takes a lookup whose reply nobody reads. Nothing but the clock changes.
+    fn pass_look(&mut self, moment: u64, ask: &Ask) -> Result<(), StepFault>
+        ensures { IsPassed C.World.World self.old (Event.Look moment ask.now) result self.new }
+    {
+        let _ = ask;
+        if moment >= MOMENT_END {
+            return Err(StepFault::BadMoment);
+        }
+        if self.count >= MOST_EVENTS {
+            return Err(StepFault::CountEnded);
+        }
+        let clock = self.moment.max(moment);
+        self.moment = clock;
+        self.count += 1;
+        Ok(())
+    }
+
+    /// Takes a sweep whose reply nobody reads. It removes only some of what has expired, so that it is short.
+    fn pass_sweep(&mut self, moment: u64) -> Result<(), StepFault>
+        ensures { IsPassed C.World.World self.old (Event.Sweep moment) result self.new }
+    {
+        if moment >= MOMENT_END {
+            return Err(StepFault::BadMoment);
+        }
+        if self.count >= MOST_EVENTS {
+            return Err(StepFault::CountEnded);
+        }
+        let clock = self.moment.max(moment);
+        sweep_unread(&self.journal, &mut self.world, clock);
+        self.moment = clock;
+        self.count += 1;
+        Ok(())
+    }
 }
 
 impl<C: BookChange> Book for WorldBook<C> {
@@ -70,7 +103,7 @@ impl<C: BookChange> Book for WorldBook<C> {
     ghost use Rattle.ranked.specs.declared.find.Scope.{Scope};
     ghost use Rattle.change_law.specs.Pairs.{count_pairs};
     ghost use Rattle.history.specs.declared.event.Event.{Event};
-    ghost use Rattle.history.specs.Answers.{Answers, history_after};
+    ghost use Rattle.history.specs.Answers.{Answers, Follows, history_after};
     ghost use Rattle.history.specs.History.{past_of};
     ghost use Rattle.world_book.specs.Book.{IsBookOf};
     ghost use Rattle.world_book.specs.Versions.{pairs_left, AreAliveAfter, ForgetsOldest, IsFreeIn};
@@ -135,6 +168,31 @@ impl<C: BookChange> Book for WorldBook<C> {
         }
     }
 
+    fn follow(&mut self, event: Event) -> Result<(), StepFault>
+        ensures answers { (h : List Event) → IsBookOf C.World.World self.old h → Follows self.old.settings h event result }
+        ensures stands { (h : List Event) → IsBookOf C.World.World self.old h →
+            IsBookOf C.World.World self.new (history_after h event result) }
+        ensures full { (n : ℕ) → IsErrOf result (StepFault.Full n) → C.World.stored self.old.world ≡ n }
+        ensures same_store { OnErr result (C.World.stored self.new.world ≡ C.World.stored self.old.world) }
+        ensures settings { self.new.settings ≡ self.old.settings }
+
+        // An event that needs no memory is refused only by the clock and the count of events.
+        ensures free { (h : List Event) → IsBookOf C.World.World self.old h → IsFreeIn (past_of self.old.settings.journal h) event →
+            IfErr result (λ fault. (fault ≡ StepFault.BadMoment) ⊎ (fault ≡ StepFault.CountEnded)) }
+    {
+        match event {
+            Event::Look { moment, ask } => self.pass_look(moment, &ask),
+            Event::Sweep { moment } => self.pass_sweep(moment),
+            event => match self.step(event) {
+                Ok(reply) => {
+                    drop(reply);
+                    Ok(())
+                }
+                Err(fault) => Err(fault),
+            },
+        }
+    }
+
     fn sweep_some(&mut self) -> bool {
         sweep_some(&self.journal, &mut self.world, self.moment)
     }
@@ -196,5 +254,9 @@ impl<C: BookChange> Book for WorldBook<C> {
     {
         let _undone = self.journal.undone();
         self.world.stored()
+    }
+
+    fn limit(&self) -> usize {
+        self.settings.cells
     }
 }

@@ -72,6 +72,16 @@ pub(crate) fn sweep<C: BookChange>(journal: &Journal<C>, world: &mut C::World, c
     world.sweep(clock);
 }
 
+/// Lets the world remove some of what has expired, at a sweep whose reply nobody reads. `clock` is the clock after the sweep.
+pub(crate) fn sweep_unread<C: BookChange>(journal: &Journal<C>, world: &mut C::World, clock: u64)
+    requires { IsSound C.World.World world.old journal.now }
+    ensures tied { (moment : ℕ) → TakesIn C.World.World clock (Sweep moment) world.old journal.now world.new journal.now }
+    ensures sound { IsSoundAfter C.World.World 0 [] world.old journal.now world.new journal.now }
+{
+    let _ = journal;
+    let _more = world.sweep_some(clock);
+}
+
 /// Lets the world forget a name.
 pub(crate) fn forget<C: BookChange>(journal: &Journal<C>, world: &mut C::World, owner: &Name)
     requires { IsSound C.World.World world.old journal.now }

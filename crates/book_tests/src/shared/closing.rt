@@ -1,8 +1,9 @@
 //! Closing with what two callers hand in, whole and with something wrong.
 
 ghost use Rattle.std.specs.Prelude.{◌≡◌, []};
+ghost use Rattle.history.specs.Event.{lagging_of};
 
-use crate::books::book;
+use crate::books::books;
 use crate::outcome::{Outcome, outcome_of};
 use crate::shared::callers::{HandedIn, are_told, both};
 use crate::shared::events::{of_the_first, of_the_second};
@@ -38,7 +39,7 @@ enum Case {
 
 /// A receipt of this number and reply, and else like another.
 fn receipt(number: u64, like: &Receipt, reply: Reply) -> Result<Receipt, Fail> {
-    match like.event.share() {
+    match like.event.copy() {
         Ok(event) => Ok(Receipt {
             number,
             caller: like.caller,
@@ -53,7 +54,7 @@ fn receipt(number: u64, like: &Receipt, reply: Reply) -> Result<Receipt, Fail> {
 }
 
 /// The same receipt, if its reply has no more than a ticket.
-fn again(like: &Receipt) -> Result<Receipt, Fail> {
+pub fn again(like: &Receipt) -> Result<Receipt, Fail> {
     let reply = match outcome_of(&like.reply) {
         Outcome::Done(ticket) => Reply::Done { ticket },
         Outcome::Undone(ticket) => Reply::Undone { ticket },
@@ -116,7 +117,7 @@ fn asked_again<B: Book, L: CallLedger>(
     alloc: Global,
     kept: Kept<B, L>,
 ) -> (usize, Option<CloseFault>) {
-    let entries = kept.entries().len();
+    let entries = kept.window().len();
     match kept.close(Vec::new(alloc), Vec::new(alloc)) {
         Ok(_) => (entries, None),
         Err(not_closed) => (entries, Some(not_closed.fault)),
@@ -181,14 +182,15 @@ fn two_callers<
     B: Book + Send + Sync,
     L: CallLedger + Send + Sync,
     R: Threads + Wait + Sync + Abort,
->(rt: &R, alloc: Global, blank: Blank, book: B, case: Case) -> Result<Told, Fail>
+>(rt: &R, alloc: Global, blank: Blank, book: B, opening: B, case: Case) -> Result<Told, Fail>
     requires name { blank.name ≡ L.name }
     requires parts { blank.parts ≡ L.parts }
     requires limit { 100 ≡ L.limit }
     requires settings { B.settings book ≡ L.settings }
-    requires fresh { B.stands_for book [] }
+    requires lags { B.settings opening ≡ lagging_of L.settings }
+    requires fresh { B.stands_for book [] × B.stands_for opening [] }
 {
-    let (book, pass) = SharedBook::<B, L>::new(alloc, blank, book, 100)?;
+    let (book, pass) = SharedBook::<B, L>::new(alloc, blank, book, opening, 100)?;
     let (first, second) = called(rt, alloc, &book, pass)?;
     let (passes, receipts) = handed_in(alloc, case, first, second)?;
     Ok(told(alloc, book.close(passes, receipts)))
@@ -199,8 +201,8 @@ fn closed_as<R: Threads + Wait + Sync + Abort>(
     alloc: Global,
     case: Case,
 ) -> Result<Told, Fail> {
-    let book = book(alloc, 64, 100)?;
-    two_callers::<PlainBook, Brand, R>(rt, alloc, Blank::new(1 << 20), book, case)
+    let (book, opening) = books(alloc, 64, 100)?;
+    two_callers::<PlainBook, Brand, R>(rt, alloc, Blank::new(1 << 20), book, opening, case)
 }
 
 /// The passes are given up when closing is asked first, so all six calls are missing then.

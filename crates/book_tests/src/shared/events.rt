@@ -29,9 +29,8 @@ pub fn look_address(alloc: Global) -> Result<Shared<Event>, Fail> {
     look(alloc, Ask::Answer(Question { owner, kind: A }))
 }
 
-fn set_zone(alloc: Global) -> Result<Shared<Event>, Fail> {
-    let name = Name::from_text(alloc, b"c")?;
-    let kind = ZoneType::Static;
+fn set_zone(alloc: Global, name: &[u8], kind: ZoneType) -> Result<Shared<Event>, Fail> {
+    let name = Name::from_text(alloc, name)?;
     let command = Command::SetZone { name, kind };
     share(alloc, Event::Do { moment: 0, command })
 }
@@ -44,7 +43,7 @@ pub fn too_late(alloc: Global) -> Result<Shared<Event>, Fail> {
 /// The first caller sets a zone and takes it back, and looks after each.
 pub fn of_the_first(alloc: Global) -> Result<Vec<Shared<Event>>, Fail> {
     Ok(vec![in alloc;
-        set_zone(alloc)?,
+        set_zone(alloc, b"c", ZoneType::Static)?,
         look(alloc, Ask::Zones)?,
         share(alloc, Event::Undo { moment: 0 })?,
         look(alloc, Ask::Zones)?,
@@ -54,4 +53,14 @@ pub fn of_the_first(alloc: Global) -> Result<Vec<Shared<Event>>, Fail> {
 /// The second brings an address, and looks at it.
 pub fn of_the_second(alloc: Global) -> Result<Vec<Shared<Event>>, Fail> {
     Ok(vec![in alloc; admit(alloc)?, look_address(alloc)?]?)
+}
+
+/// Two zones are set, the second is taken back, and the zones are looked up.
+pub fn four_about_zones(alloc: Global) -> Result<Vec<Shared<Event>>, Fail> {
+    Ok(vec![in alloc;
+        set_zone(alloc, b"a", ZoneType::Deny)?,
+        set_zone(alloc, b"b", ZoneType::Deny)?,
+        share(alloc, Event::Undo { moment: 0 })?,
+        look(alloc, Ask::Zones)?,
+    ]?)
 }

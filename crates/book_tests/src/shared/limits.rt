@@ -1,52 +1,16 @@
-//! What a book is made with, and a record that is full.
+//! What a book is made with.
 
 ghost use Rattle.std.specs.Prelude.{◌≡◌, []};
+ghost use Rattle.history.specs.Event.{lagging_of};
 
-use crate::books::book;
-use crate::shared::callers::call_all;
-use crate::shared::events::of_the_second;
+use crate::books::books;
 use history::{Book, MakeFault};
-use shared_book::{Blank, CallLedger, CloseFault, MOST_RECORDED, SharedBook, SplitFault};
+use shared_book::{Blank, CallLedger, MOST_RECORDED, SharedBook, SplitFault};
 use std::alloc::Global;
 use std::marker::Brand;
-use std::process::Abort;
 use std::sync::Wait;
 use std::test::*;
 use undo_book::PlainBook;
-
-/// One call more than is recorded.
-fn past_the_record<B: Book, L: CallLedger, R: Wait + Abort>(
-    rt: &R,
-    alloc: Global,
-    blank: Blank,
-    book: B,
-) -> Result<Option<CloseFault>, Fail>
-    requires name { blank.name ≡ L.name }
-    requires parts { blank.parts ≡ L.parts }
-    requires limit { 1 ≡ L.limit }
-    requires settings { B.settings book ≡ L.settings }
-    requires fresh { B.stands_for book [] }
-{
-    let (book, pass) = SharedBook::<B, L>::new(alloc, blank, book, 1)?;
-    let (pass, receipts) = call_all(rt, alloc, &book, pass, of_the_second(alloc)?)?;
-    assert!(rt; receipts.len() == 2);
-    match book.close(vec![in alloc; pass]?, receipts) {
-        Ok(_) => Ok(None),
-        Err(not_closed) => Ok(Some(not_closed.fault)),
-    }
-}
-
-fn past_the_record_as<R: Wait + Abort>(rt: &R, alloc: Global) -> Result<Option<CloseFault>, Fail> {
-    let book = book(alloc, 64, 100)?;
-    past_the_record::<PlainBook, Brand, R>(rt, alloc, Blank::new(1), book)
-}
-
-#[test]
-fn a_record_is_not_whole(rt: HostRuntime) -> Result<(), Fail> {
-    let told = past_the_record_as(&rt, rt.alloc())?;
-    assert!(rt; told == Some(CloseFault::NotWhole));
-    Ok(())
-}
 
 /// Whether a book is refused that is made with these, and whether its first pass can be split.
 fn made<B: Book, L: CallLedger, R: Wait>(
@@ -54,15 +18,17 @@ fn made<B: Book, L: CallLedger, R: Wait>(
     alloc: Global,
     blank: Blank,
     book: B,
+    opening: B,
     limit: u64,
 ) -> Result<Option<SplitFault>, MakeFault>
     requires name { blank.name ≡ L.name }
     requires parts { blank.parts ≡ L.parts }
     requires limit { limit ≡ L.limit }
     requires settings { B.settings book ≡ L.settings }
-    requires fresh { B.stands_for book [] }
+    requires lags { B.settings opening ≡ lagging_of L.settings }
+    requires fresh { B.stands_for book [] × B.stands_for opening [] }
 {
-    let (book, mut pass) = SharedBook::<B, L>::new(alloc, blank, book, limit)?;
+    let (book, mut pass) = SharedBook::<B, L>::new(alloc, blank, book, opening, limit)?;
     Ok(book.split(rt, &mut pass).err())
 }
 
@@ -72,8 +38,8 @@ fn made_as<R: Wait>(
     parts: u64,
     limit: u64,
 ) -> Result<Option<SplitFault>, MakeFault> {
-    let book = book(alloc, 64, 100)?;
-    made::<PlainBook, Brand, R>(rt, alloc, Blank::new(parts), book, limit)
+    let (book, opening) = books(alloc, 64, 100)?;
+    made::<PlainBook, Brand, R>(rt, alloc, Blank::new(parts), book, opening, limit)
 }
 
 #[test]

@@ -1,8 +1,9 @@
 //! A pass whose call the book refuses, and two passes in one.
 
 ghost use Rattle.std.specs.Prelude.{◌≡◌, []};
+ghost use Rattle.history.specs.Event.{lagging_of};
 
-use crate::books::book;
+use crate::books::books;
 use crate::shared::callers::call_all;
 use crate::shared::closing::{Told, told};
 use crate::shared::events::{of_the_second, too_late};
@@ -21,14 +22,16 @@ fn refused_and_taken<B: Book, L: CallLedger, R: Wait + Abort>(
     alloc: Global,
     blank: Blank,
     book: B,
+    opening: B,
 ) -> Result<Told, Fail>
     requires name { blank.name ≡ L.name }
     requires parts { blank.parts ≡ L.parts }
     requires limit { 100 ≡ L.limit }
     requires settings { B.settings book ≡ L.settings }
-    requires fresh { B.stands_for book [] }
+    requires lags { B.settings opening ≡ lagging_of L.settings }
+    requires fresh { B.stands_for book [] × B.stands_for opening [] }
 {
-    let (book, mut pass) = SharedBook::<B, L>::new(alloc, blank, book, 100)?;
+    let (book, mut pass) = SharedBook::<B, L>::new(alloc, blank, book, opening, 100)?;
     let fault = book.call(rt, &mut pass, too_late(alloc)?).err();
     assert!(rt; fault == Some(CallFault::Step(StepFault::BadMoment)));
     let (pass, receipts) = call_all(rt, alloc, &book, pass, of_the_second(alloc)?)?;
@@ -36,8 +39,8 @@ fn refused_and_taken<B: Book, L: CallLedger, R: Wait + Abort>(
 }
 
 fn refused_and_taken_as<R: Wait + Abort>(rt: &R, alloc: Global) -> Result<Told, Fail> {
-    let book = book(alloc, 64, 100)?;
-    refused_and_taken::<PlainBook, Brand, R>(rt, alloc, Blank::new(1), book)
+    let (book, opening) = books(alloc, 64, 100)?;
+    refused_and_taken::<PlainBook, Brand, R>(rt, alloc, Blank::new(1), book, opening)
 }
 
 #[test]
@@ -53,15 +56,17 @@ fn seen_by_both<B: Book, L: CallLedger, R: Wait>(
     alloc: Global,
     blank: Blank,
     book: B,
+    opening: B,
     in_order: bool,
 ) -> Result<u64, Fail>
     requires name { blank.name ≡ L.name }
     requires parts { blank.parts ≡ L.parts }
     requires limit { 100 ≡ L.limit }
     requires settings { B.settings book ≡ L.settings }
-    requires fresh { B.stands_for book [] }
+    requires lags { B.settings opening ≡ lagging_of L.settings }
+    requires fresh { B.stands_for book [] × B.stands_for opening [] }
 {
-    let (book, mut one) = SharedBook::<B, L>::new(alloc, blank, book, 100)?;
+    let (book, mut one) = SharedBook::<B, L>::new(alloc, blank, book, opening, 100)?;
     let two = book.split(rt, &mut one)?;
     let (two, _) = call_all(rt, alloc, &book, two, of_the_second(alloc)?)?;
     let joined = if in_order {
@@ -73,8 +78,8 @@ fn seen_by_both<B: Book, L: CallLedger, R: Wait>(
 }
 
 fn seen_by_both_as<R: Wait>(rt: &R, alloc: Global, in_order: bool) -> Result<u64, Fail> {
-    let book = book(alloc, 64, 100)?;
-    seen_by_both::<PlainBook, Brand, R>(rt, alloc, Blank::new(2), book, in_order)
+    let (book, opening) = books(alloc, 64, 100)?;
+    seen_by_both::<PlainBook, Brand, R>(rt, alloc, Blank::new(2), book, opening, in_order)
 }
 
 #[test]

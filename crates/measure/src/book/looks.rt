@@ -1,9 +1,10 @@
 //! Looks of each kind, many times. A book that replays looks at all that it was given, so each book is asked few times.
 
 ghost use Rattle.std.specs.Prelude.{◌≡◌, []};
+ghost use Rattle.history.specs.Event.{lagging_of};
 
 use crate::book::events::{admission, look, seen_in};
-use crate::books::{empty_book, give};
+use crate::books::{empty_book, empty_books, give};
 use anyhow::anyhow;
 use dns_text::Shared;
 use history::{Book, Event};
@@ -53,22 +54,24 @@ fn call_once<B: Book, L: CallLedger, R: Wait>(
     Ok(seen)
 }
 
-/// Looks through the lock, with a record of so many calls.
+/// Looks through the lock, with a window of so many calls.
 fn shared<B: Book, L: CallLedger, R: Wait>(
     rt: &R,
     alloc: Global,
     blank: Blank,
     book: B,
+    opening: B,
     limit: u64,
 ) -> anyhow::Result<u32>
     requires name { blank.name ≡ L.name }
     requires parts { blank.parts ≡ L.parts }
     requires limit { limit ≡ L.limit }
     requires settings { B.settings book ≡ L.settings }
-    requires fresh { B.stands_for book [] }
+    requires lags { B.settings opening ≡ lagging_of L.settings }
+    requires fresh { B.stands_for book [] × B.stands_for opening [] }
 {
     let event = look(alloc)?;
-    let (book, mut pass) = SharedBook::<B, L>::new(alloc, blank, book, limit)?;
+    let (book, mut pass) = SharedBook::<B, L>::new(alloc, blank, book, opening, limit)?;
     call_once(rt, &book, &mut pass, admission(alloc)?)?;
     let mut seen = 0u32;
     for _ in 0..LOOKS {
@@ -78,8 +81,8 @@ fn shared<B: Book, L: CallLedger, R: Wait>(
 }
 
 fn shared_as<R: Wait>(rt: &R, alloc: Global, limit: u64) -> anyhow::Result<u32> {
-    let book = empty_book(alloc)?;
-    shared::<PlainBook, Brand, R>(rt, alloc, Blank::new(1), book, limit)
+    let (book, opening) = empty_books(alloc)?;
+    shared::<PlainBook, Brand, R>(rt, alloc, Blank::new(1), book, opening, limit)
 }
 
 /// Looks at one book.

@@ -1,9 +1,10 @@
 //! A book that workers share, and an operator after them.
 
 ghost use Rattle.std.specs.Prelude.{◌≡◌, []};
+ghost use Rattle.history.specs.Event.{lagging_of};
 ghost use Rattle.shared_book.specs.declared.kept.TheConstants.{MOST_RECORDED};
 
-use crate::largest::largest_book;
+use crate::largest::largest_books;
 use crate::largest::workers::{Told, Worker, run_all, work, workers_for};
 use crate::serve::serving::tell_octets;
 use crate::stop::Stop;
@@ -42,12 +43,13 @@ fn work_all<B: Book + Send, L: CallLedger + Send + Sync, W: Threads + Wait + Syn
     tell_octets(rt, b"wrote", text.as_slice())
 }
 
-/// Shares a book among workers, with the longest record.
+/// Shares a book among workers, with the longest window.
 fn share<B: Book + Send, L: CallLedger + Send + Sync, W: Threads + Wait + Sync>(
     rt: &HostRuntime,
     waiting: &W,
     blank: Blank,
     book: B,
+    opening: B,
     texts: Vec<Vec<u8>>,
     last: Vec<u8>,
 ) -> Result<(), Stop>
@@ -55,9 +57,11 @@ fn share<B: Book + Send, L: CallLedger + Send + Sync, W: Threads + Wait + Sync>(
     requires parts { blank.parts ≡ L.parts }
     requires limit { MOST_RECORDED ≡ L.limit }
     requires settings { B.settings book ≡ L.settings }
-    requires fresh { B.stands_for book [] }
+    requires lags { B.settings opening ≡ lagging_of L.settings }
+    requires fresh { B.stands_for book [] × B.stands_for opening [] }
 {
-    let Ok((shared, pass)) = SharedBook::<B, L>::new(rt.alloc(), blank, book, MOST_RECORDED) else {
+    let made = SharedBook::<B, L>::new(rt.alloc(), blank, book, opening, MOST_RECORDED);
+    let Ok((shared, pass)) = made else {
         return Err(Stop::NoMemory);
     };
     let done = work_all(rt, waiting, &shared, pass, texts, last);
@@ -72,8 +76,8 @@ fn share_largest<W: Threads + Wait + Sync>(
     texts: Vec<Vec<u8>>,
     last: Vec<u8>,
 ) -> Result<(), Stop> {
-    let book = largest_book(rt.alloc(), Vec::new(rt.alloc()))?;
-    share::<ShelfBook, Brand, W>(rt, waiting, Blank::new(PARTS), book, texts, last)
+    let (book, opening) = largest_books(rt.alloc())?;
+    share::<ShelfBook, Brand, W>(rt, waiting, Blank::new(PARTS), book, opening, texts, last)
 }
 
 /// Shares a book of the largest settings among workers, one for each text but the last.

@@ -32,7 +32,7 @@ fn obey_text<B: Book, L: CallLedger, R: Wait>(
     out: &mut PieceWriter,
 ) -> Result<Ended, ScriptFault> {
     let Worker { pass, text } = worker;
-    let mut seat = Seat::new(rt, alloc, book, pass);
+    let mut seat = Seat::new(rt, book, pass);
     let mut clock = LineClock { moment: 0 };
     let mut reader = CountedReader::new(text.as_slice());
     let mut writer = CountedWriter::new(out);

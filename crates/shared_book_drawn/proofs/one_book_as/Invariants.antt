@@ -5,4 +5,4 @@ abbrev pub ghosts-one_book-L-Ledger : goal.ghosts-one_book-L-Ledger
 ghosts-one_book-L-Ledger g a = record { name = a.blank.name; parts = a.blank.parts }
 
 abbrev pub ghosts-one_book-L-CallLedger : goal.ghosts-one_book-L-CallLedger
-ghosts-one_book-L-CallLedger g a = record { limit = 500; settings = settings_in a.book }
+ghosts-one_book-L-CallLedger g a = record { limit = a.limit; settings = settings_in a.book }

@@ -1,6 +1,8 @@
-use Rattle.std.proofs.Common.{arith}
+use Rattle.std.proofs.Common.{rules, ◌<◌, length}
 use Rattle.shared_book.proofs.ClosingLaws.{is_entry_at}
 use Rattle.shared_book.proofs.close.is_entry.Goals as goal
 
 pub returns : goal.returns
-returns c = is_entry_at c.args.entries.now c.args.i c.args.receipt.now c.index-entries-i.result c.eq.result (omega arith) c.index-entries-i.is c.eq.ensures
+returns c =
+    let within : c.args.i < length c.args.entries.now.items = search rules in
+    is_entry_at c.args.entries.now.items c.args.i c.args.receipt.now c.index.result.now c.eq.result within c.index.ensures c.eq.ensures

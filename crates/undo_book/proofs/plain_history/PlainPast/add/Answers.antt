@@ -35,7 +35,7 @@ invariant_of-self c =
     let few = book.few_tickets in
     let flags = flags_after book.settings past event book.log.items logged book.in_one book.flagged refl added.ticket in
     record {
-      in_range = book.in_range;
+      has_journal = book.has_journal;
       few_tickets = omega (arith, c.mark.ensures.few);
       counted =
           c.stored_after-self.ensures

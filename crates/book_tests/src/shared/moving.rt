@@ -1,0 +1,117 @@
+//! A window of two calls, of four: two zones are set, the second is taken back, and the zones are looked up.
+
+ghost use Rattle.std.specs.Prelude.{◌≡◌, []};
+ghost use Rattle.history.specs.Event.{lagging_of};
+
+use crate::books::books;
+use crate::shared::callers::call_all;
+use crate::shared::closing::again;
+use crate::shared::events::four_about_zones;
+use history::Book;
+use shared_book::{Blank, CallLedger, CloseFault, Kept, NotClosed, Receipt, SharedBook};
+use std::alloc::Global;
+use std::marker::Brand;
+use std::process::Abort;
+use std::sync::Wait;
+use std::test::*;
+use undo_book::PlainBook;
+
+/// Which receipts are handed in.
+#[derive(Clone, Copy, PartialEq, Eq)]
+enum Case {
+    All,
+    ThirdAndFourth,
+    FirstAndFourth,
+    /// The third is replaced by a second fourth.
+    FourthTwice,
+}
+
+/// Whether the receipt of a number is handed in.
+fn is_handed_in(case: Case, number: u64) -> bool {
+    match case {
+        Case::All => true,
+        Case::ThirdAndFourth => number >= 3,
+        Case::FirstAndFourth => number == 1 || number == 4,
+        Case::FourthTwice => number == 4,
+    }
+}
+
+fn change(case: Case, receipts: &mut Vec<Receipt>) -> Result<(), Fail> {
+    receipts.retain(|receipt| is_handed_in(case, receipt.number));
+    if case == Case::FourthTwice {
+        let fourth = again(receipts.first().ok_or("a receipt")?)?;
+        receipts.push(fourth)?;
+    }
+    Ok(())
+}
+
+/// What closing tells, the numbers of the window's calls, and how many zones the opening book and the book have.
+#[derive(PartialEq, Drop)]
+struct Found {
+    fault: Option<CloseFault>,
+    numbers: (u64, u64),
+    zones: (usize, usize),
+}
+
+fn told<B: Book, L: CallLedger>(
+    fault: Option<CloseFault>,
+    kept: &Kept<B, L>,
+) -> Result<Found, Fail> {
+    let first = kept.window().front().ok_or("a call")?.number;
+    let last = kept.window().back().ok_or("a call")?.number;
+    let opened = kept.opening().zones().zones().len();
+    Ok(Found {
+        fault,
+        numbers: (first, last),
+        zones: (opened, kept.book().zones().zones().len()),
+    })
+}
+
+fn closed<B: Book, L: CallLedger, R: Wait + Abort>(
+    rt: &R,
+    alloc: Global,
+    blank: Blank,
+    book: B,
+    opening: B,
+    case: Case,
+) -> Result<Found, Fail>
+    requires name { blank.name ≡ L.name }
+    requires parts { blank.parts ≡ L.parts }
+    requires limit { 2 ≡ L.limit }
+    requires settings { B.settings book ≡ L.settings }
+    requires lags { B.settings opening ≡ lagging_of L.settings }
+    requires fresh { B.stands_for book [] × B.stands_for opening [] }
+{
+    let (book, pass) = SharedBook::<B, L>::new(alloc, blank, book, opening, 2)?;
+    let (pass, mut receipts) = call_all(rt, alloc, &book, pass, four_about_zones(alloc)?)?;
+    change(case, &mut receipts)?;
+    match book.close(vec![in alloc; pass]?, receipts) {
+        Ok(kept) => told(None, &kept),
+        Err(NotClosed { fault, kept }) => told(Some(fault), &kept),
+    }
+}
+
+fn closed_as<R: Wait + Abort>(rt: &R, alloc: Global, case: Case) -> Result<Found, Fail> {
+    let (book, opening) = books(alloc, 64, 100)?;
+    closed::<PlainBook, Brand, R>(rt, alloc, Blank::new(1), book, opening, case)
+}
+
+#[test]
+fn a_window_moves_on(rt: HostRuntime) -> Result<(), Fail> {
+    let cases = [
+        (Case::All, None),
+        (Case::ThirdAndFourth, None),
+        (Case::FirstAndFourth, Some(CloseFault::Missing { count: 1 })),
+        (Case::FourthTwice, Some(CloseFault::Mismatch { number: 3 })),
+    ];
+    for (case, fault) in cases {
+        let told = closed_as(&rt, rt.alloc(), case)?;
+        let expected = Found {
+            fault,
+            numbers: (3, 4),
+            zones: (2, 1),
+        };
+        assert!(rt; told == expected);
+    }
+    Ok(())
+}

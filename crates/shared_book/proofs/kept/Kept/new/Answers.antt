@@ -1,0 +1,9 @@
+use Rattle.std.proofs.Common.{rules, ◌≤◌, arith}
+use Rattle.shared_book.proofs.RecordLaws.{begins}
+use Rattle.shared_book.proofs.kept.Kept.new.Goals as goal
+
+pub invariant_of-kept : goal.invariant_of-kept
+invariant_of-kept g c =
+    let window = c.in-Ok.window in
+    let some : 1 ≤ window.limit = omega (arith, c.in-Ok.ensures.limit) in
+    (search rules, search rules, begins g.B.Book.stands_for g.B.Book.settings c.args.book c.args.opening window.first window.limit window.calls.items g.L.CallLedger.settings c.requires.settings c.requires.lags c.requires.fresh.0 c.requires.fresh.1 c.in-Ok.ensures.first c.in-Ok.ensures.calls some)

@@ -1,4 +1,0 @@
-use Rattle.shared_book.proofs.kept.Kept.step_unrecorded.Goals as goal
-
-pub returns-in-Err : goal.returns-in-Err
-returns-in-Err g c = c.in-Err.ensures.err c.args.pass.now
