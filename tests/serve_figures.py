@@ -24,12 +24,6 @@ COUNTERS = [
 ]
 
 
-def figures_at_rest(service):
-    """The figures once each query is counted as a hit or a miss. Over TCP that is a moment after its reply has left."""
-    until(lambda: is_quiet(service))
-    return service.figures()
-
-
 def risen(before, after):
     """The counters that rose, and by how much."""
     return {name: after[name] - before[name] for name in COUNTERS if after[name] != before[name]}
@@ -95,7 +89,7 @@ def check_queries(checks, over, workers):
         for words, asked, wanted in cases:
             before = service.figures()
             service.ask(asked, "A", over)
-            checks.equal(f"{name}: {words}", risen(before, figures_at_rest(service)), {**taken, **wanted})
+            checks.equal(f"{name}: {words}", risen(before, service.figures()), {**taken, **wanted})
         for words, octets, rcode in [
             ("no query", query("a.test.", "A")[:-1], "FORMERR"),
             ("another opcode", b"ab\x10\0" + bytes(8), "NOTIMPL"),
@@ -104,7 +98,7 @@ def check_queries(checks, over, workers):
             with service.client(over) as client:
                 client.send(octets)
                 client.octets()
-            checks.equal(f"{name}: {words}", risen(before, figures_at_rest(service)), {**taken, **hit, f"num.answer.rcode.{rcode}": 1})
+            checks.equal(f"{name}: {words}", risen(before, service.figures()), {**taken, **hit, f"num.answer.rcode.{rcode}": 1})
         for words, octets in [("a denied zone", query("a.deny.", "A")), ("a response", b"ab\x80\0" + bytes(8))]:
             before = service.figures()
             with service.client(over) as client:
@@ -112,10 +106,10 @@ def check_queries(checks, over, workers):
                 client.send(query("held.local.", "A"))
                 client.octets()
             both = {"total.num.queries": 2, "total.num.cachehits": 2, "total.num.dropped": 1, "num.answer.rcode.NOERROR": 1}
-            rose = risen(before, figures_at_rest(service))
+            rose = risen(before, service.figures())
             rose.pop("num.query.tcp", None)
             checks.equal(f"{name}: {words}", rose, both)
-        checks.equal(f"{name}: each once", until(lambda: is_quiet(service)), True)
+        checks.equal(f"{name}: each once", is_quiet(service), True)
         checks.equal(f"{name}: stopped", service.stop(), STOPPED)
 
 

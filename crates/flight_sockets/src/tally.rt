@@ -23,6 +23,8 @@ pub struct Tally {
     unanswered: AtomicU64,
     /// Whether the query that was taken last wanted a name server.
     wants_server: AtomicBool,
+    /// Whether the query that was taken last is neither a hit nor a miss yet.
+    unsorted: AtomicBool,
     /// Keeps the counters of two workers out of one line of a processor's cache.
     apart: [u64; 16],
 }
@@ -138,6 +140,7 @@ impl Tally {
             answered: AtomicU64::new(0),
             unanswered: AtomicU64::new(0),
             wants_server: AtomicBool::new(false),
+            unsorted: AtomicBool::new(false),
             apart: [0; 16],
         }
     }
@@ -145,11 +148,17 @@ impl Tally {
     /// Counts a query that was taken.
     pub fn take(&self) {
         self.wants_server.store(false, Ordering::SeqCst);
+        self.unsorted.store(true, Ordering::SeqCst);
         rise(&self.queries);
     }
 
-    /// Counts the query that was taken last as a hit or as a miss, once it has its reply or waits for a name server.
+    /// Counts the query that was taken last as a hit or as a miss, unless that was done: once it waits for a name server, or before its
+    /// reply leaves.
     pub fn sort(&self) {
+        if !self.unsorted.load(Ordering::SeqCst) {
+            return;
+        }
+        self.unsorted.store(false, Ordering::SeqCst);
         if self.wants_server.load(Ordering::SeqCst) {
             rise(&self.misses);
         } else {
@@ -168,8 +177,9 @@ impl Tally {
         rise(&self.exceeded);
     }
 
-    /// Counts a reply, by the RCODE in its header (RFC 1035, section 4.1.1).
+    /// Counts a reply that is about to leave, by the RCODE in its header (RFC 1035, section 4.1.1).
     pub fn reply(&self, reply: &[u8]) {
+        self.sort();
         let Some(octet) = reply.get(3) else {
             return;
         };

@@ -559,8 +559,8 @@ impl<'a, D: Numbered, C: Clock, R: ReadyNet + Log + Wait, K: Client, B: ReplySen
     }
 
     fn fail(&mut self, client: K, octets: &[u8], why: Unserved) {
-        self.send_to(client, report_of(octets, Rcode::SERVER_FAILURE));
         self.log(why);
+        self.send_to(client, report_of(octets, Rcode::SERVER_FAILURE));
         self.counts.settle();
     }
 
