@@ -1,8 +1,8 @@
 #!/usr/bin/env python3
-"""Makes the lists of docs/DEFINITIONS.md, below its glossary, from the comments in specs/.
+"""Prints definitions of specs/: of the words that are named, or else a line for each word that a public contract uses.
 
-A word has a line if the contract of a public function, a trait or a type cites it. Its line is the comment above its
-definition. `docs/definitions.py` writes the lists, `docs/definitions.py --check` fails if they are not up to date.
+`docs/definitions.py WORD..` prints each definition of a word, with its crate and file and the comment above it.
+`docs/definitions.py` prints the comment of each word that the contract of a public function, a trait or a type cites, by crate and file.
 """
 
 import os
@@ -12,9 +12,6 @@ import sys
 sys.dont_write_bytecode = True
 
 from graph import PROGRAM, TOP, below, crates
-
-DOCUMENT = os.path.join(TOP, "docs/DEFINITIONS.md")
-MARK = "<!-- docs/definitions.py makes what follows. -->\n"
 
 USE = re.compile(r"ghost use Rattle\.(\w+)\.specs\.([\w.]+)\.\{([^}]*)\}", re.DOTALL)
 DEFINED = re.compile(r"(?:[a-z]+ )*pub (?:record |data |relation )?([^\s({:]+)(?=[\s({:])")
@@ -68,64 +65,73 @@ def sentence(comment):
 
 
 def words_of(path):
-    """The head of a file of specs/, and each public word with its comment; an empty one if it has none."""
+    """The head of a file of specs/, and each public word with its comment, which is empty if it has none, and its definition."""
     lines = text_of(path).split("\n")
     head, words = [], []
-    for at, line in enumerate(lines):
+    for line in lines:
         if not line.startswith("--"):
             break
         head.append(line[2:].strip())
     for at, line in enumerate(lines):
         defined = DEFINED.match(line)
         if defined and not line.startswith(" "):
-            first = at
+            first, last = at, at
             while first > 0 and lines[first - 1].startswith("--"):
                 first -= 1
-            words.append((defined[1], sentence([text[2:].strip() for text in lines[first:at]]) if first < at else ""))
+            while last < len(lines) and lines[last].strip():
+                last += 1
+            comment = sentence([text[2:].strip() for text in lines[first:at]]) if first < at else ""
+            words.append((defined[1], comment, lines[at:last]))
     return sentence(head) if head else "", words
 
 
-def listed(crate, found):
-    """The lists of one crate."""
+def specs(crate):
+    """The files of specs/ of a crate, without the ending, and their paths."""
     folder = os.path.join(TOP, "crates", crate, "specs")
     for path in files(folder, ".antt"):
-        file = os.path.relpath(path, folder)[: -len(".antt")]
+        yield os.path.relpath(path, folder)[: -len(".antt")], path
+
+
+def listed(crate, found):
+    """The lines of one crate."""
+    for file, path in specs(crate):
         head, words = words_of(path)
         wanted = found.get((crate, file), set())
-        told = [(word, text) for word, text in words if word in wanted]
+        told = [(word, text) for word, text, _ in words if word in wanted]
         if told:
-            yield f"\n**`{file}`**: {head}\n\n" if head else f"\n**`{file}`**\n\n"
-            yield from (f"- `{word}`: {text}\n" for word, text in told if text)
-            plain = [f"`{word}`" for word, text in told if not text]
+            yield f"\n{file}: {head}\n" if head else f"\n{file}\n"
+            yield from (f"- {word}: {text}\n" for word, text in told if text)
+            plain = [word for word, text in told if not text]
             if plain:
                 yield f"- with no comment: {', '.join(plain)}\n"
 
 
-def made():
-    """The lists of all crates of the product, the lowest first."""
-    uses = crates()
-    product = below(uses, PROGRAM)
-    found = cited(name for name in uses if name in product)
-    text = []
-    for crate in uses:
-        lists = list(listed(crate, found)) if crate in product else []
-        if lists:
-            text += [f"\n## `{crate}`\n", *lists]
-    return "".join(text)
+def defined(names, wanted):
+    """The definitions of a word."""
+    for crate in names:
+        for file, path in specs(crate):
+            for word, text, lines in words_of(path)[1]:
+                if word == wanted:
+                    yield "\n".join([f"{word} (crates/{crate}/specs/{file}.antt)" + (f": {text}" if text else ""), "", *(f"    {line}" for line in lines)])
 
 
 def main():
-    whole = text_of(DOCUMENT)
-    glossary, mark, old = whole.partition(MARK)
-    if not mark:
-        sys.exit("docs/DEFINITIONS.md has no line that says where the lists begin")
-    lists = made()
-    if sys.argv[1:] == ["--check"]:
-        if old != lists:
-            sys.exit("the lists of docs/DEFINITIONS.md are not those of specs/: run docs/definitions.py")
+    uses = crates()
+    product = below(uses, PROGRAM)
+    names = [name for name in uses if name in product]
+    words = sys.argv[1:]
+    if words:
+        texts = [(word, list(defined(names, word))) for word in words]
+        unknown = [word for word, found in texts if not found]
+        if unknown:
+            sys.exit(f"docs/definitions.py: no file of specs/ defines {', '.join(unknown)}")
+        print("\n\n".join(text for _, found in texts for text in found))
     else:
-        with open(DOCUMENT, "w", encoding="utf-8") as file:
-            file.write(glossary + MARK + lists)
+        found = cited(names)
+        for crate in names:
+            lines = list(listed(crate, found))
+            if lines:
+                print(f"\n{crate}\n" + "".join(lines), end="")
 
 
 main()

@@ -12,7 +12,9 @@ from lib.programs import RESOLVER, TOP, read, run
 from lib.service import Service
 
 OPERATING = os.path.join(TOP, "docs/OPERATING.md")
-SCRIPTS = ("graph.py", "definitions.py", "times.py")
+SCRIPTS = ("graph.py", "times.py")
+# Files of specs/, and a word that each defines and no other file does.
+DEFINITIONS = [("crates/history/specs/Answers", "history_after"), ("crates/world_book/specs/Versions", "IsFreeIn"), ("crates/shared_book/specs/Closing", "IsComplete")]
 MOST_OCTETS = 6_144
 
 
@@ -138,6 +140,21 @@ def check_made(checks):
         checks.equal(f"docs/{script} --check", (done.returncode, done.stderr), (0, b""))
 
 
+def check_definitions(checks):
+    """A definition is printed as it is written, with its comment, and a word without one is refused."""
+    script = [sys.executable, "-B", os.path.join(TOP, "docs/definitions.py")]
+    for file, word in DEFINITIONS:
+        text = text_of(f"{file}.antt")
+        written = re.search(rf"((?:^--.*\n)+)(^(?:abbrev )?pub (?:record )?{word} (?:.+\n)+)", text, re.MULTILINE)
+        comment = " ".join(line.removeprefix("-- ") for line in written[1].splitlines())
+        done = subprocess.run([*script, word], capture_output=True, text=True)
+        lines = "".join(f"    {line}\n" for line in written[2].splitlines())
+        wanted = f"{word} ({file}.antt): {comment[:1].upper()}{comment[1:].rstrip('.')}.\n\n{lines}"
+        checks.equal(f"docs/definitions.py {word}", (done.returncode, done.stdout), (0, wanted))
+    done = subprocess.run([*script, "IsNowhere"], capture_output=True, text=True)
+    checks.equal("docs/definitions.py IsNowhere", (done.returncode, done.stdout), (1, ""))
+
+
 def listed():
     """The lines that the help of script lists, each with its form."""
     told = run([RESOLVER, "script", "--help"]).err.decode()
@@ -177,7 +194,7 @@ def main():
     checks = Checks()
     size = len(read(os.path.join(TOP, "README.md")))
     checks.check("README.md: its size", None if size <= MOST_OCTETS else f"{size} octets, and {MOST_OCTETS} are a screen and a half")
-    for check in (check_links, check_names, check_crates, check_picture, check_made, check_operating):
+    for check in (check_links, check_names, check_crates, check_picture, check_made, check_definitions, check_operating):
         checks.make(check)
     checks.end()
 
