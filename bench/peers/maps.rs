@@ -2,7 +2,7 @@
 //! depends on each call. The words are `cells`, `room` and `tables`.
 //! It has no flush, no undo, no journal and no limit, and one set for each name. The call `memory` prints by how many octets the
 //! process grows as it fills a map.
-use std::collections::{HashMap, VecDeque};
+use std::collections::HashMap;
 
 /// What is found about a name.
 struct Find {
@@ -63,14 +63,19 @@ fn cache_of(size: u32) -> HashMap<Vec<u8>, Find> {
 }
 
 /// The find of a name if it is alive: its rank, the seconds left and the last octet of its address.
-fn look(cache: &HashMap<Vec<u8>, Find>, name: &[u8], moment: u64) -> u32 {
-    match cache.get(name) {
+/// A number that depends on each part of what is valid at a moment, or 0.
+fn told(find: Option<&Find>, moment: u64) -> u32 {
+    match find {
         Some(find) if moment.saturating_sub(find.since) < u64::from(find.ttl) => {
             let left = find.ttl - (moment - find.since) as u32;
             left + u32::from(find.rank) + find.data.first().map_or(0, |octets| u32::from(octets[3]))
         }
         _ => 0,
     }
+}
+
+fn look(cache: &HashMap<Vec<u8>, Find>, name: &[u8], moment: u64) -> u32 {
+    told(cache.get(name), moment)
 }
 
 fn cells(call: &str, size: u32, count: u32) -> u32 {
@@ -91,39 +96,102 @@ fn cells(call: &str, size: u32, count: u32) -> u32 {
     }
 }
 
-// ---- room: a cache that forgets the name that was added first
+// ---- room: a cache that forgets the name that was used least recently
 
-/// A cache with room for so many names, and the names in the order in which they were added.
-struct Bounded {
-    room: usize,
-    cache: HashMap<Vec<u8>, Find>,
-    names: VecDeque<Vec<u8>>,
+/// No place in the list of names.
+const NOWHERE: u32 = u32::MAX;
+
+/// A name in the list of names, in the order in which they were used.
+struct Slot {
+    name: Vec<u8>,
+    find: Find,
+    newer: u32,
+    older: u32,
 }
 
-impl Bounded {
-    /// Adds a find of a new name. If there is no room, the name that was added first makes way.
-    fn add(&mut self, name: &[u8], find: &Find, moment: u64) {
-        if self.cache.len() == self.room {
-            if let Some(first) = self.names.pop_front() {
-                self.cache.remove(&first);
-            }
+/// A cache with room for so many names.
+struct Recent {
+    room: usize,
+    places: HashMap<Vec<u8>, u32>,
+    slots: Vec<Slot>,
+    newest: u32,
+    oldest: u32,
+}
+
+impl Recent {
+    fn new(room: usize) -> Recent {
+        Recent { room, places: HashMap::new(), slots: Vec::new(), newest: NOWHERE, oldest: NOWHERE }
+    }
+
+    /// Takes a slot out of the list.
+    fn unlink(&mut self, place: u32) {
+        let Slot { newer, older, .. } = self.slots[place as usize];
+        match newer {
+            NOWHERE => self.newest = older,
+            newer => self.slots[newer as usize].older = older,
         }
+        match older {
+            NOWHERE => self.oldest = newer,
+            older => self.slots[older as usize].newer = newer,
+        }
+    }
+
+    /// Puts a slot at the end of those that were used last.
+    fn link(&mut self, place: u32) {
+        let older = self.newest;
+        self.slots[place as usize].newer = NOWHERE;
+        self.slots[place as usize].older = older;
+        match older {
+            NOWHERE => self.oldest = place,
+            older => self.slots[older as usize].newer = place,
+        }
+        self.newest = place;
+    }
+
+    /// What is known of a name at a moment, which is then the name that was used last, or 0.
+    fn look(&mut self, name: &[u8], moment: u64) -> u32 {
+        let Some(&place) = self.places.get(name) else {
+            return 0;
+        };
+        self.unlink(place);
+        self.link(place);
+        told(Some(&self.slots[place as usize].find), moment)
+    }
+
+    /// Adds a find of a name that is not known. If there is no room, the name that was used least recently makes way.
+    fn add(&mut self, name: &[u8], find: &Find, moment: u64) {
         let find = Find { since: moment, data: find.data.clone(), ..*find };
-        self.cache.insert(name.to_vec(), find);
-        self.names.push_back(name.to_vec());
+        if let Some(&place) = self.places.get(name) {
+            self.slots[place as usize].find = find;
+            return;
+        }
+        let place = if self.places.len() == self.room {
+            let place = self.oldest;
+            self.unlink(place);
+            let slot = &mut self.slots[place as usize];
+            self.places.remove(&slot.name);
+            slot.name = name.to_vec();
+            slot.find = find;
+            place
+        } else {
+            self.slots.push(Slot { name: name.to_vec(), find, newer: NOWHERE, older: NOWHERE });
+            self.slots.len() as u32 - 1
+        };
+        self.places.insert(name.to_vec(), place);
+        self.link(place);
     }
 }
 
 /// How many of the names were new: there are twice as many as there is room for, and they come in turn.
 fn room(size: u32, count: u32) -> u32 {
     let finds: Vec<(Vec<u8>, Find)> = (0..2 * size).map(find_at).collect();
-    let mut bounded = Bounded { room: size as usize, cache: HashMap::new(), names: VecDeque::new() };
+    let mut recent = Recent::new(size as usize);
     let (mut sum, mut place) = (0u32, 0);
     for turn in 0..size + count {
         let moment = u64::from(turn / (size / 3_600 + 1));
         let (name, find) = &finds[place];
-        if look(&bounded.cache, name, moment) == 0 {
-            bounded.add(name, find, moment);
+        if recent.look(name, moment) == 0 {
+            recent.add(name, find, moment);
             sum += 1;
         }
         place = (place + 1) % finds.len();
