@@ -116,9 +116,14 @@ SettlesCleared {S = S} table keeps face before saved after = (earlier : List (Ke
     keeps before (earlier ++ kept_as Cleared ticket saved ∷ later) →
     IsRowAfter table keeps face same_face (λ chosen. chosen ticket ≡ false) before (earlier ++ kept_as Cleared ticket saved ∷ later) after (earlier ++ later)
 
--- The data that a change saved have the same table, need memory if they did, and have the same description.
-abbrev pub IsSameKind : {S D : Type 0} → (S → Option ℕ) → (S → Bool) → (S → D) → S → S → Type 0
-IsSameKind table needs_memory told before after = (table after ≡ table before) × (needs_memory after ≡ needs_memory before) × (told after ≡ told before)
+-- The data that a change saved have the same table and the same description.
+abbrev pub IsSameKind : {S D : Type 0} → (S → Option ℕ) → (S → D) → S → S → Type 0
+IsSameKind table told before after = (table after ≡ table before) × (told after ≡ told before)
+
+-- The step that was next needs after another step what it needed before it. That other step is next now.
+abbrev pub IsTurned : {S : Type 0} → (S → Bool) → (S → Bool) → S → S → Type 0
+IsTurned needs_memory needs_memory_after before after =
+    (needs_memory after ≡ needs_memory_after before) × (needs_memory_after after ≡ needs_memory before)
 
 -- The world has no newer ticket, stores no more cells, has the same limit, and counts no pair that it did not.
 abbrev pub IsNoMore : {W : Type 0} → (W → ℕ) → (W → ℕ) → (W → ℕ) → (W → (Labels × Scope) → Bool) → W → W → Type 0

@@ -4,7 +4,7 @@ ghost use Rattle.std.specs.Prelude.{◌≡◌, ◌≤◌, ◌<◌, max, ℕ, Boo
 ghost use Rattle.dns_text.specs.declared.record.Question.{Question};
 ghost use Rattle.change_law.specs.Effect.{effect, IsFaultFor};
 ghost use Rattle.change_law.specs.Pairs.{AddsPairs};
-ghost use Rattle.change_law.specs.Row.{CanGoBack, CanGoAgain, GoesBack, GoesAgain, IsSameKind, IsMade, SettlesOldest, SettlesCleared};
+ghost use Rattle.change_law.specs.Row.{CanGoBack, CanGoAgain, GoesBack, GoesAgain, IsSameKind, IsTurned, IsMade, SettlesOldest, SettlesCleared};
 ghost use Rattle.change_law.specs.Row.{IsNoMore, IsRefused, where_chosen};
 
 use crate::fault::ChangeFault;
@@ -23,6 +23,9 @@ pub trait Change: Drop {
 
     /// The questions whose cells it empties.
     ghost empties: { Self → Question → Bool };
+
+    /// Whether it removes something from these tables.
+    ghost removes: { Self → Self.World.Tables → Bool };
 
     /// The table that it changes, if it changes one.
     ghost table: { Self → Option ℕ };
@@ -49,6 +52,10 @@ pub trait Change: Drop {
             (where_chosen ticket (effect (after self) (empties self))) ticket saved world.old world.new) }
         ensures newest { OnOk result (Self.World.newest world.new ≤ max (Self.World.newest world.old) ticket) }
 
+        // Only if it removed something from the tables, its undo may need memory.
+        ensures frees { IfOk result (λ saved. removes self (Self.World.shown world.old).tables ≡ false →
+            Self.World.needs_memory saved ≡ false) }
+
         // If the tables allow it, the only fault is that there is no memory.
         ensures err { IfErr result (λ fault. IsFaultFor (reason self (Self.World.shown world.old).tables) fault) }
         ensures same { OnErr result (IsRefused Self.World.table Self.World.keeps Self.World.face Self.World.newest Self.World.stored
@@ -63,7 +70,8 @@ pub trait Change: Drop {
     ) -> Result<(), NoMemory>
         requires { CanGoBack Self.World.table Self.World.keeps world.old saved.old }
         ensures row { OnOk result (GoesBack Self.World.table Self.World.keeps Self.World.face world.old saved.old world.new saved.new) }
-        ensures kind { OnOk result (IsSameKind Self.World.table Self.World.needs_memory Self.World.told saved.old saved.new) }
+        ensures kind { OnOk result (IsSameKind Self.World.table Self.World.told saved.old saved.new) }
+        ensures turned { OnOk result (IsTurned Self.World.needs_memory Self.World.needs_memory_after saved.old saved.new) }
         ensures free { Self.World.needs_memory saved.old ≡ false → IsOk result }
         ensures err { OnErr result (IsRefused Self.World.table Self.World.keeps Self.World.face Self.World.newest Self.World.stored
             Self.World.counts world.old world.new × (saved.new ≡ saved.old)) }
@@ -76,7 +84,8 @@ pub trait Change: Drop {
     ) -> Result<(), NoMemory>
         requires { CanGoAgain Self.World.table Self.World.keeps world.old saved.old }
         ensures row { OnOk result (GoesAgain Self.World.table Self.World.keeps Self.World.face world.old saved.old world.new saved.new) }
-        ensures kind { OnOk result (IsSameKind Self.World.table Self.World.needs_memory Self.World.told saved.old saved.new) }
+        ensures kind { OnOk result (IsSameKind Self.World.table Self.World.told saved.old saved.new) }
+        ensures turned { OnOk result (IsTurned Self.World.needs_memory Self.World.needs_memory_after saved.old saved.new) }
         ensures free { Self.World.needs_memory saved.old ≡ false → IsOk result }
         ensures err { OnErr result (IsRefused Self.World.table Self.World.keeps Self.World.face Self.World.newest Self.World.stored
             Self.World.counts world.old world.new × (saved.new ≡ saved.old)) }

@@ -39,8 +39,11 @@ pub trait World: Drop {
     /// The description of a change, by the data that it saved.
     ghost told: { Self.Saved → Self.Told };
 
-    /// Whether its undo or redo may need memory, by the data that it saved.
+    /// Whether the next step of a change, which is its undo or its redo, may need memory, by the data that it saved.
     ghost needs_memory: { Self.Saved → Bool };
+
+    /// Whether the step after that one may.
+    ghost needs_memory_after: { Self.Saved → Bool };
 
     /// The world keeps these changes, the oldest first.
     ghost keeps: { Self → List (KeptChange Self.Saved) → Type 0 };

@@ -7,6 +7,7 @@ pub mod IndexLaws
 pub mod ImpliedLaws
 pub mod RetimeLaws
 pub mod AddLaws
+pub mod FreeLaws
 pub mod GapLaws
 pub mod GroupLaws
 pub mod TagLaws

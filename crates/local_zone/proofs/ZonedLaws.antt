@@ -11,7 +11,7 @@ use Rattle.dns_name.specs.BelowLaws.{below_itself, fact_from_below}
 use Rattle.dns_text.specs.declared.record.Record.{Record}
 use Rattle.named_list.specs.ClosestLaws.{closest_above, name_eq-swap}
 use Rattle.named_list.specs.Named.{AreNamed}
-use Rattle.named_list.specs.Turn.{name_in, other_of, puts_in, HasPlace}
+use Rattle.named_list.specs.Turn.{name_in, other_of, puts_in, HasPlace, takes_out}
 use Rattle.named_list.specs.declared.turn.Turn.{Turn}
 use Rattle.named_list.specs.declared.turn.Turn.TheVariants.{Nothing, Other, Without, With}
 use Rattle.local_zone.specs.declared.zone.Zone.{Zone}
@@ -24,7 +24,7 @@ use Rattle.local_zone.specs.Index.{of_owner}
 use Rattle.local_zone.specs.Reason.{has_data_below}
 use Rattle.local_zone.specs.Tables.{Tables}
 use Rattle.local_zone.specs.ZoneType.{is_redirect}
-use Rattle.local_zone.specs.Zoned.{takes_out, HasOneMore}
+use Rattle.local_zone.specs.Zoned.{HasOneMore}
 use Rattle.local_zone.proofs.ClosestLaws.{not_longer}
 use Rattle.local_zone.proofs.CountLaws.{alike, any_some, below_counts, more_pass, own_counts, redirect_counts}
 use Rattle.local_zone.proofs.CountsBelowLaws.{below_parent, count_one, from_root, no_longer, shorter}

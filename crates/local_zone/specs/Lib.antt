@@ -4,6 +4,7 @@ pub mod Tables
 pub mod Tag
 pub mod Mask
 pub mod Index
+pub mod Group
 pub mod Change
 pub mod Added
 pub mod Reason

@@ -1,13 +1,21 @@
 -- The way back of a change.
-use Rattle.std.specs.Prelude.{◌≡◌}
+use Rattle.std.specs.Prelude.{◌≡◌, Bool, ◌||◌}
 use Rattle.local_zone.specs.declared.saved.SavedTables.{SavedTables}
 use Rattle.local_zone.specs.Tables.{Tables, AreTables}
-use Rattle.named_list.specs.Turn.{other_of, HasPlace}
-use Rattle.local_zone.specs.Added.{records_other, GoesBack}
+use Rattle.named_list.specs.Turn.{other_of, puts_in, takes_out, HasPlace}
+use Rattle.local_zone.specs.Added.{records_other, records_need, records_need_after, GoesBack}
 
 -- the lists on the other side of a change, from the saved value and those on this side
 abbrev pub before_of : SavedTables → Tables → Tables
 before_of saved left = record { zones = other_of saved.zones left.zones; records = records_other saved.records left.records }
+
+-- whether the step to the other side of a change may need memory
+abbrev pub needs_memory : SavedTables → Bool
+needs_memory saved = puts_in saved.zones || records_need saved.records
+
+-- whether the step back from there may
+abbrev pub needs_memory_after : SavedTables → Bool
+needs_memory_after saved = takes_out saved.zones || records_need_after saved.records
 
 -- From the lists that a change left, the saved value gives those before it.
 pub record TakesBack (saved : SavedTables) (left before : Tables) : Type 0 where

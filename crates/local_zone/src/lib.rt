@@ -16,9 +16,10 @@ mod zone;
 mod closest;
 mod zones;
 // The records in order with an index by owner. `passes` takes many out, or puts them back, in one walk. `in_place` does so with
-// few of a long list, which costs less. `groups` moves their owners' groups out of the index, or back. `counts_below` says of a
-// name how many records lie strictly below it.
+// few of a long list, which costs less. A `group` is the records of one owner, and `groups` moves those of some owners out of the
+// index, or back. `counts_below` says of a name how many records lie strictly below it.
 mod counts_below;
+mod group;
 mod groups;
 mod in_place;
 mod passes;

@@ -8,12 +8,14 @@ ghost use Rattle.std.specs.List.{list_any};
 ghost use Rattle.local_zone.specs.CountsBelow.{count_below};
 ghost use Rattle.local_zone.specs.Tables.{is_of_set};
 ghost use Rattle.local_zone.specs.Change.{retimed_by};
-ghost use Rattle.dns_name.specs.Labels.{Labels, octets_of};
+ghost use Rattle.dns_name.specs.Labels.{Labels};
 ghost use Rattle.dns_text.specs.declared.record.Record.{Record};
 ghost use Rattle.dns_name.specs.Order.{name_eq};
-ghost use Rattle.local_zone.specs.Index.{of_owner, items_in, under, IsGrouped, IsIndexed};
+ghost use Rattle.local_zone.specs.Group.{group_of, records_in, AreGrouped, AreIndexed};
+ghost use Rattle.local_zone.specs.Index.{of_owner};
 
 use crate::counts_below::CountsBelow;
+use crate::group::Group;
 use crate::groups::{move_groups, put_groups};
 use crate::in_place::{moves_in_place, put_few, take_few};
 use crate::passes::{push_gaps, put_pass, take_pass};
@@ -24,7 +26,6 @@ use crate::taken::Taken;
 use dns_name::{Name, NoMemory};
 use dns_text::{Record, Ttl};
 use indexmap::IndexMap;
-use named_list::key_of;
 use std::alloc::Global;
 use std::marker::Model;
 use std::mem;
@@ -32,36 +33,26 @@ use std::mem;
 /// Puts a record last in the group of its owner.
 fn index_last(
     alloc: Global,
-    owners: &mut IndexMap<Vec<u8>, Vec<LocalRecord>>,
+    owners: &mut IndexMap<Name, Group>,
     new: LocalRecord,
 ) -> Result<(), NoMemory>
-    ensures ok { OnOk result ((records : List Record) → IsGrouped (λ k. k.items) (λ g. g.items) records owners.old.entries →
-        IsGrouped (λ k. k.items) (λ g. g.items) (records ++ new ∷ []) owners.new.entries) }
-    ensures err { OnErr result ((records : List Record) → IsGrouped (λ k. k.items) (λ g. g.items) records owners.old.entries →
-        IsGrouped (λ k. k.items) (λ g. g.items) records owners.new.entries) }
+    ensures ok { OnOk result ((records : List Record) → AreGrouped records owners.old.entries → AreGrouped (records ++ new ∷ []) owners.new.entries) }
+    ensures err { OnErr result ((records : List Record) → AreGrouped records owners.old.entries → AreGrouped records owners.new.entries) }
 {
-    match owners.get_mut(new.owner().octets()) {
-        Some(records) => Ok(records.push(new)?),
-        None => index_first(alloc, owners, new),
+    match owners.get_mut(new.owner()) {
+        Some(group) => group.push(alloc, new),
+        None => index_first(owners, new),
     }
 }
 
 /// Makes the group of an owner with its first record.
-fn index_first(
-    alloc: Global,
-    owners: &mut IndexMap<Vec<u8>, Vec<LocalRecord>>,
-    new: LocalRecord,
-) -> Result<(), NoMemory>
-    requires { under (λ k. k.items) (octets_of new.owner) owners.old.entries ≡ None }
-    ensures ok { OnOk result ((records : List Record) → IsGrouped (λ k. k.items) (λ g. g.items) records owners.old.entries →
-        IsGrouped (λ k. k.items) (λ g. g.items) (records ++ new ∷ []) owners.new.entries) }
+fn index_first(owners: &mut IndexMap<Name, Group>, new: LocalRecord) -> Result<(), NoMemory>
+    requires { group_of new.owner owners.old.entries ≡ None }
+    ensures ok { OnOk result ((records : List Record) → AreGrouped records owners.old.entries → AreGrouped (records ++ new ∷ []) owners.new.entries) }
     ensures err { OnErr result (owners.new.entries ≡ owners.old.entries) }
 {
-    let key = key_of(alloc, new.owner())?;
-    // Most owners have one record.
-    let mut records = Vec::with_capacity(alloc, 1)?;
-    records.push_reserved(new);
-    owners.insert(key, records)?;
+    let key = new.owner().clone()?;
+    owners.insert(key, Group::One(new))?;
     Ok(())
 }
 
@@ -76,7 +67,7 @@ fn has_other_ttl(records: &[LocalRecord], set: &Record, ttl: Ttl) -> bool
 }
 
 /// Gives the records of a set a TTL.
-fn retime_each(records: &mut [LocalRecord], set: &Record, ttl: Ttl)
+pub(crate) fn retime_each(records: &mut [LocalRecord], set: &Record, ttl: Ttl)
     ensures { records.new ≡ map (retimed_by (record set.now { ttl = ttl })) records.old }
 {
     let tag = tag_of(&set.owner);
@@ -89,43 +80,37 @@ fn retime_each(records: &mut [LocalRecord], set: &Record, ttl: Ttl)
 }
 
 /// Gives the records of a set in the index a TTL.
-fn retime_index(owners: &mut IndexMap<Vec<u8>, Vec<LocalRecord>>, set: &Record, ttl: Ttl)
-    ensures { (records : List Record) → IsGrouped (λ k. k.items) (λ g. g.items) records owners.old.entries →
-        IsGrouped (λ k. k.items) (λ g. g.items) (map (retimed_by (record set.now { ttl = ttl })) records) owners.new.entries }
+fn retime_index(owners: &mut IndexMap<Name, Group>, set: &Record, ttl: Ttl)
+    ensures { (records : List Record) → AreGrouped records owners.old.entries →
+        AreGrouped (map (retimed_by (record set.now { ttl = ttl })) records) owners.new.entries }
 {
-    if let Some(records) = owners.get_mut(set.owner.octets()) {
-        retime_each(records.as_mut_slice(), set, ttl);
+    if let Some(group) = owners.get_mut(&set.owner) {
+        group.retime(set, ttl);
     }
 }
 
 /// Takes the last record of an owner out of the index, and its group if that is empty then.
-fn unindex_last(owners: &mut IndexMap<Vec<u8>, Vec<LocalRecord>>, owner: &Name)
+fn unindex_last(owners: &mut IndexMap<Name, Group>, owner: &Name)
     ensures { (front : List Record) (last : Record) → last.owner ≡ owner.now →
-        IsGrouped (λ k. k.items) (λ g. g.items) (front ++ last ∷ []) owners.old.entries →
-        IsGrouped (λ k. k.items) (λ g. g.items) front owners.new.entries }
+        AreGrouped (front ++ last ∷ []) owners.old.entries → AreGrouped front owners.new.entries }
 {
     if pop_under(owners, owner) {
-        owners.swap_remove(owner.octets());
+        owners.swap_remove(owner);
     }
 }
 
 /// Takes the last record out of the group of an owner, and returns whether none is left.
-fn pop_under(owners: &mut IndexMap<Vec<u8>, Vec<LocalRecord>>, owner: &Name) -> bool
+fn pop_under(owners: &mut IndexMap<Name, Group>, owner: &Name) -> bool
     ensures front { (front : List Record) (last : Record) → last.owner ≡ owner.now →
-        IsIndexed (λ k. k.items) (λ g. g.items) (front ++ last ∷ []) owners.old.entries →
-        IsIndexed (λ k. k.items) (λ g. g.items) front owners.new.entries }
+        AreIndexed (front ++ last ∷ []) owners.old.entries → AreIndexed front owners.new.entries }
     ensures some { result ≡ false → (front : List Record) (last : Record) → last.owner ≡ owner.now →
-        IsGrouped (λ k. k.items) (λ g. g.items) (front ++ last ∷ []) owners.old.entries →
-        IsGrouped (λ k. k.items) (λ g. g.items) front owners.new.entries }
+        AreGrouped (front ++ last ∷ []) owners.old.entries → AreGrouped front owners.new.entries }
     ensures others { (other : Labels) → name_eq owner.now other ≡ false →
-        under (λ k. k.items) (octets_of other) owners.new.entries ≡ under (λ k. k.items) (octets_of other) owners.old.entries }
-    ensures empty { IsTrue result → items_in (λ g. g.items) (under (λ k. k.items) (octets_of owner.now) owners.new.entries) ≡ [] }
+        group_of other owners.new.entries ≡ group_of other owners.old.entries }
+    ensures empty { IsTrue result → records_in (group_of owner.now owners.new.entries) ≡ [] }
 {
-    match owners.get_mut(owner.octets()) {
-        Some(records) => {
-            records.pop();
-            records.is_empty()
-        }
+    match owners.get_mut(owner) {
+        Some(group) => group.pop(),
         None => false,
     }
 }
@@ -202,9 +187,9 @@ fn put_all(
 #[derive(Drop)]
 pub(crate) struct RecordList {
     list: Vec<LocalRecord>,
-    // A second share of each record, in the same order, by owner: under the octets of its name. Groups hold no places, so
-    // that a removal renumbers nothing.
-    owners: IndexMap<Vec<u8>, Vec<LocalRecord>>,
+    // A second share of each record, in the same order, by owner. Groups hold no places, so that a removal renumbers nothing. A
+    // name is hashed at once, and not octet by octet, and a short one lies in the key itself.
+    owners: IndexMap<Name, Group>,
     // So that one lookup finds a name with no record below it, which a stranger may make up and ask for.
     below: CountsBelow,
 }
@@ -213,13 +198,13 @@ impl Model for RecordList {
     ghost use Rattle.std.specs.Prelude.{List};
     ghost use Rattle.dns_text.specs.declared.record.Record.{Record};
     ghost use Rattle.local_zone.specs.CountsBelow.{AreCounted};
-    ghost use Rattle.local_zone.specs.Index.{IsGrouped};
+    ghost use Rattle.local_zone.specs.Group.{AreGrouped};
 
     ghost Value = { List Record };
 
     ghost view = { λ r. r.list.items };
 
-    ghost invariant = { λ r. IsGrouped (λ k. k.items) (λ g. g.items) r.list.items r.owners.entries × AreCounted r.list.items r.below };
+    ghost invariant = { λ r. AreGrouped r.list.items r.owners.entries × AreCounted r.list.items r.below };
 }
 
 impl RecordList {
@@ -245,8 +230,8 @@ impl RecordList {
     pub(crate) fn of(&self, owner: &Name) -> &[LocalRecord]
         ensures { result.now ≡ of_owner owner.now self.now }
     {
-        match self.owners.get(owner.octets()) {
-            Some(records) => records.as_slice(),
+        match self.owners.get(owner) {
+            Some(group) => group.as_slice(),
             None => &[],
         }
     }

@@ -1,7 +1,8 @@
 //! The records that a change took out.
 
-use crate::record::LocalRecord;
+use crate::group::Group;
 use crate::taken::Taken;
+use dns_name::Name;
 use std::alloc::Global;
 use std::marker::Model;
 
@@ -10,20 +11,20 @@ use std::marker::Model;
 pub(crate) struct Removed {
     pub(crate) taken: Vec<Taken>,
     // The groups of their owners, with their keys, as they were in the index.
-    pub(crate) groups: Vec<(Vec<u8>, Vec<LocalRecord>)>,
+    pub(crate) groups: Vec<(Name, Group)>,
 }
 
 impl Model for Removed {
     ghost use Rattle.std.specs.Prelude.{List};
     ghost use Rattle.local_zone.specs.declared.taken.Taken.{Taken};
     ghost use Rattle.local_zone.specs.Gaps.{records_of};
-    ghost use Rattle.local_zone.specs.Index.{IsGrouped};
+    ghost use Rattle.local_zone.specs.Group.{AreGrouped};
 
     ghost Value = { List Taken };
 
     ghost view = { λ r. r.taken.items };
 
-    ghost invariant = { λ r. IsGrouped (λ k. k.items) (λ g. g.items) (records_of r.taken.items) r.groups.items };
+    ghost invariant = { λ r. AreGrouped (records_of r.taken.items) r.groups.items };
 }
 
 impl Removed {

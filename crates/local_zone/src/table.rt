@@ -55,9 +55,9 @@ impl Model for ZoneTable {
 impl ZoneTable {
     ghost use Rattle.local_zone.specs.Tables.{Tables};
     ghost use Rattle.local_zone.specs.Answer.{local_now, local_of};
-    ghost use Rattle.local_zone.specs.Change.{after_set, after_drop, after_add, after_drop_name};
+    ghost use Rattle.local_zone.specs.Change.{after_set, after_drop, after_add, after_drop_name, has_zone};
     ghost use Rattle.local_zone.specs.Reason.{reason_of_set, reason_of_add, IsFaultFor};
-    ghost use Rattle.local_zone.specs.Saved.{before_of, TakesBack};
+    ghost use Rattle.local_zone.specs.Saved.{before_of, needs_memory, needs_memory_after, TakesBack};
     ghost use Rattle.named_list.specs.Turn.{puts_in};
 
     /// A table of no zones and no records. It takes no memory.
@@ -100,6 +100,7 @@ impl ZoneTable {
         ensures err { IfErr result (λ fault. IsFaultFor (reason_of_set (record { name = name; kind = kind }) self.old) fault
             × (self.new ≡ self.old)) }
         ensures saved { IfOk result (λ saved. TakesBack saved self.new self.old) }
+        ensures frees { IfOk result (λ saved. needs_memory saved ≡ false) }
     {
         let new = Zone { name, kind };
         if let Some(reason) = reason_of_set(&self.zones, &self.records, &self.zoned, &new) {
@@ -125,6 +126,7 @@ impl ZoneTable {
         ensures ok { OnOk result ((reason_of_add new self.old ≡ None) × (self.new ≡ after_add new self.old)) }
         ensures err { IfErr result (λ fault. IsFaultFor (reason_of_add new self.old) fault × (self.new ≡ self.old)) }
         ensures saved { IfOk result (λ saved. TakesBack saved self.new self.old) }
+        ensures frees { IfOk result (λ saved. needs_memory saved ≡ false) }
     {
         if let Some(reason) = reason_of_add(&self.zones, &self.records, new.get()) {
             return Err(reason);
@@ -160,6 +162,7 @@ impl ZoneTable {
         ensures err { IfErr result (λ fault. (fault ≡ TableFault.NoMemory) × (self.new ≡ self.old)) }
         ensures saved { IfOk result (λ saved. TakesBack saved self.new self.old) }
         ensures free { list_any (λ r. lies_in self.old.zones name.now r.owner) self.old.records ≡ false → IsOk result }
+        ensures frees { IfOk result (λ saved. has_zone self.old.zones name.now ≡ false → needs_memory saved ≡ false) }
     {
         let records = take_in(
             self.alloc,
@@ -178,6 +181,8 @@ impl ZoneTable {
         ensures err { IfErr result (λ fault. (fault ≡ TableFault.NoMemory) × (self.new ≡ self.old)) }
         ensures saved { IfOk result (λ saved. TakesBack saved self.new self.old) }
         ensures free { list_any (λ r. name_eq r.owner name.now) self.old.records ≡ false → IsOk result }
+        ensures frees { IfOk result (λ saved. list_any (λ r. name_eq r.owner name.now) self.old.records ≡ false →
+            needs_memory saved ≡ false) }
     {
         let records = take_of(
             self.alloc,
@@ -199,6 +204,8 @@ impl ZoneTable {
         requires puts { puts_in saved.old.zones ≡ true }
         ensures ok { OnOk result (self.new ≡ before_of saved.old self.old) }
         ensures again { OnOk result (TakesBack saved.new self.new self.old) }
+        ensures turned { OnOk result ((needs_memory saved.new ≡ needs_memory_after saved.old)
+            × (needs_memory_after saved.new ≡ needs_memory saved.old)) }
         ensures err { OnErr result ((self.new ≡ self.old) × (saved.new ≡ saved.old)) }
     {
         put_zone_in(
@@ -234,7 +241,10 @@ impl ZoneTable {
         requires puts { puts_in saved.old.zones ≡ false }
         ensures ok { OnOk result (self.new ≡ before_of saved.old self.old) }
         ensures again { OnOk result (TakesBack saved.new self.new self.old) }
+        ensures turned { OnOk result ((needs_memory saved.new ≡ needs_memory_after saved.old)
+            × (needs_memory_after saved.new ≡ needs_memory saved.old)) }
         ensures err { OnErr result ((self.new ≡ self.old) × (saved.new ≡ saved.old)) }
+        ensures free { needs_memory saved.old ≡ false → IsOk result }
     {
         turn_over(
             self.alloc,
@@ -257,7 +267,10 @@ impl ZoneTable {
         requires { (other : Tables) × TakesBack saved.old self.old other }
         ensures ok { OnOk result (self.new ≡ before_of saved.old self.old) }
         ensures again { OnOk result (TakesBack saved.new self.new self.old) }
+        ensures turned { OnOk result ((needs_memory saved.new ≡ needs_memory_after saved.old)
+            × (needs_memory_after saved.new ≡ needs_memory saved.old)) }
         ensures err { OnErr result ((self.new ≡ self.old) × (saved.new ≡ saved.old)) }
+        ensures free { needs_memory saved.old ≡ false → IsOk result }
     {
         if saved.zones.puts_in() {
             self.turn_in(saved)
@@ -266,12 +279,16 @@ impl ZoneTable {
         }
     }
 
-    /// Takes back the change that left these lists. The saved value then serves `again`. If memory is refused, nothing has changed.
+    /// Takes back the change that left these lists. The saved value then serves `again`. If memory is refused, nothing has changed. If
+    /// the change removed nothing, no memory is needed.
     pub fn back(&mut self, saved: &mut SavedTables) -> Result<(), NoMemory>
         requires { (before : Tables) × TakesBack saved.old self.old before }
         ensures ok { OnOk result (self.new ≡ before_of saved.old self.old) }
         ensures again { OnOk result (TakesBack saved.new self.new self.old) }
+        ensures turned { OnOk result ((needs_memory saved.new ≡ needs_memory_after saved.old)
+            × (needs_memory_after saved.new ≡ needs_memory saved.old)) }
         ensures err { OnErr result ((self.new ≡ self.old) × (saved.new ≡ saved.old)) }
+        ensures free { needs_memory saved.old ≡ false → IsOk result }
     {
         self.turn_over(saved)
     }
@@ -281,7 +298,10 @@ impl ZoneTable {
         requires { (left : Tables) × TakesBack saved.old self.old left }
         ensures ok { OnOk result (self.new ≡ before_of saved.old self.old) }
         ensures back { OnOk result (TakesBack saved.new self.new self.old) }
+        ensures turned { OnOk result ((needs_memory saved.new ≡ needs_memory_after saved.old)
+            × (needs_memory_after saved.new ≡ needs_memory saved.old)) }
         ensures err { OnErr result ((self.new ≡ self.old) × (saved.new ≡ saved.old)) }
+        ensures free { needs_memory saved.old ≡ false → IsOk result }
     {
         self.turn_over(saved)
     }

@@ -3,10 +3,9 @@
 ghost use Rattle.std.specs.Prelude.{◌≡◌, ℕ, true, false, IfOk, OnErr, OnOk, slice_get};
 ghost use Rattle.local_zone.specs.Change.{has_zone, zones_with};
 ghost use Rattle.local_zone.specs.CountsBelow.{AreZoned};
-ghost use Rattle.local_zone.specs.Zoned.{takes_out};
 ghost use Rattle.local_zone.specs.declared.zone.Zone.{Zone};
 ghost use Rattle.named_list.specs.Named.{AreNamed};
-ghost use Rattle.named_list.specs.Turn.{other_of, puts_in, with_at, HasPlace, IsWayBack};
+ghost use Rattle.named_list.specs.Turn.{other_of, puts_in, takes_out, with_at, HasPlace, IsWayBack};
 ghost use Rattle.named_list.specs.declared.turn.Turn.TheVariants as Turn;
 
 use crate::counts_below::CountsBelow;
@@ -34,7 +33,7 @@ fn put_last(
 {
     let twin = new.share()?;
     count_in(alloc, zones, records, zoned, &twin.get().name)?;
-    match zones.put(alloc, new) {
+    match zones.put(new) {
         Ok(turn) => Ok(turn),
         Err(e) => {
             count_out(zones, records, zoned, &twin.get().name);
@@ -57,7 +56,7 @@ pub(crate) fn put_zone(
     ensures zoned { AreZoned zones.old records.now zoned.old → AreZoned zones.new records.now zoned.new }
 {
     if zones.has(&new.get().name) {
-        return zones.put(alloc, new);
+        return zones.put(new);
     }
     put_last(alloc, zones, records, zoned, new)
 }

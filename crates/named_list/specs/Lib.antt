@@ -1,7 +1,9 @@
 pub mod Named
 pub mod Closest
 pub mod Keyed
+pub mod Spelled
 pub mod Turn
 pub mod ClosestLaws
 pub mod ListLaws
 pub mod NamedLaws
+pub mod TurnLaws

@@ -32,6 +32,11 @@ abbrev pub puts_in : {T : Type 0} → Turn T → Bool
 puts_in (With place thing) = true
 puts_in _ = false
 
+-- whether the step to the other side takes a thing out
+abbrev pub takes_out : {T : Type 0} → Turn T → Bool
+takes_out (Without place) = true
+takes_out _ = false
+
 -- the way back of a thing that is taken out
 abbrev pub with_at : {T : Type 0} → ℕ → Option T → Turn T
 with_at place None = Nothing

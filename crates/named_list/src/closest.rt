@@ -3,10 +3,12 @@
 ghost use Rattle.std.specs.Prelude.{◌≡◌};
 ghost use Rattle.std.specs.Option.{option_map};
 ghost use Rattle.indexmap.specs.IndexMap.{values};
+ghost use Rattle.dns_name.specs.Labels.{octets_of};
 ghost use Rattle.named_list.specs.Closest.{closest_of};
 ghost use Rattle.named_list.specs.Keyed.{AreAsLong, AreKeyed};
 
 use crate::named::Named;
+use crate::spelled::Spelled;
 use dns_name::Name;
 use dns_text::Shared;
 use indexmap::IndexMap;
@@ -14,11 +16,11 @@ use indexmap::IndexMap;
 /// The thing with the longest name at or above a name. No thing has a name of fewer octets than `least`, so it makes a lookup for each
 /// name above that has as many.
 pub(crate) fn closest<'a, T: Named>(
-    things: &'a IndexMap<Vec<u8>, Shared<T>>,
+    things: &'a IndexMap<Name, Shared<T>>,
     least: usize,
     name: &Name,
 ) -> Option<&'a Shared<T>>
-    requires keyed { AreKeyed T.named (λ k. k.items) things.now.entries }
+    requires keyed { AreKeyed T.named (λ k. octets_of k) things.now.entries }
     requires long { AreAsLong T.named least (values things.now) }
     ensures { option_map (λ x. x.now) result ≡ closest_of T.named (values things.now) name.now }
 {
@@ -29,7 +31,7 @@ pub(crate) fn closest<'a, T: Named>(
     }
     let mut labels = name.labels();
     loop {
-        if let Some(thing) = things.get(octets) {
+        if let Some(thing) = things.get(Spelled { octets }) {
             return Some(thing);
         }
         let label = labels.next()?;

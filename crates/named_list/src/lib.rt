@@ -11,6 +11,8 @@ mod list;
 mod turn;
 // A thing with its key in the index.
 mod keyed;
+// A name that is sought by its octets.
+mod spelled;
 // The thing that is closest to a name.
 mod closest;
 // Lookups and changes of one thing in the index.
@@ -18,7 +20,6 @@ mod entry;
 // The step of a list to the other side of a change.
 mod turning;
 
-pub use keyed::key_of;
 pub use list::NamedList;
 pub use named::Named;
 pub use turn::Turn;

@@ -23,14 +23,15 @@ use std::marker::Model;
 /// An index finds the thing of a name in one lookup. Taking one out, or putting it back in its place, moves the later ones.
 #[derive(Drop)]
 pub struct NamedList<T: Named> {
-    // Each under the octets of its name.
-    things: IndexMap<Vec<u8>, Shared<T>>,
+    // Each under its name, which is hashed at once, and not octet by octet. A short name lies in the key itself.
+    things: IndexMap<Name, Shared<T>>,
     // No thing has a name of fewer octets. A thing that is taken out leaves it as it is.
     least: usize,
 }
 
 impl<T: Named> Model for NamedList<T> {
     ghost use Rattle.std.specs.Prelude.{List};
+    ghost use Rattle.dns_name.specs.Labels.{octets_of};
     ghost use Rattle.indexmap.specs.IndexMap.{values};
     ghost use Rattle.named_list.specs.Named.{AreNamed};
     ghost use Rattle.named_list.specs.Keyed.{AreAsLong, AreKeyed};
@@ -39,7 +40,7 @@ impl<T: Named> Model for NamedList<T> {
 
     ghost view = { λ l. values l.things };
 
-    ghost invariant = { λ l. AreNamed T.named (values l.things) × AreKeyed T.named (λ k. k.items) l.things.entries
+    ghost invariant = { λ l. AreNamed T.named (values l.things) × AreKeyed T.named (λ k. octets_of k) l.things.entries
         × AreAsLong T.named l.least (values l.things) };
 }
 
@@ -77,14 +78,14 @@ impl<T: Named> NamedList<T> {
     }
 
     /// Puts a thing in the place of the thing of its name, which takes no memory, or last.
-    pub fn put(&mut self, alloc: Global, new: Shared<T>) -> Result<Turn<T>, NoMemory>
+    pub fn put(&mut self, new: Shared<T>) -> Result<Turn<T>, NoMemory>
         ensures ok { OnOk result (self.new ≡ list_with T.named new self.old) }
         ensures err { OnErr result (self.new ≡ self.old) }
         ensures saved { IfOk result (λ turn. IsWayBack T.named turn self.new self.old) }
         ensures free { has_named T.named self.old (T.named new) ≡ true → IsOk result }
     {
         self.least = self.least.min(new.get().name().octets().len());
-        put(alloc, &mut self.things, new)
+        put(&mut self.things, new)
     }
 
     /// Takes the thing of a name out, if there is one. It takes no memory.

@@ -46,7 +46,7 @@ impl<T: Named> Turn<T> {
         ensures { (place : ℕ) (thing : T) → self.now ≡ Turn.With place thing → result ≡ length (octets_of (T.named thing)) }
     {
         match self {
-            Turn::With { thing, .. } => thing.key.len(),
+            Turn::With { thing, .. } => thing.key.octets().len(),
             _ => usize::MAX,
         }
     }

@@ -5,7 +5,7 @@ use Rattle.ranked.specs.Flush.{covers}
 use Rattle.change_law.specs.declared.kept.KeptChange.{KeptChange}
 use Rattle.change_law.specs.Face.{Face}
 use Rattle.history.specs.declared.tables.Tables.{Tables}
-use Rattle.table_changes.specs.Both.{saved_table, change_table, change_after, change_reason, shown_tables, KeepsBoth}
+use Rattle.table_changes.specs.Both.{saved_needs, saved_needs_after, saved_table, change_table, change_removes, change_after, change_reason, shown_tables, KeepsBoth}
 use Rattle.table_changes.specs.Both as tables
 use Rattle.table_changes.specs.declared.tables.TableWorld.{TableWorld}
 use Rattle.table_changes.specs.declared.tables.SavedTable.{SavedTable}
@@ -50,9 +50,14 @@ table_of (way.Flush saved) = None
 abbrev pub store_table : SavedChange → Option ℕ
 store_table saved = table_of saved.way
 
+-- whether the next step of a change may need memory, and the one after that; none of a flush does
 abbrev pub needs_memory_of : WayBack → Bool
-needs_memory_of (way.Table saved) = true
+needs_memory_of (way.Table saved) = saved_needs saved
 needs_memory_of (way.Flush saved) = false
+
+abbrev pub needs_after_of : WayBack → Bool
+needs_after_of (way.Table saved) = saved_needs_after saved
+needs_after_of (way.Flush saved) = false
 
 -- Each part keeps its changes.
 abbrev pub KeepsStore : Store → List (KeptChange SavedChange) → Type 0
@@ -74,6 +79,10 @@ reason_of_made (made.Flush change) t = None
 abbrev pub after_made : Made → Tables → Tables
 after_made (made.Table change) t = change_after change t
 after_made (made.Flush change) t = t
+
+abbrev pub removes_made : Made → Tables → Bool
+removes_made (made.Table change) t = change_removes change t
+removes_made (made.Flush change) t = false
 
 abbrev pub empties_made : Made → Question → Bool
 empties_made (made.Table change) q = false

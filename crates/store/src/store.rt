@@ -63,7 +63,7 @@ impl Store {
 
 impl World for Store {
     ghost use Rattle.std.specs.Prelude.{true};
-    ghost use Rattle.store.specs.Store.{store_face, store_shown, table_of, needs_memory_of, KeepsStore};
+    ghost use Rattle.store.specs.Store.{store_face, store_shown, table_of, needs_after_of, needs_memory_of, KeepsStore};
     ghost use Rattle.store.specs.StoreLaws.{clears_store, shows_store};
     ghost use Rattle.store.specs.ReadLaws.{reads_store};
     ghost use Rattle.store.specs.World.{counts_in};
@@ -81,6 +81,8 @@ impl World for Store {
     ghost told = { λ saved. saved.command };
 
     ghost needs_memory = { λ saved. needs_memory_of saved.way };
+
+    ghost needs_memory_after = { λ saved. needs_after_of saved.way };
 
     ghost keeps = { KeepsStore };
 
@@ -137,7 +139,7 @@ impl World for Store {
 }
 
 impl Change for StoreChange {
-    ghost use Rattle.store.specs.Store.{reason_of_made, after_made, empties_made, table_of_made};
+    ghost use Rattle.store.specs.Store.{reason_of_made, after_made, empties_made, removes_made, table_of_made};
 
     type World = Store;
 
@@ -146,6 +148,8 @@ impl Change for StoreChange {
     ghost after = { λ change. after_made change.made };
 
     ghost empties = { λ change. empties_made change.made };
+
+    ghost removes = { λ change. removes_made change.made };
 
     ghost table = { λ change. table_of_made change.made };
 

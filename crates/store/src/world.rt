@@ -148,6 +148,8 @@ impl World for ShelfWorld {
 
     ghost needs_memory = { λ saved. false };
 
+    ghost needs_memory_after = { λ saved. false };
+
     ghost keeps = { KeepsFlushes };
 
     ghost face = { face_by };
@@ -203,7 +205,7 @@ impl World for ShelfWorld {
 }
 
 impl Change for FlushChange {
-    ghost use Rattle.std.specs.Prelude.{None};
+    ghost use Rattle.std.specs.Prelude.{false, None};
     ghost use Rattle.ranked.specs.Flush.{covers};
 
     type World = ShelfWorld;
@@ -213,6 +215,8 @@ impl Change for FlushChange {
     ghost after = { λ change tables. tables };
 
     ghost empties = { λ change. covers change.flush };
+
+    ghost removes = { λ change tables. false };
 
     ghost table = { λ change. None };
 

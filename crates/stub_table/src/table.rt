@@ -1,6 +1,6 @@
 //! The list of stubs.
 
-ghost use Rattle.std.specs.Prelude.{◌≡◌, [], IfErr, IfOk, IsOk, OnErr, OnOk, None};
+ghost use Rattle.std.specs.Prelude.{◌≡◌, [], false, IfErr, IfOk, IsOk, OnErr, OnOk, None};
 ghost use Rattle.std.specs.Option.{option_map};
 
 use crate::fault::StubFault;
@@ -20,7 +20,6 @@ pub const MOST_STUBS: usize = 1024;
 #[derive(Drop)]
 pub struct StubTable {
     stubs: NamedList<Stub>,
-    alloc: Global,
 }
 
 impl Model for StubTable {
@@ -36,9 +35,9 @@ impl Model for StubTable {
 impl StubTable {
     ghost use Rattle.stub_table.specs.Stubs.{Stubs, AreStubs};
     ghost use Rattle.stub_table.specs.Closest.{closest_stub};
-    ghost use Rattle.stub_table.specs.Change.{stubs_with, stubs_without};
+    ghost use Rattle.stub_table.specs.Change.{has_stub, stubs_with, stubs_without};
     ghost use Rattle.stub_table.specs.Reason.{reason_of_stub, IsFaultFor};
-    ghost use Rattle.stub_table.specs.Saved.{before_of, TakesBack};
+    ghost use Rattle.stub_table.specs.Saved.{before_of, needs_memory, needs_memory_after, TakesBack};
 
     /// A table of no stubs. It takes no memory.
     pub fn new(alloc: Global) -> StubTable
@@ -46,7 +45,6 @@ impl StubTable {
     {
         StubTable {
             stubs: NamedList::new(alloc),
-            alloc,
         }
     }
 
@@ -65,25 +63,28 @@ impl StubTable {
         self.stubs.closest(name)
     }
 
-    /// Adds a stub, or gives the stub of this name other addresses. The only faults are `TooMany` and `NoMemory`.
+    /// Adds a stub, or gives the stub of this name other addresses. The only faults are `TooMany` and `NoMemory`. To take it back takes
+    /// no memory.
     pub fn set(&mut self, stub: Shared<Stub>) -> Result<SavedStubs, StubFault>
         ensures ok { OnOk result ((reason_of_stub stub self.old ≡ None) × (self.new ≡ stubs_with stub self.old)) }
         ensures err { IfErr result (λ fault. IsFaultFor (reason_of_stub stub self.old) fault × (self.new ≡ self.old)) }
         ensures saved { IfOk result (λ saved. TakesBack saved self.new self.old) }
+        ensures frees { IfOk result (λ saved. needs_memory saved ≡ false) }
     {
         if let Some(reason) = reason_of_stub(&self.stubs, stub.get()) {
             return Err(reason);
         }
-        let turn = self.stubs.put(self.alloc, stub)?;
+        let turn = self.stubs.put(stub)?;
         Ok(SavedStubs { turn })
     }
 
-    /// Removes the stub of a name, if there is one. It takes no memory.
+    /// Removes the stub of a name, if there is one. It takes no memory. Only if there is one, to take that back may.
     pub fn remove(&mut self, name: &Name) -> Result<SavedStubs, NoMemory>
         ensures ok { OnOk result (self.new ≡ stubs_without name.now self.old) }
         ensures err { OnErr result (self.new ≡ self.old) }
         ensures saved { IfOk result (λ saved. TakesBack saved self.new self.old) }
         ensures free { IsOk result }
+        ensures frees { IfOk result (λ saved. has_stub self.old name.now ≡ false → needs_memory saved ≡ false) }
     {
         let turn = self.stubs.take(name);
         Ok(SavedStubs { turn })
@@ -94,7 +95,10 @@ impl StubTable {
         requires { (before : Stubs) × TakesBack saved.old self.old before }
         ensures ok { OnOk result (self.new ≡ before_of saved.old self.old) }
         ensures again { OnOk result (TakesBack saved.new self.new self.old) }
+        ensures turned { OnOk result ((needs_memory saved.new ≡ needs_memory_after saved.old)
+            × (needs_memory_after saved.new ≡ needs_memory saved.old)) }
         ensures err { OnErr result ((self.new ≡ self.old) × (saved.new ≡ saved.old)) }
+        ensures free { needs_memory saved.old ≡ false → IsOk result }
     {
         self.stubs.turn_over(&mut saved.turn)
     }
@@ -104,7 +108,10 @@ impl StubTable {
         requires { (after : Stubs) × TakesBack saved.old self.old after }
         ensures ok { OnOk result (self.new ≡ before_of saved.old self.old) }
         ensures back { OnOk result (TakesBack saved.new self.new self.old) }
+        ensures turned { OnOk result ((needs_memory saved.new ≡ needs_memory_after saved.old)
+            × (needs_memory_after saved.new ≡ needs_memory saved.old)) }
         ensures err { OnErr result ((self.new ≡ self.old) × (saved.new ≡ saved.old)) }
+        ensures free { needs_memory saved.old ≡ false → IsOk result }
     {
         self.stubs.turn_over(&mut saved.turn)
     }

@@ -11,8 +11,8 @@ use Rattle.history.specs.declared.event.Command.TheVariants.{SetZone, DropZone, 
 use Rattle.history.specs.declared.tables.Tables.{Tables}
 use Rattle.table_changes.specs.Part.{part}
 use Rattle.table_changes.specs.TableRow.{table_by, face_of, KeepsRow}
-use Rattle.table_changes.specs.Stubs.{stubs_after, stub_reason}
-use Rattle.table_changes.specs.Zones.{zones_after, zone_reason}
+use Rattle.table_changes.specs.Stubs.{stubs_after, stubs_removed, stub_reason}
+use Rattle.table_changes.specs.Zones.{zones_after, zones_removed, zone_reason}
 use Rattle.table_changes.specs.declared.stubs.StubChange.TheVariants as stubs
 use Rattle.table_changes.specs.declared.zones.ZoneChange.TheVariants as zones
 use Rattle.table_changes.specs.declared.tables.TableWorld.{TableWorld}
@@ -55,6 +55,20 @@ change_of command = None
 abbrev pub change_after : TableChange → Tables → Tables
 change_after (change.Zones c) t = record { local = zones_after c t.local; stubs = t.stubs }
 change_after (change.Stubs c) t = record { local = t.local; stubs = stubs_after c t.stubs }
+
+-- whether a change removes something
+abbrev pub change_removes : TableChange → Tables → Bool
+change_removes (change.Zones c) t = zones_removed c t.local
+change_removes (change.Stubs c) t = stubs_removed c t.stubs
+
+-- whether the next step of a change may need memory, and the one after that
+abbrev pub saved_needs : SavedTable → Bool
+saved_needs (saved.Zones s) = zone.needs_memory s
+saved_needs (saved.Stubs s) = stub.needs_memory s
+
+abbrev pub saved_needs_after : SavedTable → Bool
+saved_needs_after (saved.Zones s) = zone.needs_memory_after s
+saved_needs_after (saved.Stubs s) = stub.needs_memory_after s
 
 -- the number of the reason to refuse a change, if there is one
 abbrev pub change_reason : TableChange → Tables → Option ℕ

@@ -1,9 +1,9 @@
 -- The changes of stubs.
-use Rattle.std.specs.Prelude.{ℕ, Option, Some, None}
+use Rattle.std.specs.Prelude.{ℕ, Bool, false, Option, Some, None}
 use Rattle.stub_table.specs.declared.fault.StubFault.{StubFault}
 use Rattle.stub_table.specs.declared.fault.StubFault.TheVariants.{TooMany, NoMemory}
 use Rattle.stub_table.specs.Stubs.{Stubs}
-use Rattle.stub_table.specs.Change.{stubs_with, stubs_without}
+use Rattle.stub_table.specs.Change.{has_stub, stubs_with, stubs_without}
 use Rattle.stub_table.specs.Reason.{reason_of_stub}
 use Rattle.table_changes.specs.declared.stubs.StubChange.{StubChange}
 use Rattle.table_changes.specs.declared.stubs.StubChange.TheVariants.{Set, Drop}
@@ -12,6 +12,11 @@ use Rattle.table_changes.specs.declared.stubs.StubChange.TheVariants.{Set, Drop}
 abbrev pub stubs_after : StubChange → Stubs → Stubs
 stubs_after (Set new) stubs = stubs_with new stubs
 stubs_after (Drop name) stubs = stubs_without name stubs
+
+-- whether a change removes a stub
+abbrev pub stubs_removed : StubChange → Stubs → Bool
+stubs_removed (Set new) stubs = false
+stubs_removed (Drop name) stubs = has_stub stubs name
 
 -- the number of a fault's reason
 abbrev pub stub_code : StubFault → Option ℕ

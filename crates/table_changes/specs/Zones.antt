@@ -1,9 +1,11 @@
 -- The changes of zones and records.
-use Rattle.std.specs.Prelude.{ℕ, Option, Some, None}
+use Rattle.std.specs.Prelude.{ℕ, Bool, false, Option, Some, None}
+use Rattle.std.specs.List.{list_any}
+use Rattle.dns_name.specs.Order.{name_eq}
 use Rattle.local_zone.specs.declared.fault.TableFault.{TableFault}
 use Rattle.local_zone.specs.declared.fault.TableFault.TheVariants.{BelowRedirect, DataBelow, CnameClash, TooMany, NoMemory}
 use Rattle.local_zone.specs.Tables.{Tables}
-use Rattle.local_zone.specs.Change.{after_set, after_drop, after_add, after_drop_name}
+use Rattle.local_zone.specs.Change.{after_set, after_drop, after_add, after_drop_name, has_zone}
 use Rattle.local_zone.specs.Reason.{reason_of_set, reason_of_add}
 use Rattle.table_changes.specs.declared.zones.ZoneChange.{ZoneChange}
 use Rattle.table_changes.specs.declared.zones.ZoneChange.TheVariants.{SetZone, DropZone, AddRecord, DropName}
@@ -14,6 +16,12 @@ zones_after (SetZone name kind) t = after_set (record { name = name; kind = kind
 zones_after (DropZone name) t = after_drop name t
 zones_after (AddRecord new) t = after_add new t
 zones_after (DropName name) t = after_drop_name name t
+
+-- whether a change removes a zone or a record
+abbrev pub zones_removed : ZoneChange → Tables → Bool
+zones_removed (DropZone name) t = has_zone t.zones name
+zones_removed (DropName name) t = list_any (λ r. name_eq r.owner name) t.records
+zones_removed change t = false
 
 -- the number of a fault's reason
 abbrev pub zone_code : TableFault → Option ℕ

@@ -1,9 +1,9 @@
 //! The changes of stubs.
 
-ghost use Rattle.std.specs.Prelude.{◌≡◌, None, IfErr, IfOk, OnOk};
+ghost use Rattle.std.specs.Prelude.{◌≡◌, false, None, IfErr, IfOk, OnOk};
 ghost use Rattle.change_law.specs.Effect.{IsFaultFor};
-ghost use Rattle.stub_table.specs.Saved.{TakesBack};
-ghost use Rattle.table_changes.specs.Stubs.{stub_code, stub_reason, stubs_after};
+ghost use Rattle.stub_table.specs.Saved.{needs_memory, TakesBack};
+ghost use Rattle.table_changes.specs.Stubs.{stub_code, stub_reason, stubs_after, stubs_removed};
 
 use change_law::ChangeFault;
 use dns_name::Name;
@@ -34,6 +34,7 @@ fn set_stub(table: &mut StubTable, stub: Shared<Stub>) -> Result<SavedStubs, Cha
     ensures ok { OnOk result ((stub_reason (StubChange.Set stub) table.old ≡ None)
         × (table.new ≡ stubs_after (StubChange.Set stub) table.old)) }
     ensures saved { IfOk result (λ saved. TakesBack saved table.new table.old) }
+    ensures frees { IfOk result (λ saved. stubs_removed (StubChange.Set stub) table.old ≡ false → needs_memory saved ≡ false) }
     ensures err { IfErr result (λ fault. IsFaultFor (stub_reason (StubChange.Set stub) table.old) fault × (table.new ≡ table.old)) }
 {
     match table.set(stub) {
@@ -46,6 +47,7 @@ fn set_stub(table: &mut StubTable, stub: Shared<Stub>) -> Result<SavedStubs, Cha
 fn drop_stub(table: &mut StubTable, name: Name) -> Result<SavedStubs, ChangeFault>
     ensures ok { OnOk result (table.new ≡ stubs_after (StubChange.Drop name) table.old) }
     ensures saved { IfOk result (λ saved. TakesBack saved table.new table.old) }
+    ensures frees { IfOk result (λ saved. stubs_removed (StubChange.Drop name) table.old ≡ false → needs_memory saved ≡ false) }
     ensures err { IfErr result (λ fault. (fault ≡ ChangeFault.NoMemory) × (table.new ≡ table.old)) }
 {
     match table.remove(&name) {
@@ -61,6 +63,7 @@ pub(crate) fn make_stub_change(
 ) -> Result<SavedStubs, ChangeFault>
     ensures ok { OnOk result ((stub_reason change table.old ≡ None) × (table.new ≡ stubs_after change table.old)) }
     ensures saved { IfOk result (λ saved. TakesBack saved table.new table.old) }
+    ensures frees { IfOk result (λ saved. stubs_removed change table.old ≡ false → needs_memory saved ≡ false) }
     ensures err { IfErr result (λ fault. IsFaultFor (stub_reason change table.old) fault × (table.new ≡ table.old)) }
 {
     match change {

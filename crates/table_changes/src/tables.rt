@@ -91,7 +91,7 @@ impl TableWorld {
 
 impl World for TableWorld {
     ghost use Rattle.std.specs.Prelude.{false, true, refl};
-    ghost use Rattle.table_changes.specs.Both.{saved_table, face_by, shown_tables, KeepsBoth};
+    ghost use Rattle.table_changes.specs.Both.{saved_needs, saved_needs_after, saved_table, face_by, shown_tables, KeepsBoth};
     ghost use Rattle.table_changes.specs.BothLaws.{clears_both, shows_both};
 
     type Tables = Tables;
@@ -106,7 +106,9 @@ impl World for TableWorld {
 
     ghost told = { λ saved. tt };
 
-    ghost needs_memory = { λ saved. true };
+    ghost needs_memory = { saved_needs };
+
+    ghost needs_memory_after = { saved_needs_after };
 
     ghost keeps = { KeepsBoth };
 
@@ -154,7 +156,7 @@ impl World for TableWorld {
 
 impl Change for TableChange {
     ghost use Rattle.std.specs.Prelude.{false};
-    ghost use Rattle.table_changes.specs.Both.{change_table, change_reason, change_after};
+    ghost use Rattle.table_changes.specs.Both.{change_table, change_reason, change_removes, change_after};
 
     type World = TableWorld;
 
@@ -163,6 +165,8 @@ impl Change for TableChange {
     ghost after = { change_after };
 
     ghost empties = { λ change question. false };
+
+    ghost removes = { change_removes };
 
     ghost table = { change_table };
 

@@ -1,9 +1,9 @@
 //! The changes of local zones and records.
 
-ghost use Rattle.std.specs.Prelude.{◌≡◌, None, IfErr, IfOk, OnOk};
+ghost use Rattle.std.specs.Prelude.{◌≡◌, false, None, IfErr, IfOk, OnOk};
 ghost use Rattle.change_law.specs.Effect.{IsFaultFor};
-ghost use Rattle.local_zone.specs.Saved.{TakesBack};
-ghost use Rattle.table_changes.specs.Zones.{zone_code, zone_reason, zones_after};
+ghost use Rattle.local_zone.specs.Saved.{needs_memory, TakesBack};
+ghost use Rattle.table_changes.specs.Zones.{zone_code, zone_reason, zones_after, zones_removed};
 
 use change_law::ChangeFault;
 use dns_name::Name;
@@ -45,6 +45,7 @@ pub(crate) fn set_zone(
     ensures ok { OnOk result ((zone_reason (ZoneChange.SetZone name kind) table.old ≡ None)
         × (table.new ≡ zones_after (ZoneChange.SetZone name kind) table.old)) }
     ensures saved { IfOk result (λ saved. TakesBack saved table.new table.old) }
+    ensures frees { IfOk result (λ saved. zones_removed (ZoneChange.SetZone name kind) table.old ≡ false → needs_memory saved ≡ false) }
     ensures err { IfErr result (λ fault. IsFaultFor (zone_reason (ZoneChange.SetZone name kind) table.old) fault
         × (table.new ≡ table.old)) }
 {
@@ -62,6 +63,7 @@ pub(crate) fn add_record(
     ensures ok { OnOk result ((zone_reason (ZoneChange.AddRecord new) table.old ≡ None)
         × (table.new ≡ zones_after (ZoneChange.AddRecord new) table.old)) }
     ensures saved { IfOk result (λ saved. TakesBack saved table.new table.old) }
+    ensures frees { IfOk result (λ saved. zones_removed (ZoneChange.AddRecord new) table.old ≡ false → needs_memory saved ≡ false) }
     ensures err { IfErr result (λ fault. IsFaultFor (zone_reason (ZoneChange.AddRecord new) table.old) fault × (table.new ≡ table.old)) }
 {
     match table.add_record(new) {
@@ -74,6 +76,7 @@ pub(crate) fn add_record(
 pub(crate) fn drop_zone(table: &mut ZoneTable, name: Name) -> Result<SavedTables, ChangeFault>
     ensures ok { OnOk result (table.new ≡ zones_after (ZoneChange.DropZone name) table.old) }
     ensures saved { IfOk result (λ saved. TakesBack saved table.new table.old) }
+    ensures frees { IfOk result (λ saved. zones_removed (ZoneChange.DropZone name) table.old ≡ false → needs_memory saved ≡ false) }
     ensures err { IfErr result (λ fault. (fault ≡ ChangeFault.NoMemory) × (table.new ≡ table.old)) }
 {
     match table.drop_zone(&name) {
@@ -86,6 +89,7 @@ pub(crate) fn drop_zone(table: &mut ZoneTable, name: Name) -> Result<SavedTables
 pub(crate) fn drop_name(table: &mut ZoneTable, name: Name) -> Result<SavedTables, ChangeFault>
     ensures ok { OnOk result (table.new ≡ zones_after (ZoneChange.DropName name) table.old) }
     ensures saved { IfOk result (λ saved. TakesBack saved table.new table.old) }
+    ensures frees { IfOk result (λ saved. zones_removed (ZoneChange.DropName name) table.old ≡ false → needs_memory saved ≡ false) }
     ensures err { IfErr result (λ fault. (fault ≡ ChangeFault.NoMemory) × (table.new ≡ table.old)) }
 {
     match table.drop_name(&name) {
@@ -101,6 +105,7 @@ pub(crate) fn make_zone_change(
 ) -> Result<SavedTables, ChangeFault>
     ensures ok { OnOk result ((zone_reason change table.old ≡ None) × (table.new ≡ zones_after change table.old)) }
     ensures saved { IfOk result (λ saved. TakesBack saved table.new table.old) }
+    ensures frees { IfOk result (λ saved. zones_removed change table.old ≡ false → needs_memory saved ≡ false) }
     ensures err { IfErr result (λ fault. IsFaultFor (zone_reason change table.old) fault × (table.new ≡ table.old)) }
 {
     match change {

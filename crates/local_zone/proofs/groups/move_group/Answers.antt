@@ -1,33 +1,31 @@
-use Rattle.std.proofs.Common.{◌≡◌, ℕ, List, [], ◌∷◌, ◌++◌, Some, None, Vec, Global, ap, sym, subst, ◌∙◌, nat_eq}
+use Rattle.std.proofs.Common.{◌≡◌, ℕ, List, [], ◌∷◌, ◌++◌, Some, None, ap, sym, subst, ◌∙◌, nat_eq}
 use Rattle.std.specs.Map.{KeepsOthers}
 use Rattle.std.specs.Cmp.Lexicographic.{pointwise}
-use Rattle.dns_name.specs.Labels.{octets_of}
+use Rattle.dns_name.specs.Labels.{octets_of, Labels}
 use Rattle.dns_text.specs.declared.record.Record.{Record}
-use Rattle.local_zone.specs.declared.record.LocalRecord.{LocalRecord}
 use Rattle.local_zone.specs.Index.{under, IsGrouped}
+use Rattle.local_zone.specs.declared.group.Group.{Group}
+use Rattle.local_zone.specs.Group.{records_held}
 use Rattle.local_zone.proofs.GroupLaws.{IsMoved, moved_some, grouped_moved, still_none, key_found}
 use Rattle.local_zone.proofs.groups.move_group.Goals as goal
 
-abbrev octets : Vec ℕ Global → List ℕ
-octets k = k.items
+abbrev octets : Labels → List ℕ
+octets k = octets_of k
 
-abbrev items : Vec LocalRecord Global → List Record
-items g = g.items
+abbrev items : Group → List Record
+items g = records_held g
 
 gone : (c : goal.After-push_reserved) → under octets (octets_of c.args.owner.now) c.swap_remove_entry.new.self.entries ≡ None
-gone c = ap (λ (s : List ℕ). under octets s c.swap_remove_entry.new.self.entries) (sym c.octets.ensures.value) ∙ c.swap_remove_entry.ensures.updates.1
+gone c = c.swap_remove_entry.ensures.updates.1
 
 keeps : (c : goal.After-push_reserved) → KeepsOthers (λ x y. pointwise nat_eq (octets x) (octets y)) (λ k. pointwise nat_eq (octets_of c.args.owner.now) (octets k)) c.args.owners.now.entries c.swap_remove_entry.new.self.entries
-keeps c =
-    subst (λ (s : List ℕ). KeepsOthers (λ x y. pointwise nat_eq (octets x) (octets y)) (λ k. pointwise nat_eq s (octets k)) c.args.owners.now.entries c.swap_remove_entry.new.self.entries) c.octets.ensures.value
-    c.swap_remove_entry.ensures.updates.3
+keeps c = c.swap_remove_entry.ensures.updates.3
 
 moved : (c : goal.After-push_reserved) → IsMoved octets items c.args.owner.now c.args.groups.now.items c.args.owners.now.entries (c.args.groups.now.items ++ c.in-Some.group ∷ []) c.swap_remove_entry.new.self.entries
 moved c =
     let es = c.args.owners.now.entries in
-    let name = c.octets.ensures.value in
-    let key : octets c.in-Some.group.0 ≡ octets_of c.args.owner.now = key_found octets c.octets.result.now es c.in-Some.group.0 (sym c.in-Some.ensures.key) ∙ name in
-    let found : under octets (octets_of c.args.owner.now) es ≡ Some c.in-Some.group.1 = ap (λ (s : List ℕ). under octets s es) (sym name) ∙ sym c.in-Some.ensures.value in
+    let key : octets c.in-Some.group.0 ≡ octets_of c.args.owner.now = key_found octets (octets_of c.args.owner.now) es c.in-Some.group.0 (sym c.in-Some.ensures.key) in
+    let found : under octets (octets_of c.args.owner.now) es ≡ Some c.in-Some.group.1 = sym c.in-Some.ensures.value in
     moved_some octets items c.args.owner.now c.args.groups.now.items es c.swap_remove_entry.new.self.entries c.in-Some.group.0 c.in-Some.group.1 key found (gone c) (keeps c)
 
 pub returns-in-Some-clause-index : goal.returns-in-Some-clause-index

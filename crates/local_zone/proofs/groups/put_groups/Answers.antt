@@ -1,16 +1,18 @@
-use Rattle.std.proofs.Common.{◌≡◌, ◌<◌, ℕ, List, [], ◌∷◌, ◌++◌, length, Vec, Global, refl, subst, arith}
+use Rattle.std.proofs.Common.{◌≡◌, ◌<◌, ℕ, List, [], ◌∷◌, ◌++◌, length, refl, subst, arith}
 use Rattle.indexmap.specs.IndexMap.{spare}
 use Rattle.dns_text.specs.declared.record.Record.{Record}
-use Rattle.local_zone.specs.declared.record.LocalRecord.{LocalRecord}
+use Rattle.dns_name.specs.Labels.{Labels, octets_of}
 use Rattle.local_zone.specs.Index.{IsGrouped}
+use Rattle.local_zone.specs.declared.group.Group.{Group}
+use Rattle.local_zone.specs.Group.{records_held}
 use Rattle.local_zone.proofs.GroupLaws.{grouped_put, is_ok_of}
 use Rattle.local_zone.proofs.groups.put_groups.Goals as goal
 
-abbrev octets : Vec ℕ Global → List ℕ
-octets k = k.items
+abbrev octets : Labels → List ℕ
+octets k = octets_of k
 
-abbrev items : Vec LocalRecord Global → List Record
-items g = g.items
+abbrev items : Group → List Record
+items g = records_held g
 
 pub loop-key-preserved-in-Some : goal.loop-key-preserved-in-Some
 loop-key-preserved-in-Some c =
@@ -25,6 +27,28 @@ loop-key-preserved-in-Some c =
 
 pub loop-key-preserved-in-Some-2 : goal.loop-key-preserved-in-Some-2
 loop-key-preserved-in-Some-2 c =
+    let room : 0 < spare c.loop-key.owners = omega (arith, c.loop-key.invariant.room, c.in-Some.ensures.len) in
+    let updates = is_ok_of c.insert.result (c.insert.ensures.succeeds room) c.insert.ensures.updates in
+    record {
+      index = λ records h.
+          grouped_put octets items c.pop.new.self.items c.loop-key.owners.entries c.insert.new.self.entries c.in-Some.key c.in-Some.records updates.1 updates.3 records
+          (subst (λ gs. IsGrouped octets items records (gs ++ c.loop-key.owners.entries)) c.in-Some.ensures.items (c.loop-key.invariant.index records h));
+      room = omega (arith, c.loop-key.invariant.room, c.in-Some.ensures.len, c.insert.ensures.spare);
+    }
+
+pub loop-key-preserved-in-Some-3 : goal.loop-key-preserved-in-Some-3
+loop-key-preserved-in-Some-3 c =
+    let room : 0 < spare c.loop-key.owners = omega (arith, c.loop-key.invariant.room, c.in-Some.ensures.len) in
+    let updates = is_ok_of c.insert.result (c.insert.ensures.succeeds room) c.insert.ensures.updates in
+    record {
+      index = λ records h.
+          grouped_put octets items c.pop.new.self.items c.loop-key.owners.entries c.insert.new.self.entries c.in-Some.key c.in-Some.records updates.1 updates.3 records
+          (subst (λ gs. IsGrouped octets items records (gs ++ c.loop-key.owners.entries)) c.in-Some.ensures.items (c.loop-key.invariant.index records h));
+      room = omega (arith, c.loop-key.invariant.room, c.in-Some.ensures.len, c.insert.ensures.spare);
+    }
+
+pub loop-key-preserved-in-Some-4 : goal.loop-key-preserved-in-Some-4
+loop-key-preserved-in-Some-4 c =
     let room : 0 < spare c.loop-key.owners = omega (arith, c.loop-key.invariant.room, c.in-Some.ensures.len) in
     let updates = is_ok_of c.insert.result (c.insert.ensures.succeeds room) c.insert.ensures.updates in
     record {

@@ -1,64 +1,60 @@
-use Rattle.std.proofs.Common.{◌≡◌, ℕ, length, List, [], Some, Vec, Global, ap, sym, subst, ◌∙◌, ◌==◌, nat_eq, arith}
+use Rattle.std.proofs.Common.{◌≡◌, ℕ, length, List, Some, refl, ap, sym, subst, ◌∙◌, nat_eq}
 use Rattle.std.specs.Map.{set_value}
-use Rattle.std.proofs.lemmas.Bool.{false≢true}
 use Rattle.std.specs.Cmp.Lexicographic.{pointwise}
-use Rattle.dns_name.specs.Labels.{octets_of}
+use Rattle.dns_name.specs.Labels.{octets_of, Labels}
 use Rattle.dns_text.specs.declared.record.Record.{Record}
-use Rattle.local_zone.specs.declared.record.LocalRecord.{LocalRecord}
 use Rattle.local_zone.specs.Index.{under, IsGrouped, IsIndexed}
+use Rattle.local_zone.specs.declared.group.Group.{Group}
+use Rattle.local_zone.specs.Group.{records_held}
 use Rattle.local_zone.proofs.IndexLaws.{index-front, index-some, grouped-front, others-set}
 use Rattle.local_zone.proofs.record_list.pop_under.Goals as goal
 
-abbrev octets : Vec ℕ Global → List ℕ
-octets k = k.items
+abbrev octets : Labels → List ℕ
+octets k = octets_of k
 
-abbrev items : Vec LocalRecord Global → List Record
-items g = g.items
+abbrev items : Group → List Record
+items g = records_held g
 
 pub returns-in-Some-clause-front : goal.returns-in-Some-clause-front
 returns-in-Some-clause-front c front last same h =
     let es = c.args.owners.now.entries in
-    let name : c.octets.result.now ≡ octets_of last.owner = c.octets.ensures.value ∙ ap octets_of (sym same) in
-    let g = c.in-Some.records.now in
+    let name : octets_of c.args.owner.now ≡ octets_of last.owner = ap octets_of (sym same) in
+    let g = c.in-Some.group.now in
     let w = c.pop.new.self in
     let found : under octets (octets_of last.owner) es ≡ Some g = ap (λ (s : List ℕ). under octets s es) (sym name) ∙ sym c.in-Some.ensures.value in
     let entries : (c.get_mut.follows.lender w).entries ≡ set_value (λ k. pointwise nat_eq (octets_of last.owner) (octets k)) es w =
     (c.get_mut.follows.holds w).0 ∙ ap (λ (s : List ℕ). set_value (λ k. pointwise nat_eq s (octets k)) es w) name in
-    let long : g.len ≡ length (items g) = omega (arith, g.ok.0) in
-    subst (λ x. IsIndexed octets items front x) (sym entries) (index-front octets items front last es g w g.len h found long c.pop.ensures.rest)
+    subst (λ x. IsIndexed octets items front x) (sym entries) (index-front octets items front last es g w (length (items g)) h found refl c.pop.ensures.left)
 
 pub returns-in-None-clause-front : goal.returns-in-None-clause-front
 returns-in-None-clause-front c front last same h =
     let es = c.args.owners.now.entries in
-    let name : c.octets.result.now ≡ octets_of last.owner = c.octets.ensures.value ∙ ap octets_of (sym same) in
+    let name : octets_of c.args.owner.now ≡ octets_of last.owner = ap octets_of (sym same) in
     absurd (index-some octets items front last es h (ap (λ (s : List ℕ). under octets s es) (sym name) ∙ sym c.in-None.ensures.value))
 
 pub returns-in-Some-clause-some : goal.returns-in-Some-clause-some
 returns-in-Some-clause-some c stays front last same h =
     let es = c.args.owners.now.entries in
-    let name : c.octets.result.now ≡ octets_of last.owner = c.octets.ensures.value ∙ ap octets_of (sym same) in
-    let g = c.in-Some.records.now in
+    let name : octets_of c.args.owner.now ≡ octets_of last.owner = ap octets_of (sym same) in
+    let g = c.in-Some.group.now in
     let w = c.pop.new.self in
     let found : under octets (octets_of last.owner) es ≡ Some g = ap (λ (s : List ℕ). under octets s es) (sym name) ∙ sym c.in-Some.ensures.value in
     let entries : (c.get_mut.follows.lender w).entries ≡ set_value (λ k. pointwise nat_eq (octets_of last.owner) (octets k)) es w =
     (c.get_mut.follows.holds w).0 ∙ ap (λ (s : List ℕ). set_value (λ k. pointwise nat_eq s (octets k)) es w) name in
-    let long : g.len ≡ length (items g) = omega (arith, g.ok.0) in
-    let some : items w ≡ [] → ⊥ = λ none. (let zero : w.len ≡ 0 = omega (arith, w.ok.0, ap length none) in false≢true (sym stays ∙ c.is_empty.ensures ∙ ap (λ n. n == 0) zero)) in
-    subst (λ x. IsGrouped octets items front x) (sym entries) (grouped-front octets items front last es g w g.len h found long c.pop.ensures.rest some)
+    subst (λ x. IsGrouped octets items front x) (sym entries) (grouped-front octets items front last es g w (length (items g)) h found refl c.pop.ensures.left (c.pop.ensures.some stays))
 
 pub returns-in-Some-clause-others : goal.returns-in-Some-clause-others
 returns-in-Some-clause-others c other e =
     let es = c.args.owners.now.entries in
     let w = c.pop.new.self in
-    let name : c.octets.result.now ≡ octets_of c.args.owner.now = c.octets.ensures.value in
     let entries : (c.get_mut.follows.lender w).entries ≡ set_value (λ k. pointwise nat_eq (octets_of c.args.owner.now) (octets k)) es w =
-    (c.get_mut.follows.holds w).0 ∙ ap (λ (s : List ℕ). set_value (λ k. pointwise nat_eq s (octets k)) es w) name in
+    (c.get_mut.follows.holds w).0 in
     ap (λ x. under octets (octets_of other) x) entries ∙ others-set octets items c.args.owner.now other es w e
 
 pub returns-in-None-clause-some : goal.returns-in-None-clause-some
 returns-in-None-clause-some c stays front last same h =
     let es = c.args.owners.now.entries in
-    let name : c.octets.result.now ≡ octets_of last.owner = c.octets.ensures.value ∙ ap octets_of (sym same) in
+    let name : octets_of c.args.owner.now ≡ octets_of last.owner = ap octets_of (sym same) in
     absurd (index-some octets items front last es h.0 (ap (λ (s : List ℕ). under octets s es) (sym name) ∙ sym c.in-None.ensures.value))
 
 pub returns-in-None-clause-others : goal.returns-in-None-clause-others

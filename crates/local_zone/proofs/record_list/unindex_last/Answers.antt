@@ -1,26 +1,27 @@
-use Rattle.std.proofs.Common.{◌≡◌, ℕ, List, [], None, Vec, Global, refl, ap, sym, subst, ◌∙◌, nat_eq}
+use Rattle.std.proofs.Common.{◌≡◌, ℕ, List, [], None, refl, ap, sym, subst, ◌∙◌, nat_eq}
 use Rattle.std.specs.Map.{KeepsOthers}
 use Rattle.std.specs.Cmp.Lexicographic.{pointwise}
 use Rattle.dns_name.specs.Labels.{Labels, octets_of}
 use Rattle.dns_name.specs.Order.{name_eq}
 use Rattle.dns_text.specs.declared.record.Record.{Record}
-use Rattle.local_zone.specs.declared.record.LocalRecord.{LocalRecord}
 use Rattle.local_zone.specs.Index.{items_in, under}
+use Rattle.local_zone.specs.declared.group.Group.{Group}
+use Rattle.local_zone.specs.Group.{records_held}
 use Rattle.local_zone.proofs.IndexLaws.{grouped-drop}
 use Rattle.local_zone.proofs.record_list.unindex_last.Goals as goal
 
-abbrev octets : Vec ℕ Global → List ℕ
-octets k = k.items
+abbrev octets : Labels → List ℕ
+octets k = octets_of k
 
-abbrev items : Vec LocalRecord Global → List Record
-items g = g.items
+abbrev items : Group → List Record
+items g = records_held g
 
 pub returns-then-pop_under : goal.returns-then-pop_under
 returns-then-pop_under c front last same h =
     let start = c.args.owners.now.entries in
     let mid = c.pop_under.new.owners.entries in
     let after = c.swap_remove.new.self.entries in
-    let name : c.octets.result.now ≡ octets_of last.owner = c.octets.ensures.value ∙ ap octets_of (sym same) in
+    let name : octets_of c.args.owner.now ≡ octets_of last.owner = ap octets_of (sym same) in
     let none : under octets (octets_of last.owner) after ≡ None = ap (λ (s : List ℕ). under octets s after) (sym name) ∙ c.swap_remove.ensures.updates.1 in
     let others : KeepsOthers (λ x y. pointwise nat_eq (octets x) (octets y)) (λ k. pointwise nat_eq (octets_of last.owner) (octets k)) mid after =
     subst (λ (s : List ℕ). KeepsOthers (λ x y. pointwise nat_eq (octets x) (octets y)) (λ k. pointwise nat_eq s (octets k)) mid after) name c.swap_remove.ensures.updates.3 in

@@ -25,3 +25,8 @@ pub returns-in_err-turn-clause-free : goal.returns-in_err-turn-clause-free
 returns-in_err-turn-clause-free c none =
     let are : c.as_slice-2.result.now ≡ [] = c.as_slice-2.ensures.value ∙ c.in_ok-gaps.ensures.ok ∙ ap (λ (rs : List Record). gaps_where (λ r. lies_in c.args.zones.now c.args.name.now r.owner) 0 rs) c.as_slice.ensures ∙ no_gaps (λ r. lies_in c.args.zones.now c.args.name.now r.owner) 0 c.args.records.now none in
     absurd (false≢true (c.in_err-turn.ensures.free are))
+
+pub returns-clause-frees : goal.returns-clause-frees
+returns-clause-frees c none =
+    let are : c.as_slice-2.result.now ≡ [] = c.as_slice-2.ensures.value ∙ c.in_ok-gaps.ensures.ok ∙ ap (λ (rs : List Record). gaps_where (λ r. lies_in c.args.zones.now c.args.name.now r.owner) 0 rs) c.as_slice.ensures ∙ no_gaps (λ r. lies_in c.args.zones.now c.args.name.now r.owner) 0 c.args.records.now none in
+    c.in_ok-turn.ensures.frees are

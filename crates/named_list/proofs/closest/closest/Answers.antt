@@ -1,4 +1,4 @@
-use Rattle.std.proofs.Common.{◌≡◌, ℕ, ◌-◌, ◌<◌, List, ◌∷◌, length, take, None, Vec, Global, ap, sym, ◌∙◌, arith, length-take}
+use Rattle.std.proofs.Common.{◌≡◌, ℕ, ◌-◌, ◌<◌, List, ◌∷◌, length, take, None, ap, sym, ◌∙◌, arith, length-take}
 use Rattle.std.specs.Map.{values_of}
 use Rattle.std.specs.Option.{option_map}
 use Rattle.dns_name.specs.Labels.{Labels, octets_of}
@@ -7,8 +7,8 @@ use Rattle.named_list.proofs.LongLaws.{closest_few}
 use Rattle.named_list.proofs.KeyedLaws.{lookup-of, closest-here, closest-up, closest-root, octets_above}
 use Rattle.named_list.proofs.closest.closest.Goals as goal
 
-abbrev items : Vec ℕ Global → List ℕ
-items k = k.items
+abbrev items : Labels → List ℕ
+items k = octets_of k
 
 -- where no thing has the name itself, the parent's
 up : {T : Type 0} (name_of : T → Labels) (things : List T) (name : Labels) (label : List ℕ) (parent : Labels) → name ≡ label ∷ parent → find_named name_of things name ≡ None → closest_of name_of things name ≡ closest_of name_of things parent

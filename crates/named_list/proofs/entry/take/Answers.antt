@@ -1,18 +1,19 @@
-use Rattle.std.proofs.Common.{ℕ, List, Vec, Global, ap, sym, ◌∙◌}
+use Rattle.std.proofs.Common.{ℕ, List, ap, sym, ◌∙◌}
 use Rattle.std.specs.Prelude.{is_some}
 use Rattle.std.specs.Map.{values_of}
+use Rattle.dns_name.specs.Labels.{Labels, octets_of}
 use Rattle.named_list.specs.ClosestLaws.{name_of_find}
-use Rattle.named_list.proofs.KeyedLaws.{lookup-of, none_from, without_absent, keyed-at, keyed-remove, values-remove, value-at, remove-without, taken-within, taken-back}
+use Rattle.named_list.proofs.KeyedLaws.{lookup-named, none_from, without_absent, keyed-at, keyed-remove, values-remove, value-at, remove-without, taken-within, taken-back}
 use Rattle.named_list.proofs.entry.take.Goals as goal
 
-abbrev items : Vec ℕ Global → List ℕ
-items k = k.items
+abbrev items : Labels → List ℕ
+items k = octets_of k
 
 pub returns-in_default-clause-value : goal.returns-in_default-clause-value
 returns-in_default-clause-value g c =
     let name_of = g.T.Named.named in
     let es = c.args.things.now.entries in
-    let found = lookup-of items name_of es c.args.name.now c.octets.result.now c.octets.ensures.value c.requires.keyed in
+    let found = lookup-named items name_of es c.args.name.now c.requires.keyed in
     let absent = none_from _ (ap is_some (sym found) ∙ sym c.get_index_of.ensures.found ∙ ap is_some c.in_default.is) in
     sym (without_absent name_of (values_of es) c.args.name.now absent)
 
@@ -25,7 +26,7 @@ returns-clause-value g c =
     let name_of = g.T.Named.named in
     let es = c.args.things.now.entries in
     let at = value-at es c.in-Some.place c.unwrap-key.result.0 c.unwrap-key.result.1 (sym c.shift_remove_index.ensures.entry ∙ c.unwrap-key.ensures) in
-    let found = lookup-of items name_of es c.args.name.now c.octets.result.now c.octets.ensures.value c.requires.keyed in
+    let found = lookup-named items name_of es c.args.name.now c.requires.keyed in
     let same = name_of_find name_of (values_of es) c.args.name.now c.unwrap-key.result.1 (sym found ∙ sym c.in-Some.ensures.value ∙ at) in
     ap (λ x. values_of x) c.shift_remove_index.ensures.entries ∙ values-remove es c.in-Some.place
     ∙ remove-without name_of (values_of es) c.in-Some.place c.unwrap-key.result.1 c.args.name.now at same c.requires.sound

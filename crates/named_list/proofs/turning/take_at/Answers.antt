@@ -1,10 +1,11 @@
-use Rattle.std.proofs.Common.{ℕ, List, Vec, Global, ap, sym, ◌∙◌}
+use Rattle.std.proofs.Common.{ℕ, List, ap, sym, ◌∙◌}
 use Rattle.std.specs.Map.{values_of}
+use Rattle.dns_name.specs.Labels.{Labels, octets_of}
 use Rattle.named_list.proofs.KeyedLaws.{keyed-remove, values-remove, taken-within, taken-back}
 use Rattle.named_list.proofs.turning.take_at.Goals as goal
 
-abbrev items : Vec ℕ Global → List ℕ
-items k = k.items
+abbrev items : Labels → List ℕ
+items k = octets_of k
 
 pub returns-clause-list : goal.returns-clause-list
 returns-clause-list g c = ap (λ x. values_of x) c.shift_remove_index.ensures.entries ∙ values-remove c.args.things.now.entries c.args.place

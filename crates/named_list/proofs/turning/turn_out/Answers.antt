@@ -1,13 +1,14 @@
-use Rattle.std.proofs.Common.{ℕ, List, Vec, Global, ap, sym, subst, ◌∙◌}
+use Rattle.std.proofs.Common.{ℕ, List, ap, sym, subst, ◌∙◌}
 use Rattle.std.specs.Map.{values_of}
+use Rattle.dns_name.specs.Labels.{Labels, octets_of}
 use Rattle.named_list.specs.Turn.{other_of, HasPlace}
 use Rattle.named_list.specs.declared.turn.Turn.{Turn}
 use Rattle.named_list.specs.declared.turn.Turn.TheVariants.{Other}
 use Rattle.named_list.proofs.KeyedLaws.{put-within, put-back, put-names, values-set, keyed-set, names_at}
 use Rattle.named_list.proofs.turning.turn_out.Goals as goal
 
-abbrev items : Vec ℕ Global → List ℕ
-items k = k.items
+abbrev items : Labels → List ℕ
+items k = octets_of k
 
 pub returns-in-Other-clause-list : goal.returns-in-Other-clause-list
 returns-in-Other-clause-list g c =

@@ -1,23 +1,25 @@
-use Rattle.std.proofs.Common.{ℕ, List, Some, None, Vec, Global, ap, sym, ◌∙◌}
+use Rattle.std.proofs.Common.{ℕ, List, Some, None, ap, sym, ◌∙◌, refl}
 use Rattle.dns_text.specs.declared.record.Record.{Record}
-use Rattle.local_zone.specs.declared.record.LocalRecord.{LocalRecord}
+use Rattle.dns_name.specs.Labels.{Labels, octets_of}
 use Rattle.local_zone.specs.Index.{of_owner}
+use Rattle.local_zone.specs.declared.group.Group.{Group}
+use Rattle.local_zone.specs.Group.{records_held}
 use Rattle.local_zone.proofs.IndexLaws.{of-found}
 use Rattle.local_zone.proofs.record_list.RecordList.of.Goals as goal
 
-abbrev octets : Vec ℕ Global → List ℕ
-octets k = k.items
+abbrev octets : Labels → List ℕ
+octets k = octets_of k
 
-abbrev items : Vec LocalRecord Global → List Record
-items g = g.items
+abbrev items : Group → List Record
+items g = records_held g
 
 pub returns-in-Some : goal.returns-in-Some
 returns-in-Some c =
-    c.as_slice.ensures.value
-    ∙ of-found octets items c.self.inside.list.items c.self.inside.owners.entries c.args.owner.now c.octets.result.now (Some c.in-Some.records.now) c.self.invariant.0.0 c.octets.ensures.value (sym c.in-Some.ensures.value)
+    c.as_slice.ensures
+    ∙ of-found octets items c.self.inside.list.items c.self.inside.owners.entries c.args.owner.now (octets_of c.args.owner.now) (Some c.in-Some.group.now) c.self.invariant.0.0 refl (sym c.in-Some.ensures.value)
     ∙ ap (of_owner c.args.owner.now) c.self.view_is
 
 pub returns-in-None : goal.returns-in-None
 returns-in-None c =
-    of-found octets items c.self.inside.list.items c.self.inside.owners.entries c.args.owner.now c.octets.result.now None c.self.invariant.0.0 c.octets.ensures.value (sym c.in-None.ensures.value)
+    of-found octets items c.self.inside.list.items c.self.inside.owners.entries c.args.owner.now (octets_of c.args.owner.now) None c.self.invariant.0.0 refl (sym c.in-None.ensures.value)
     ∙ ap (of_owner c.args.owner.now) c.self.view_is

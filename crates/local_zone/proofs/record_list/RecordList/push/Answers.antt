@@ -1,17 +1,18 @@
-use Rattle.std.proofs.Common.{◌≡◌, ◌+◌, ◌-◌, ℕ, List, [], ◌∷◌, ◌++◌, cond, Vec, Global, ap, sym, subst, ◌∙◌}
-use Rattle.dns_name.specs.Labels.{Labels}
+use Rattle.std.proofs.Common.{◌≡◌, ◌+◌, ◌-◌, ℕ, List, [], ◌∷◌, ◌++◌, cond, ap, sym, subst, ◌∙◌}
+use Rattle.dns_name.specs.Labels.{Labels, octets_of}
 use Rattle.dns_text.specs.declared.record.Record.{Record}
-use Rattle.local_zone.specs.declared.record.LocalRecord.{LocalRecord}
 use Rattle.local_zone.specs.CountsBelow.{counted, is_below, AreCounted, lies_below}
 use Rattle.local_zone.specs.Index.{IsGrouped}
+use Rattle.local_zone.specs.declared.group.Group.{Group}
+use Rattle.local_zone.specs.Group.{records_held}
 use Rattle.local_zone.proofs.CountsBelowLaws.{counted_push, counted_undone}
 use Rattle.local_zone.proofs.record_list.RecordList.push.Goals as goal
 
-abbrev octets : Vec ℕ Global → List ℕ
-octets k = k.items
+abbrev octets : Labels → List ℕ
+octets k = octets_of k
 
-abbrev items : Vec LocalRecord Global → List Record
-items g = g.items
+abbrev items : Group → List Record
+items g = records_held g
 
 pub invariant_of-self-in-Err-1 : goal.invariant_of-self-in-Err-1
 invariant_of-self-in-Err-1 c =

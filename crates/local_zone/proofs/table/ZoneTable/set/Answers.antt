@@ -1,4 +1,5 @@
-use Rattle.std.proofs.Common.{◌≡◌, None, sym, ◌∙◌}
+use Rattle.std.proofs.Common.{◌≡◌, ◌||◌, Bool, false, None, ap, sym, ◌∙◌}
+use Rattle.named_list.specs.TurnLaws.{puts_none_with}
 use Rattle.local_zone.specs.declared.zone.Zone.{Zone}
 use Rattle.local_zone.specs.Tables.{Tables}
 use Rattle.local_zone.specs.Reason.{reason_of_set}
@@ -11,3 +12,7 @@ invariant_of-self-2 c =
     let new : Zone = record { name = c.args.name; kind = c.args.kind } in
     let none : reason_of_set new before ≡ None = sym c.reason_of_set.ensures ∙ c.in_default.is in
     (rw (c.in_ok-zones.ensures.ok, c.in_ok-new.ensures) (set_is_sound new before c.self.invariant.0 none), c.in_ok-zones.ensures.zoned c.self.invariant.1)
+
+pub returns-clause-frees : goal.returns-clause-frees
+returns-clause-frees c =
+    ap (λ (b : Bool). b || false) (puts_none_with (λ (z : Zone). z.name) c.in_ok-new.new c.in_ok-zones.zones c.put_zone.new.zones c.self.inside.zones c.in_ok-zones.ensures.ok c.in_ok-zones.ensures.saved)

@@ -1,10 +1,11 @@
-use Rattle.std.proofs.Common.{◌≡◌, ℕ, List, Some, ap, sym, subst, ◌∙◌, insert, slice_get}
+use Rattle.std.proofs.Common.{◌≡◌, ◌||◌, ℕ, List, Some, ap, sym, subst, ◌∙◌, insert, slice_get}
 use Rattle.named_list.specs.declared.turn.Turn.{Turn}
 use Rattle.named_list.specs.declared.turn.Turn.TheVariants.{With, Without}
 use Rattle.local_zone.specs.declared.zone.Zone.{Zone}
 use Rattle.local_zone.specs.Saved.{before_of}
 use Rattle.local_zone.specs.Tables.{AreTables, Tables}
-use Rattle.named_list.specs.Turn.{other_of, with_at, HasPlace}
+use Rattle.named_list.specs.Turn.{other_of, puts_in, takes_out, with_at, HasPlace}
+use Rattle.local_zone.specs.Added.{records_need, records_need_after}
 use Rattle.local_zone.proofs.ImpliedLaws.{get-insert}
 use Rattle.local_zone.proofs.table.ZoneTable.turn_in.Goals as goal
 
@@ -40,3 +41,15 @@ returns-in-Err-clause-err c =
     let back : c.turn_zone_out.new.turn ≡ c.args.saved.now.zones = c.turn_zone_out.ensures.taken place now ∙ ap (with_at place) got ∙ sym was in
     let same : c.turn_zone_out.new.zones ≡ zones = c.turn_zone_out.ensures.list ∙ c.in_ok-put_zone_in.ensures.again.1 in
     ((λ i. record { zones = same i; records = c.in-Err.ensures.err.0 i }) ∙ c.self.view_is, λ i. record { zones = back i; records = c.in-Err.ensures.err.1 i })
+
+-- a zone that is put in needs memory, and none when it is taken out again
+pub returns-in-Ok-clause-turned : goal.returns-in-Ok-clause-turned
+returns-in-Ok-clause-turned c =
+    let way = c.in_ok-put_zone_in.ensures.without in
+    let was : c.args.saved.now.zones ≡ With way.0 way.1.0 = way.1.1.0 in
+    let now : c.put_zone_in.new.turn ≡ Without way.0 = way.1.1.1 in
+    let first = c.args.saved.now.records in
+    let then' = c.turn_over.new.turn in (
+      ap (λ (t : Turn Zone). puts_in t || records_need then') now ∙ c.in-Ok.ensures.turned.0 ∙ sym (ap (λ (t : Turn Zone). takes_out t || records_need_after first) was),
+      ap (λ (t : Turn Zone). takes_out t || records_need_after then') now ∙ sym (ap (λ (t : Turn Zone). puts_in t || records_need first) was),
+    )

@@ -1,4 +1,6 @@
-use Rattle.std.proofs.Common.{◌≡◌, refl, arith}
+use Rattle.std.proofs.Common.{◌≡◌, refl, ap, sym, ◌∙◌, arith}
+use Rattle.std.proofs.lemmas.Bool.{false≢true}
+use Rattle.store.specs.Store.{needs_after_of, needs_memory_of}
 use Rattle.store.specs.declared.store.WayBack.TheVariants as way
 use Rattle.store.specs.StoreLaws.{table_can_go_again, flush_can_go_again, table_goes_again, flush_goes_again, tables_same_row, same_table}
 use Rattle.store.specs.WorldLaws.{on_err}
@@ -25,3 +27,14 @@ returns-in_ok-again-in-Table-clause-row c = table_goes_again c.args.world.now (r
 pub returns-in_ok-again-in-Flush-clause-row : goal.returns-in_ok-again-in-Flush-clause-row
 returns-in_ok-again-in-Flush-clause-row c = flush_goes_again c.args.world.now (record { tables = c.args.world.now.tables; cells = c.again-in-Flush.new.world }) c.args.saved.now
     (record { command = c.args.saved.now.command; way = way.Flush c.again-in-Flush.new.saved }) c.in-Flush.saved c.again-in-Flush.new.saved c.in-Flush.is refl refl c.in_ok-again-in-Flush.ensures.row
+
+pub returns-in_ok-again-in-Table-clause-turned : goal.returns-in_ok-again-in-Table-clause-turned
+returns-in_ok-again-in-Table-clause-turned c =
+    let turned = c.in_ok-again-in-Table.ensures.turned in
+    (turned.0 ∙ sym (ap needs_after_of c.in-Table.is), turned.1 ∙ sym (ap needs_memory_of c.in-Table.is))
+
+pub returns-in_ok-again-in-Flush-clause-turned : goal.returns-in_ok-again-in-Flush-clause-turned
+returns-in_ok-again-in-Flush-clause-turned c = (sym (ap needs_after_of c.in-Flush.is), sym (ap needs_memory_of c.in-Flush.is))
+
+pub returns-in_err-again-in-Table-clause-free : goal.returns-in_err-again-in-Table-clause-free
+returns-in_err-again-in-Table-clause-free c none = absurd (false≢true (c.in_err-again-in-Table.ensures.free (sym (ap needs_memory_of c.in-Table.is) ∙ none)))

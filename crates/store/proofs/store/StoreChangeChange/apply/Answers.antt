@@ -1,6 +1,9 @@
-use Rattle.std.proofs.Common.{refl, arith}
+use Rattle.std.proofs.Common.{◌≡◌, refl, false, subst, arith}
 use Rattle.ranked.specs.Flush.{covers}
 use Rattle.table_changes.specs.Both.{change_after}
+use Rattle.history.specs.declared.tables.Tables.{Tables}
+use Rattle.store.specs.declared.store.Made.{Made}
+use Rattle.store.specs.Store.{removes_made}
 use Rattle.store.specs.StoreLaws.{table_made, flush_made, tables_same_row, cells_same_row}
 use Rattle.store.specs.WorldLaws.{on_err}
 use Rattle.store.proofs.store.StoreChangeChange.apply.Goals as goal
@@ -22,3 +25,8 @@ returns-in_ok-saved-in-Table-clause-row c = rw c.in-Table.is (table_made c.args.
 pub returns-in_ok-saved-in-Flush-clause-row : goal.returns-in_ok-saved-in-Flush-clause-row
 returns-in_ok-saved-in-Flush-clause-row c = rw c.in-Flush.is (flush_made c.args.world.now (record { tables = c.args.world.now.tables; cells = c.apply-in-Flush.new.world })
     c.args.self.command c.args.ticket (covers c.in-Flush.change.flush) c.in_ok-saved-in-Flush.saved refl c.in_ok-saved-in-Flush.ensures.row)
+
+pub returns-in_ok-saved-in-Table-clause-frees : goal.returns-in_ok-saved-in-Table-clause-frees
+returns-in_ok-saved-in-Table-clause-frees c none =
+    let tables : Tables = c.args.world.now.tables.tables in
+    c.in_ok-saved-in-Table.ensures.frees (subst (λ (made : Made). removes_made made tables ≡ false) c.in-Table.is none)

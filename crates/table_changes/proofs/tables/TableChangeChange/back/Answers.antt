@@ -1,7 +1,8 @@
-use Rattle.std.proofs.Common.{refl, sym, ap}
+use Rattle.std.proofs.Common.{refl, sym, ap, ◌∙◌}
+use Rattle.std.proofs.lemmas.Bool.{false≢true}
 use Rattle.local_zone.specs.Saved as zone
 use Rattle.stub_table.specs.Saved as stub
-use Rattle.table_changes.specs.Both.{of_zones, of_stubs, saved_table, KeepsBoth}
+use Rattle.table_changes.specs.Both.{of_zones, of_stubs, saved_needs, saved_needs_after, saved_table, KeepsBoth}
 use Rattle.table_changes.specs.declared.tables.SavedTable.TheVariants as saved
 use Rattle.table_changes.specs.BothLaws.{zones_numbered, stubs_numbered, zones_apart, stubs_apart}
 use Rattle.table_changes.proofs.BothRows.{zones_tab, stubs_tab, zones_with_stubs, stubs_with_zones, zones_split, stubs_split, zones_join, stubs_join}
@@ -35,3 +36,19 @@ returns-in_ok-back-in-Stubs-clause-row c = λ earlier ticket later at.
     both_back stubs_tab zones_tab stubs_with_zones of_stubs of_zones stub.before_of stub.TakesBack zone.before_of zone.TakesBack saved_table 2 1 stubs_numbered zones_numbered stubs_apart KeepsBoth stubs_split stubs_join
     c.args.world.now (record { tables = record { local = c.args.world.now.tables.local; stubs = c.back-in-Stubs.new.self } }) earlier ticket c.args.saved.now (saved.Stubs c.back-in-Stubs.new.saved) later c.in-Stubs.saved c.back-in-Stubs.new.saved (ap of_stubs c.in-Stubs.is) refl
     (sym c.in_ok-back-in-Stubs.ensures.ok) c.in_ok-back-in-Stubs.ensures.again.gives c.in_ok-back-in-Stubs.ensures.again refl at
+
+pub returns-in_ok-back-in-Zones-clause-turned : goal.returns-in_ok-back-in-Zones-clause-turned
+returns-in_ok-back-in-Zones-clause-turned c =
+    let turned = c.in_ok-back-in-Zones.ensures.turned in
+    (turned.0 ∙ sym (ap saved_needs_after c.in-Zones.is), turned.1 ∙ sym (ap saved_needs c.in-Zones.is))
+
+pub returns-in_err-back-in-Zones-clause-free : goal.returns-in_err-back-in-Zones-clause-free
+returns-in_err-back-in-Zones-clause-free c none = absurd (false≢true (c.in_err-back-in-Zones.ensures.free (sym (ap saved_needs c.in-Zones.is) ∙ none)))
+
+pub returns-in_ok-back-in-Stubs-clause-turned : goal.returns-in_ok-back-in-Stubs-clause-turned
+returns-in_ok-back-in-Stubs-clause-turned c =
+    let turned = c.in_ok-back-in-Stubs.ensures.turned in
+    (turned.0 ∙ sym (ap saved_needs_after c.in-Stubs.is), turned.1 ∙ sym (ap saved_needs c.in-Stubs.is))
+
+pub returns-in_err-back-in-Stubs-clause-free : goal.returns-in_err-back-in-Stubs-clause-free
+returns-in_err-back-in-Stubs-clause-free c none = absurd (false≢true (c.in_err-back-in-Stubs.ensures.free (sym (ap saved_needs c.in-Stubs.is) ∙ none)))

@@ -98,6 +98,6 @@ returns-clause-told g c =
     let can = subst (λ (x : Changes _). CanBeRedone table x.kept c.args.place) (sym c.self.view_is) c.requires.first in
     let same = c.in_ok-again-in-Some.ensures.kind.0 in
     rw (← c.self.view_is) ((
-      told_at g.C.World.World.told j.ring.items c.args.place k (kept_as Done k.ticket c.again.new.saved) at refl c.in_ok-again-in-Some.ensures.kind.2,
+      told_at g.C.World.World.told j.ring.items c.args.place k (kept_as Done k.ticket c.again.new.saved) at refl c.in_ok-again-in-Some.ensures.kind.1,
       told_at table j.ring.items c.args.place k (kept_as Done k.ticket c.again.new.saved) at refl same,
     ))

@@ -1,0 +1,26 @@
+use Rattle.std.proofs.Common.{◌≡◌, ◌||◌, List, refl, sym, subst}
+use Rattle.std.proofs.lemmas.Bool.{false≢true}
+use Rattle.named_list.specs.Turn.{other_of, puts_in, HasPlace, IsWayBack}
+use Rattle.named_list.specs.TurnLaws.{puts_taken, takes_put}
+use Rattle.local_zone.specs.declared.zone.Zone.{Zone}
+use Rattle.local_zone.specs.Added.{records_need}
+use Rattle.local_zone.specs.Tables.{Tables}
+use Rattle.local_zone.proofs.FreeLaws.{second_fails}
+use Rattle.local_zone.proofs.table.ZoneTable.turn_out.Goals as goal
+
+-- what the zones put in or take out, and what the records do
+pub returns-clause-turned : goal.returns-clause-turned
+returns-clause-turned c =
+    let zones : List Zone = c.self.inside.zones in
+    let first = c.args.saved.now.zones in
+    let then' = c.turn_zone_out.new.turn in
+    let fits = subst (λ (t : Tables). HasPlace (λ (z : Zone). z.name) first t.zones) (sym c.self.view_is) c.requires.takes.1.fits in
+    let there = subst (λ (zs : List Zone). IsWayBack (λ (z : Zone). z.name) then' zs zones) c.turn_zone_out.ensures.list c.turn_zone_out.ensures.again in
+    let puts = puts_taken (λ (z : Zone). z.name) first then' zones (other_of first zones) (fits, refl) there in
+    let takes = takes_put (λ (z : Zone). z.name) first then' zones (other_of first zones) (fits, refl) there in
+    let records = c.in_ok-turn_over.ensures.turned in
+    (λ i. puts i || records.0 i, λ i. takes i || records.1 i)
+
+pub returns-in_err-turn_over-clause-free : goal.returns-in_err-turn_over-clause-free
+returns-in_err-turn_over-clause-free c none =
+    absurd (false≢true (c.in_err-turn_over.ensures.free (second_fails (puts_in c.args.saved.now.zones) (records_need c.args.saved.now.records) none)))

@@ -1,0 +1,29 @@
+-- The records of one owner, and an index of such groups by owner.
+use Rattle.std.specs.Prelude.{List, [], ◌∷◌, Option}
+use Rattle.dns_name.specs.Labels.{Labels, octets_of}
+use Rattle.dns_text.specs.declared.record.Record.{Record}
+use Rattle.local_zone.specs.Index.{items_in, under, IsGrouped, IsIndexed}
+use Rattle.local_zone.specs.declared.group.Group.{Group}
+use Rattle.local_zone.specs.declared.group.Group.TheVariants.{Empty, One, Many}
+
+-- the records, in order
+abbrev pub records_held : Group → List Record
+records_held Empty = []
+records_held (One one) = one ∷ []
+records_held (Many many) = many.items
+
+-- what a group holds, if there is one
+abbrev pub records_in : Option Group → List Record
+records_in group = items_in (λ g. records_held g) group
+
+-- the group of a name
+abbrev pub group_of : Labels → List (Labels × Group) → Option Group
+group_of name groups = under (λ k. octets_of k) (octets_of name) groups
+
+-- Under each name are the records of this owner.
+abbrev pub AreIndexed : List Record → List (Labels × Group) → Type 0
+AreIndexed records groups = IsIndexed (λ k. octets_of k) (λ g. records_held g) records groups
+
+-- Under each name are the records of this owner, and each group has records.
+abbrev pub AreGrouped : List Record → List (Labels × Group) → Type 0
+AreGrouped records groups = IsGrouped (λ k. octets_of k) (λ g. records_held g) records groups
