@@ -1,5 +1,5 @@
 -- The pairs that a world counts. A pair is the owner and the scope of a find.
-use Rattle.std.specs.Prelude.{◌≡◌, ◌&&◌, ◌||◌, ℕ, Bool, true, false, Option, Some, List}
+use Rattle.std.specs.Prelude.{◌≡◌, ◌&&◌, ◌||◌, ℕ, Bool, true, false, is_some, Option, Some, List}
 use Rattle.std.specs.Set.{distinct_count, is_member}
 use Rattle.dns_name.specs.Labels.{Labels}
 use Rattle.dns_name.specs.Order.{name_eq}
@@ -8,6 +8,7 @@ use Rattle.ranked.specs.declared.cell.Admitted.{Admitted}
 use Rattle.ranked.specs.declared.find.Find.{Find}
 use Rattle.ranked.specs.declared.find.Scope.{Scope}
 use Rattle.ranked.specs.Equal.{scope_eq}
+use Rattle.ranked.specs.Find.{has_kind}
 use Rattle.change_law.specs.declared.kept.KeptChange.{KeptChange}
 use Rattle.change_law.specs.Choice.{IsChoice}
 use Rattle.change_law.specs.Face.{Face, alive_at}
@@ -45,3 +46,21 @@ pub record IsAliveIn {W S T : Type 0} (table : S → Option ℕ) (face : W → L
   pub held : Admitted Find
   pub alive : alive_at t ((face world kept chosen).cell question) ≡ Some held
   pub same : pair_of held.body ≡ pair
+
+-- whether a question is about a pair: it has the owner, and the type unless the pair is of the whole name
+abbrev pub is_about : Labels × Scope → Question → Bool
+is_about pair question = name_eq pair.0 question.owner && has_kind pair.1 question.kind
+
+-- If, of the kept changes, only the chosen ones were in effect, a cell about this pair would have a find that is alive at a moment.
+pub record IsNeeded {W S T : Type 0} (face : W → List (KeptChange S) → (ℕ → Bool) → Face T)
+    (world : W) (kept : List (KeptChange S)) (t : ℕ) (pair : Labels × Scope) : Type 0 where
+  pub chosen : ℕ → Bool
+  pub question : Question
+  pub about : is_about pair question ≡ true
+  pub alive : is_some (alive_at t ((face world kept chosen).cell question)) ≡ true
+
+-- Each pair that counts is needed at a moment.
+abbrev pub AreNeeded : {W S T : Type 0} → (W → (Labels × Scope) → Bool) → (W → List (KeptChange S) → Type 0) → (W → List (KeptChange S) → (ℕ → Bool) → Face T) →
+    ℕ → W → Type 0
+AreNeeded {S = S} counts keeps face t world =
+    (kept : List (KeptChange S)) → keeps world kept → (pair : Labels × Scope) → counts world pair ≡ true → IsNeeded face world kept t pair

@@ -1,6 +1,6 @@
 //! The world: its face, and the changes that it keeps.
 
-ghost use Rattle.std.specs.Prelude.{◌≡◌, ◌<◌, ℕ, Bool, List, Option, IfOk, IfSome, IfNone, IsOk, OnOk, OnErr, IsErrOf};
+ghost use Rattle.std.specs.Prelude.{◌≡◌, ◌<◌, ℕ, Bool, true, false, List, Option, IfOk, IfSome, IfNone, IsOk, OnOk, OnErr, IsErrOf};
 ghost use Rattle.dns_name.specs.Labels.{Labels};
 ghost use Rattle.dns_text.specs.declared.record.Question.{Question};
 ghost use Rattle.ranked.specs.declared.find.Scope.{Scope};
@@ -8,7 +8,7 @@ ghost use Rattle.change_law.specs.declared.kept.KeptChange.{KeptChange};
 ghost use Rattle.change_law.specs.Face.{Face, IsSame, face_with, face_without, fate_in};
 ghost use Rattle.change_law.specs.Choice.{Agree, IsPresent, cleared};
 ghost use Rattle.change_law.specs.Row.{IsRowAfter, IsEachRow, IsEachRowFrom, IsNoMore, IsOneMore, IsRefused, any, same_face};
-ghost use Rattle.change_law.specs.Pairs.{CountsNoneOf, IsAliveIn, pair_of};
+ghost use Rattle.change_law.specs.Pairs.{AreNeeded, CountsNoneOf, IsAliveIn, pair_of};
 ghost use Rattle.change_law.specs.Oldest.{AreCurrent, IsEnding, IsOldest, NoneEnds};
 
 use crate::fault::WorldFault;
@@ -66,6 +66,9 @@ pub trait World: Drop {
     /// Whether the place of a pair counts: that of the finds of one owner and scope. As many count as cells are stored.
     ghost counts: { Self → (Labels × Scope) → Bool };
 
+    /// A bound of what a sweep at a moment has left to do.
+    ghost unswept: { Self → ℕ → ℕ };
+
     /// The number of the table of a change, by the data that it saved. A change of cells has none.
     fn table(saved: &Self::Saved) -> Option<u8>
         ensures { result ≡ table saved.now };
@@ -84,15 +87,22 @@ pub trait World: Drop {
         // One admission stores one more cell at most: that of the find's pair.
         ensures counts { IsOneMore newest stored limit counts (pair_of find) self.old self.new };
 
-    /// Removes content that has expired at a moment. From that moment on, no face changes by it.
+    /// Removes content that has expired at a moment. From that moment on, no face changes by it. Afterwards only what is needed counts: some
+    /// find about it is alive, by some choice of the kept changes.
     fn sweep(&mut self, moment: u64)
         ensures row { IsEachRowFrom table keeps face moment (λ f. f) self.old self.new }
-        ensures counts { IsNoMore newest stored limit counts self.old self.new };
+        ensures counts { IsNoMore newest stored limit counts self.old self.new }
+        ensures none { unswept self.new moment ≡ 0 }
+        ensures needed { AreNeeded counts keeps face moment self.new };
 
-    /// Removes some of that content, so that no call is long, and returns whether there may be more of it.
+    /// Removes some of that content, so that no call is long, and returns whether there may be more of it. If it returns `true`, less is
+    /// left than before. If it returns `false`, nothing is.
     fn sweep_some(&mut self, moment: u64) -> bool
         ensures row { IsEachRowFrom table keeps face moment (λ f. f) self.old self.new }
-        ensures counts { IsNoMore newest stored limit counts self.old self.new };
+        ensures counts { IsNoMore newest stored limit counts self.old self.new }
+        ensures more { result ≡ true → unswept self.new moment < unswept self.old moment }
+        ensures none { result ≡ false → unswept self.new moment ≡ 0 }
+        ensures needed { result ≡ false → AreNeeded counts keeps face moment self.new };
 
     /// Forgets a name: empties its cells, in each face, whichever changes are chosen. Undoing a change does not bring them back.
     /// It takes no memory.

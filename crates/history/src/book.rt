@@ -1,6 +1,6 @@
 //! The promise that every book keeps, however it keeps it.
 
-ghost use Rattle.std.specs.Prelude.{◌≡◌, ◌≤◌, ℕ, List, length, count_by, IfOk, OnErr, IsErrOf};
+ghost use Rattle.std.specs.Prelude.{◌≡◌, ◌<◌, ◌≤◌, ℕ, true, false, List, length, count_by, IfOk, OnErr, IsErrOf};
 ghost use Rattle.history.specs.declared.event.Event.{Event};
 ghost use Rattle.history.specs.declared.event.Settings.{Settings};
 ghost use Rattle.history.specs.Event.{is_admission};
@@ -67,6 +67,9 @@ pub trait Book: Drop {
     /// How many cells are stored.
     ghost stored: { Self → ℕ };
 
+    /// A bound of what is left to free of what no reply can show any more.
+    ghost unswept: { Self → ℕ };
+
     /// Takes an event.
     fn step(&mut self, event: Event) -> Result<Reply, StepFault>
         // The reply is that of the replay, and each fault has its reason.
@@ -98,12 +101,14 @@ pub trait Book: Drop {
         }
     }
 
-    /// Frees some of the memory of what no reply can show any more, so that no call is long. Returns whether there may be more of it.
-    /// It is no event, and takes no memory.
+    /// Frees some of the memory of what no reply can show any more, so that no call is long. Returns whether there may be more of it:
+    /// if so, less is left than before, and if not, nothing is. It is no event, and takes no memory.
     fn sweep_some(&mut self) -> bool
         ensures stands { (h : List Event) → stands_for self.old h → stands_for self.new h }
         ensures stored { stored self.new ≤ stored self.old }
-        ensures settings { settings self.new ≡ settings self.old };
+        ensures settings { settings self.new ≡ settings self.old }
+        ensures more { result ≡ true → unswept self.new < unswept self.old }
+        ensures none { result ≡ false → unswept self.new ≡ 0 };
 
     /// The reply that a lookup at this moment would get. It moves no clock, and no moment is too late for it.
     fn seen(&self, ask: &Ask, moment: u64) -> Result<Seen, NoMemory>

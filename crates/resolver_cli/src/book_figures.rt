@@ -213,6 +213,8 @@ impl<B: Book> Book for WatchedBook<B> {
 
     ghost stored = { λ watched. B.stored watched.book };
 
+    ghost unswept = { λ watched. B.unswept watched.book };
+
     ghost has_journal = { λ watched history is. B.has_journal watched.book history is };
 
     ghost stores_few = { λ watched history is. B.stores_few watched.book history is };
@@ -232,10 +234,14 @@ impl<B: Book> Book for WatchedBook<B> {
         replied
     }
 
-    // Nobody reads the figures of a book that follows another one. A lookup changes none, and other events are steps of a book that
-    // replies.
+    // Of the events that a book follows, only a sweep changes figures. Nobody reads those of a book that follows another one.
     fn follow(&mut self, event: Event) -> Result<(), StepFault> {
-        self.book.follow(event)
+        let is_sweep = matches!(event, Event::Sweep { .. });
+        let followed = self.book.follow(event);
+        if is_sweep {
+            set(&self.figures.get().cells, self.book.stored() as u64);
+        }
+        followed
     }
 
     fn sweep_some(&mut self) -> bool {

@@ -32,7 +32,7 @@ fn obey_first_fifo<L: CallLedger, R: Threads + Wait + Clock + Log>(
     queue: &mut OperatorQueue<'_, R>,
     pass: Pass<L>,
 ) -> Result<Option<Pass<L>>, CliFault> {
-    let mut desk = Seat::new(rt, lent.book, pass);
+    let mut desk = Seat::thorough(rt, lent.book, pass);
     let clock = MonotonicClock::new(rt, lent.terms.start);
     let obeyed = obey_fifo(rt, alloc, path, &mut desk, clock, queue);
     match (obeyed, queue.take_stopper()) {
@@ -71,7 +71,7 @@ pub(crate) fn obey_first<L: CallLedger, R: Threads + Wait + Clock + Log, F: File
     if is_fifo(files, path) {
         return obey_first_fifo(rt, alloc, lent, path, queue, pass);
     }
-    let mut desk = Seat::new(rt, lent.book, pass);
+    let mut desk = Seat::thorough(rt, lent.book, pass);
     let clock = MonotonicClock::new(rt, lent.terms.start);
     obey_file(files, alloc, path, &mut desk, clock)?;
     Ok(Some(desk.into_pass()))

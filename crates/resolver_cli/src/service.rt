@@ -66,7 +66,7 @@ fn obey<L: CallLedger, R: Wait + Clock + Log + Print>(
     if println!(rt; "ready").is_err() {
         return Err(CliFault::failed_write());
     }
-    let desk = Seat::new(rt, lent.book, pass);
+    let desk = Seat::thorough(rt, lent.book, pass);
     obey_operators(rt, alloc, lent, queue, desk);
     Ok(())
 }

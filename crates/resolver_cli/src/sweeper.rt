@@ -25,9 +25,9 @@ const MOST_TURNS: u32 = 16_384;
 /// The time between two turns, in microseconds. Whoever waits for the lock gets it then.
 const BETWEEN_TURNS: u64 = 50;
 
-/// A sweep holds the lock while it visits names. So the next one waits for so many times as long as the last one took:
-/// sweeps take at most one part in 200 of the time, however full the cache is.
-const RESTS: u64 = 199;
+/// The next sweep waits for so many times as long as the last one took, its turns and the pauses between them. So sweeps take at most one
+/// part in 20 of the time, however full the cache is.
+const RESTS: u64 = 19;
 
 /// Sweeps now and then, until the service stops. Each sweep is an event of the history, as an operator's `sweep` is.
 pub(crate) fn sweep_often<L: CallLedger, R: Wait + std::rt::Clock + Log>(
@@ -47,17 +47,17 @@ pub(crate) fn sweep_often<L: CallLedger, R: Wait + std::rt::Clock + Log>(
         let began = clock.millis();
         if began >= due {
             let moment = clock.now();
-            sweep_by_turns(rt, lent);
             // A sweep takes no memory. The only fault is that too many events were taken, and then nothing is cached either.
             let _ = desk.call(Event::Sweep { moment });
+            sweep_by_turns(rt, lent);
             due = next_due(began, clock.millis());
             room.tell(rt, lent.gauges.book.get());
         }
     }
 }
 
-/// Frees what no reply can show any more, some names a turn, until nothing is left or the service stops. So a sweep after it is short,
-/// and no lookup waits long for the lock.
+/// Frees what no reply can show any more, some names a turn, until nothing is left or the service stops. So no lookup waits long for the
+/// lock. The sweep before it is a turn too: it moves the clock.
 fn sweep_by_turns<L: CallLedger, R: Wait + std::rt::Clock>(rt: &R, lent: &Lent<'_, L>) {
     for _ in 0..MOST_TURNS {
         if lent.stop.load(Ordering::SeqCst) || !lent.book.sweep_some(rt) {

@@ -1,5 +1,5 @@
 -- What lies under the lock.
-use Rattle.std.specs.Prelude.{◌≡◌, ◌⊎◌, ℕ, ◌+◌, ◌-◌, ◌<◌, ◌≤◌, ◌^◌, min, List, [], ◌∷◌, ◌++◌, length, refl, Result, IfOk, OnOk, OnErr}
+use Rattle.std.specs.Prelude.{◌≡◌, ◌⊎◌, ℕ, Bool, true, false, ◌+◌, ◌-◌, ◌<◌, ◌≤◌, ◌^◌, min, List, [], ◌∷◌, ◌++◌, length, refl, Result, IfOk, OnOk, OnErr}
 use Rattle.std.specs.Coded.{Coded, code_by, coded×, coded_ℕ, coded_list}
 use Rattle.std.specs.List.{AllByRecursion}
 use Rattle.history.specs.declared.event.Event.{Event}
@@ -87,6 +87,28 @@ pub record IsSameRecord {B : Type 0} (before after : KeptState B) : Type 0 where
   pub limit : after.limit ≡ before.limit
   pub total : after.total ≡ before.total
   pub callers : after.callers ≡ before.callers
+
+-- Some memory was freed of what no reply can show any more. No call was made, each book stands for what it did, and the book stores no more.
+pub record IsFreed {B : Type 0} (stands_for : B → List Event → Type 0) (settings : B → Settings) (stored : B → ℕ) (before after : KeptState B) : Type 0 where
+  pub stands : (h : List Event) → stands_for before.book h → stands_for after.book h
+  pub opening : (h : List Event) → stands_for before.opening h → stands_for after.opening h
+  pub no_more : stored after.book ≤ stored before.book
+  pub same_settings : (settings after.book ≡ settings before.book) × (settings after.opening ≡ settings before.opening)
+  pub same_record : IsSameRecord before after
+
+-- One turn of a sweep, of one of the books or of both. If there may be more, less is left in them together than before. If not, nothing is left.
+pub record IsTurn {B : Type 0} (stands_for : B → List Event → Type 0) (settings : B → Settings) (stored unswept : B → ℕ) (before : KeptState B) (more : Bool) (after : KeptState B) : Type 0 where
+  pub freed : IsFreed stands_for settings stored before after
+  pub fewer : more ≡ true → unswept after.book + unswept after.opening < unswept before.book + unswept before.opening
+  pub none : more ≡ false → (unswept after.book ≡ 0) × (unswept after.opening ≡ 0)
+
+-- A turn at a shared book that was made with these settings: it is a turn of what lay under the lock.
+pub record IsTurnThere {B : Type 0} (stands_for : B → List Event → Type 0) (made_with : B → Settings) (stored unswept : B → ℕ) (settings : Settings) (more : Bool) : Type 0 where
+  pub before : KeptState B
+  pub after : KeptState B
+  pub kept : IsKept stands_for made_with before
+  pub same_settings : made_with before.book ≡ settings
+  pub turn : IsTurn stands_for made_with stored unswept before more after
 
 -- The book takes an event where the window has room. A call that got a reply is counted, and is the last of the window. After a fault all but the book is as it was, and the book as its promise says.
 pub record IsTaken {B : Type 0} (stands_for : B → List Event → Type 0) (settings : B → Settings) (stored : B → ℕ) (before : KeptState B) (pass : PassState) (event : Event) (answer : Result Reply StepFault) (after : KeptState B) (pass' : PassState) : Type 0 where

@@ -1,12 +1,12 @@
 //! The state under the lock: both books, the window between them, and the total of all calls.
 
-ghost use Rattle.std.specs.Prelude.{◌≡◌, ◌<◌, ◌≤◌, ◌^◌, ◌↔◌, List, [], length, IfOk, IfErr, OnOk, IsErrOf};
+ghost use Rattle.std.specs.Prelude.{◌≡◌, ◌<◌, ◌≤◌, ◌^◌, ◌↔◌, true, false, List, [], length, IfOk, IfErr, OnOk, IsErrOf};
 ghost use Rattle.history.specs.declared.event.Event.{Event};
 ghost use Rattle.history.specs.Answers.{IsTimely};
 ghost use Rattle.history.specs.Event.{lagging_of};
 ghost use Rattle.shared_book.specs.declared.kept.TheConstants.{MOST_RECORDED};
 ghost use Rattle.shared_book.specs.Pass.{PassState, first_pass};
-ghost use Rattle.shared_book.specs.Kept.{first_kept, IsKept, IsSameRecord, MovesOn, IsTaken, IsStep};
+ghost use Rattle.shared_book.specs.Kept.{first_kept, IsFreed, IsKept, MovesOn, IsTaken, IsTurn, IsStep};
 
 use crate::copies::copies;
 use crate::ledger::{Blank, CallLedger};
@@ -158,13 +158,28 @@ impl<B: Book, L: CallLedger> Kept<B, L> {
     /// is no call, so it takes no pass and is not recorded. Before a sweep it is called again and again, so that the sweep has little
     /// left to do.
     pub fn sweep_some(&mut self) -> bool
-        ensures stands { (h : List Event) → B.stands_for self.old.book h → B.stands_for self.new.book h }
-        ensures opening { (h : List Event) → B.stands_for self.old.opening h → B.stands_for self.new.opening h }
-        ensures stored { B.stored self.new.book ≤ B.stored self.old.book }
-        ensures settings { (B.settings self.new.book ≡ B.settings self.old.book) × (B.settings self.new.opening ≡ B.settings self.old.opening) }
-        ensures same_record { IsSameRecord self.old self.new }
+        ensures kept { IsKept B.stands_for B.settings self.old }
+        ensures made_with { B.settings self.old.book ≡ L.settings }
+        ensures turn { IsTurn B.stands_for B.settings B.stored B.unswept self.old result self.new }
     {
         sweep_one(&mut self.book, &mut self.opening)
+    }
+
+    /// Does so for the book alone.
+    pub(crate) fn sweep_book(&mut self) -> bool
+        ensures freed { IsFreed B.stands_for B.settings B.stored self.old self.new }
+        ensures more { result ≡ true → B.unswept self.new.book < B.unswept self.old.book }
+        ensures none { result ≡ false → B.unswept self.new.book ≡ 0 }
+    {
+        self.book.sweep_some()
+    }
+
+    /// Whether the book stores fewer cells than it may.
+    pub(crate) fn has_room(&self) -> bool
+        ensures yes { result ≡ true → B.stored self.now.book < (B.settings self.now.book).cells }
+        ensures no { result ≡ false → (B.settings self.now.book).cells ≤ B.stored self.now.book }
+    {
+        self.book.stored() < self.book.limit()
     }
 
     /// Takes an event, and records the call. First, if the window is full, its oldest call leaves it for the opening book. So a fault

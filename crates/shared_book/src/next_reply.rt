@@ -87,8 +87,33 @@ fn tell_seen<B: Book>(book: &mut B, event: Event, ahead: Ahead) -> Result<Told, 
     }
 }
 
+/// Takes a sweep. Nobody needs its reply from the book, so the book may leave out what it frees later, a turn at a time.
+fn tell_swept<B: Book>(book: &mut B, moment: u64) -> Result<Told, StepFault>
+    ensures { IsBookStep B.stands_for B.settings B.stored book.old (Event.Sweep moment) (answer_told result) book.new }
+{
+    match book.follow(Event::Sweep { moment }) {
+        Ok(()) => Ok(Told {
+            reply: Reply::Swept,
+            kept: Reply::Swept,
+        }),
+        Err(fault) => Err(fault),
+    }
+}
+
 /// Takes an event that is no lookup.
 fn tell_silent<B: Book>(book: &mut B, event: Event) -> Result<Told, StepFault>
+    requires some { (h : List Event) × B.stands_for book.old h
+        × ShowsNothing (reply_of (B.settings book.old) (past_of (B.settings book.old).journal h) event) }
+    ensures { IsBookStep B.stands_for B.settings B.stored book.old event (answer_told result) book.new }
+{
+    match event {
+        Event::Sweep { moment } => tell_swept(book, moment),
+        event => tell_step(book, event),
+    }
+}
+
+/// Takes an event that is no lookup, by a step of the book.
+fn tell_step<B: Book>(book: &mut B, event: Event) -> Result<Told, StepFault>
     requires some { (h : List Event) × B.stands_for book.old h
         × ShowsNothing (reply_of (B.settings book.old) (past_of (B.settings book.old).journal h) event) }
     ensures { IsBookStep B.stands_for B.settings B.stored book.old event (answer_told result) book.new }

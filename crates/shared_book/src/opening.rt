@@ -1,6 +1,6 @@
 //! An opening book: it lags behind a book, and takes the calls that leave the window.
 
-ghost use Rattle.std.specs.Prelude.{◌≡◌, ◌≤◌, ◌++◌, ◌∷◌, [], List, length, OnOk, OnErr};
+ghost use Rattle.std.specs.Prelude.{◌≡◌, ◌<◌, ◌≤◌, ◌+◌, ◌++◌, ◌∷◌, [], true, false, List, length, OnOk, OnErr};
 ghost use Rattle.history.specs.declared.event.Event.{Event};
 ghost use Rattle.history.specs.declared.limits.TheConstants.{LAGGING_CELLS};
 ghost use Rattle.history.specs.Answers.{IsTimely};
@@ -41,6 +41,8 @@ pub(crate) fn sweep_one<B: Book>(book: &mut B, opening: &mut B) -> bool
     ensures stored { B.stored book.new ≤ B.stored book.old }
     ensures settings { B.settings book.new ≡ B.settings book.old }
     ensures opening_settings { B.settings opening.new ≡ B.settings opening.old }
+    ensures more { result ≡ true → B.unswept book.new + B.unswept opening.new < B.unswept book.old + B.unswept opening.old }
+    ensures none { result ≡ false → (B.unswept book.new ≡ 0) × (B.unswept opening.new ≡ 0) }
 {
     if book.sweep_some() {
         return true;

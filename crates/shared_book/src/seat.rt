@@ -10,20 +10,39 @@ use crate::shared::SharedBook;
 use history::{Book, Desk, DeskFault, Event, Reply, StepFault};
 use std::sync::Wait;
 
-/// A caller's place at a shared book.
+/// A caller's place at a shared book. A sweep from it is done in turns, between which others get the lock.
 #[derive(Drop)]
 pub struct Seat<'a, B: Book, L: CallLedger, R: Wait> {
     rt: &'a R,
     book: &'a SharedBook<B, L>,
     pass: Pass<L>,
+    /// Whether its sweeps go on until nothing is left.
+    is_thorough: bool,
 }
 
 impl<'a, B: Book, L: CallLedger, R: Wait> Seat<'a, B, L, R> {
-    /// The place of this pass.
+    /// The place of this pass. A sweep from it ends as soon as the book has room.
     pub fn new(rt: &'a R, book: &'a SharedBook<B, L>, pass: Pass<L>) -> Seat<'a, B, L, R>
         ensures { result.pass ≡ pass }
     {
-        Seat { rt, book, pass }
+        Seat {
+            rt,
+            book,
+            pass,
+            is_thorough: false,
+        }
+    }
+
+    /// The place of this pass, for someone who can wait. A sweep from it goes on until nothing is left to free.
+    pub fn thorough(rt: &'a R, book: &'a SharedBook<B, L>, pass: Pass<L>) -> Seat<'a, B, L, R>
+        ensures { result.pass ≡ pass }
+    {
+        Seat {
+            rt,
+            book,
+            pass,
+            is_thorough: true,
+        }
     }
 
     /// The number of the latest call that its pass knows of.
@@ -41,6 +60,7 @@ impl<'a, B: Book, L: CallLedger, R: Wait> Seat<'a, B, L, R> {
             rt: _,
             book: _,
             pass,
+            is_thorough: _,
         } = self;
         pass
     }
@@ -55,8 +75,20 @@ impl<'a, B: Book, L: CallLedger, R: Wait> Desk for Seat<'a, B, L, R> {
             return Err(DeskFault::Step(StepFault::NoMemory));
         };
         match self.book.step(self.rt, &mut self.pass, event, copy) {
-            Ok(reply) => Ok(reply),
+            Ok(reply) => {
+                self.go_on(&reply);
+                Ok(reply)
+            }
             Err(fault) => Err(desk_fault(fault)),
+        }
+    }
+}
+
+impl<'a, B: Book, L: CallLedger, R: Wait> Seat<'a, B, L, R> {
+    /// Goes on with a sweep, if that was the reply. The call itself was the first turn.
+    fn go_on(&self, reply: &Reply) {
+        if matches!(reply, Reply::Swept) {
+            self.book.free(self.rt, self.is_thorough);
         }
     }
 }

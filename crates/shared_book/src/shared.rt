@@ -6,7 +6,7 @@ ghost use Rattle.shared_book.specs.declared.kept.TheConstants.{MOST_RECORDED};
 ghost use Rattle.shared_book.specs.Pass.{first_pass, IsSplit, IsJoined};
 ghost use Rattle.shared_book.specs.Calling.{IsReceiptOf, IsJustified, IsCallReply, IsFaultOf, IsLocked, IsShared, answer_of};
 ghost use Rattle.shared_book.specs.Closing.{IsClosed};
-ghost use Rattle.shared_book.specs.Kept.{IsKept};
+ghost use Rattle.shared_book.specs.Kept.{IsKept, IsTurnThere};
 
 use crate::close::NotClosed;
 use crate::copies::copies;
@@ -16,9 +16,22 @@ use crate::ledger::{Blank, CallLedger};
 use crate::pass::Pass;
 use crate::receipt::Receipt;
 use dns_text::Shared;
-use history::{Book, Event, MakeFault, Reply, StepFault};
+use history::{Ask, Book, Event, MakeFault, Reply, StepFault};
 use std::alloc::Global;
-use std::sync::{Mutex, Wait};
+use std::sync::{Mutex, MutexGuard, Wait};
+use std::thread::yield_now;
+
+/// The turns that a caller takes at most, each of which visits 256 names at most. So a book of a million names is swept by them, even if
+/// each name changes meanwhile.
+const MOST_TURNS: u32 = 16_384;
+
+/// Whether an event asks for the name to forget first.
+fn asks_oldest(event: &Event) -> bool {
+    match event {
+        Event::Look { ask, .. } => matches!(ask, Ask::Oldest),
+        _ => false,
+    }
+}
 
 /// A book that many callers share, each with a pass.
 #[derive(Drop)]
@@ -72,7 +85,8 @@ impl<B: Book, L: CallLedger> SharedBook<B, L> {
         self.kept.lock(rt).join(first, second)
     }
 
-    /// Takes an event, and returns a receipt for the call.
+    /// Takes an event, and returns a receipt for the call. A sweep frees only some of what it may, so that it holds the lock briefly:
+    /// `sweep_some` frees the rest.
     pub fn call<R: Wait>(
         &self,
         rt: &R,
@@ -107,8 +121,30 @@ impl<B: Book, L: CallLedger> SharedBook<B, L> {
 
     /// Frees some of the memory of what no reply can show any more, and returns whether there may be more of it. A service calls it
     /// again and again before a sweep, and each time holds the lock briefly. So no lookup waits long for the lock.
-    pub fn sweep_some<R: Wait>(&self, rt: &R) -> bool {
+    pub fn sweep_some<R: Wait>(&self, rt: &R) -> bool
+        ensures { IsTurnThere B.stands_for B.settings B.stored B.unswept L.settings result }
+    {
         self.kept.lock(rt).sweep_some()
+    }
+
+    /// Frees what a sweep may, a turn at a time, and others get the lock between two turns. It ends as soon as the book has room, or, if
+    /// `whole` is set, when nothing is left in both books.
+    pub(crate) fn free<R: Wait>(&self, rt: &R, whole: bool) {
+        for _ in 0..MOST_TURNS {
+            if !self.wants_turn(rt, whole) {
+                return;
+            }
+            yield_now();
+        }
+    }
+
+    /// Takes a turn unless there is room, and returns whether another one is wanted.
+    fn wants_turn<R: Wait>(&self, rt: &R, whole: bool) -> bool {
+        let mut kept = self.kept.lock(rt);
+        if whole {
+            return kept.sweep_some();
+        }
+        !kept.has_room() && kept.sweep_book()
     }
 
     /// Takes an event by its copy, and gives no receipt. Only this is done under the lock.
@@ -124,7 +160,24 @@ impl<B: Book, L: CallLedger> SharedBook<B, L> {
         ensures err { IfErr result (λ fault. IsFaultOf L.settings pass.old event fault pass.new) }
         ensures locked { IsLocked B.stands_for B.settings B.stored L.settings pass.old event result pass.new }
     {
+        if asks_oldest(&event) {
+            return self.lock_swept(rt).call(pass, event, copy);
+        }
         self.kept.lock(rt).call(pass, event, copy)
+    }
+
+    /// Locks what lies there right after a turn that left nothing of the book to sweep. For the name to forget first is then one path of
+    /// a tree away, and before it may be as far as all names.
+    fn lock_swept<R: Wait>(&self, rt: &R) -> MutexGuard<'_, Kept<B, L>> {
+        for _ in 0..MOST_TURNS {
+            let mut kept = self.kept.lock(rt);
+            if !kept.sweep_book() {
+                return kept;
+            }
+            drop(kept);
+            yield_now();
+        }
+        self.kept.lock(rt)
     }
 
     /// Whether the receipts, in order of number, are those of the window's calls. Receipts of earlier calls are passed over. An earlier

@@ -1,11 +1,12 @@
 -- The sweep of one name after the other.
-use Rattle.std.proofs.Common.{◌≡◌, ℕ, zero, suc, ◌+◌, ◌<◌, ◌≤◌, max, min, Bool, true, false, cond, Option, Some, None, List, [], ◌∷◌, length, get_or, refl, sym, ap, ◌∙◌, subst, arith, ◌⊎◌, inl, inr}
-use Rattle.std.specs.Prelude.{is_some, replicate, IfNone, IfSome, slice_get, swap_remove}
+use Rattle.std.proofs.Common.{◌≡◌, ℕ, zero, suc, ◌+◌, ◌-◌, ◌*◌, ◌<◌, ◌≤◌, max, min, Bool, true, false, cond, Option, Some, None, List, [], ◌∷◌, length, get_or, refl, sym, ap, ◌∙◌, subst, arith, ◌⊎◌, inl, inr}
+use Rattle.std.specs.Prelude.{is_some, nat_lt, replicate, IfNone, IfSome, slice_get, swap_remove}
 use Rattle.std.specs.Map.{keys_of, lookup}
 use Rattle.std.proofs.Math.ListN.{set}
+use Rattle.std.proofs.Math.Nat.{min-eq_left}
 use Rattle.std.proofs.lemmas.Bool.Decides.{nat_tests}
 use Rattle.std.proofs.lemmas.List.{get_or_default}
-use Rattle.std.proofs.lemmas.List.Sums.{sum_by-set, sum_by-swap_remove}
+use Rattle.std.proofs.lemmas.List.Sums.{sum_by-cons, sum_by-set, sum_by-swap_remove}
 use Rattle.indexmap.specs.IndexMap.{IndexMap, get, set_value_at}
 use Rattle.dns_name.specs.Labels.{Labels}
 use Rattle.dns_name.specs.Order.{name_eq, name_eq_exact}
@@ -25,7 +26,9 @@ use Rattle.cell_store.specs.Walk.{IsEach, IsEntry}
 use Rattle.shelf.specs.declared.shelf.KeptFlush.{KeptFlush}
 use Rattle.shelf.specs.Clean.{evens, AreBy, AreEnds, AreKeyed, IsAlive, IsClean, IsEnd}
 use Rattle.shelf.specs.declared.ends.Ends.{Ends}
-use Rattle.shelf.specs.Sweep.{count_ended, one_ended, AreAlive, AreLessened, IsDue, IsLessened, IsNext, IsSwept, IsSweptAt, IsUnderway}
+use Rattle.shelf.specs.declared.settling.Settling.{Settling}
+use Rattle.shelf.specs.Settling.{names_left}
+use Rattle.shelf.specs.Sweep.{asked_at, count_ended, one_ended, unswept, AreAlive, AreLessened, IsDue, IsLessened, IsNext, IsSwept, IsSweptAt, IsUnderway}
 use Rattle.shelf.specs.First.{life_at}
 use Rattle.shelf.specs.Lasts.{AreLow, AreWinners}
 use Rattle.shelf.specs.declared.lasts.Lasts.{Lasts}
@@ -251,6 +254,50 @@ ended_set asked ends place end low is late =
 pub ended_gone : (asked : ℕ) (ends : List ℕ) (place : ℕ) → place < length ends → get_or ends place 0 ≤ asked → count_ended asked (swap_remove ends place 0) < count_ended asked ends
 ended_gone asked ends place low is = omega (arith, sum_by-swap_remove (one_ended asked) ends place 0 low, ended_one asked (get_or ends place 0) is)
 
+-- one name more may have ended
+ended_most : (asked x : ℕ) → one_ended asked x ≤ 1
+ended_most asked x = grind (arith, nat_tests)
+
+pub ended_more : (asked : ℕ) (ends : List ℕ) (place end : ℕ) → place < length ends → count_ended asked (set ends place end) ≤ count_ended asked ends + 1
+ended_more asked ends place end low = omega (arith, sum_by-set (one_ended asked) ends place end 0 low, ended_most asked end)
+
+-- no name has ended
+pub ended_zero : (asked : ℕ) (ends : List ℕ) → ((i : ℕ) → i < length ends → asked < get_or ends i 0) → count_ended asked ends ≡ 0
+ended_zero asked [] later = refl
+ended_zero asked (x ∷ ends) later =
+    omega (arith, sum_by-cons (one_ended asked) x ends, ended_none asked x (later 0 (omega arith)), ended_zero asked ends (λ i low. later (suc i) (omega (arith, low))))
+
+-- before the latest second a sweep looks at its own moment
+pub asked_small : (t : ℕ) → t < latest → asked_at t ≡ t
+asked_small t small = min-eq_left (omega (arith, small))
+
+-- at the latest second it looks at the one before
+pub asked_latest : (t : ℕ) → t ≡ latest → asked_at t ≡ t - 1
+asked_latest t is = subst (λ n. asked_at n ≡ n - 1) (sym is) refl
+
+-- the flush has names to reach
+pub some_left : (n : ℕ) (b : Bool) → b ≡ nat_lt 0 n → b ≡ true → 0 < n
+some_left n b is so = grind (arith, nat_tests)
+
+-- what a turn leaves: the flush has reached some names more
+pub turn_reached : (t : ℕ) (old new : List ℕ) (was now : Option Settling) → names_left now < names_left was → ((s : ℕ) → count_ended s new + names_left now ≤ count_ended s old + names_left was)
+    → unswept new now t < unswept old was t
+turn_reached t old new was now fewer ended = omega (arith, fewer, ended (asked_at t))
+
+-- some names were visited
+pub turn_more : (t : ℕ) (old middle new : List ℕ) (was now : Option Settling) → t < latest → now ≡ None → count_ended t middle ≤ count_ended t old + names_left was → count_ended t new < count_ended t middle
+    → unswept new now t < unswept old was t
+turn_more t old middle new was now small none reached fewer =
+    let asked = asked_small t small in
+    omega (arith, ap names_left none, reached, fewer, ap (λ n. count_ended n old) asked, ap (λ n. count_ended n new) asked)
+
+-- none is left
+pub turn_none : (t : ℕ) (new : List ℕ) (now : Option Settling) → now ≡ None → count_ended (asked_at t) new ≡ 0 → unswept new now t ≡ 0
+turn_none t new now none ended = omega (arith, ap names_left none, ended)
+
+pub turn_small : (t : ℕ) (new : List ℕ) (now : Option Settling) → t < latest → now ≡ None → count_ended t new ≡ 0 → unswept new now t ≡ 0
+turn_small t new now small none ended = turn_none t new now none (ap (λ n. count_ended n new) (asked_small t small) ∙ ended)
+
 pub later_of : (kept : List KeptFlush) (t place end asked : ℕ) (entries : List (Labels × OwnerCells)) → place < length entries → IfSome (slice_get entries place) (λ e. IsNext kept t e end) → IfSome (slice_get entries place) (λ e. 1 ≤ count_of e.1)
     → asked ≤ t → asked < latest → asked < end
 later_of kept t place end asked [] low next some before small = absurd (omega arith)
@@ -310,6 +357,9 @@ start_all kept t asked owners old ends stored is by counted = record {
 
 pub when_none : {X : Type 0} (found : Option ℕ) → found ≡ None → IfNone found X → X
 when_none {X} found none is = subst (λ (o : Option ℕ). IfNone o X) none is
+
+pub when_some : (P : ℕ → Type 0) (found : Option ℕ) (place : ℕ) → found ≡ Some place → IfSome found P → P place
+when_some P found place there is = subst (λ (o : Option ℕ). IfSome o P) there is
 
 pub later_zero : (ends : List ℕ) (asked : ℕ) → ((i : ℕ) → i < length ends → asked < get_or ends i latest) → (i : ℕ) → i < length ends → asked < get_or ends i 0
 later_zero ends asked later i low = omega (arith, later i low, get_or_default ends i latest 0 low)

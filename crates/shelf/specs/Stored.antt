@@ -1,10 +1,12 @@
 -- How much a shelf stores: at most the different pairs of its admissions, and at least those of the finds that are alive in some version.
-use Rattle.std.specs.Prelude.{◌≡◌, ◌≤◌, ℕ, Bool, true, false, List, [], ◌∷◌, Some, Result, IsOk, IsErrOf}
+use Rattle.std.specs.Prelude.{◌≡◌, ◌≤◌, ◌&&◌, ℕ, Bool, true, false, is_some, List, [], ◌∷◌, Some, Result, IsOk, IsErrOf}
 use Rattle.std.specs.Set.{distinct_count, is_member}
 use Rattle.dns_name.specs.Labels.{Labels}
+use Rattle.dns_name.specs.Order.{name_eq}
 use Rattle.dns_text.specs.declared.record.Question.{Question}
 use Rattle.ranked.specs.declared.find.Find.{Find}
 use Rattle.ranked.specs.declared.find.Scope.{Scope}
+use Rattle.ranked.specs.Find.{has_kind}
 use Rattle.ranked.specs.declared.cell.Admitted.{Admitted}
 use Rattle.cell_store.specs.Count.{has_pair, pair_eq, pair_of}
 use Rattle.cell_store.specs.Sweep.{alive_at}
@@ -55,3 +57,18 @@ pub record IsByRoom {T : Type 0} (old : Shelf) (find : Find) (moment : ℕ) (res
   pub alive : IsAliveInFace old moment (pair_of find) → IsOk result
   pub replayed : (told : List Told) → IsShelfOf old told → IsAliveInReplay old.kept.items told moment (pair_of find) → IsOk result
   pub many : (told : List Told) → HasAdmittedEach told old → (n : ℕ) → IsErrOf result (Full n) → old.limit ≤ count_pairs (pairs_in told)
+
+-- whether a question is about a pair: it has the owner, and the type unless the pair is of the whole name
+abbrev pub is_about : Labels × Scope → Question → Bool
+is_about pair question = name_eq pair.0 question.owner && has_kind pair.1 question.kind
+
+-- If only the chosen ones of the kept flushes were in force, a cell about this pair would have a find that is alive at a moment.
+pub record IsNeeded (shelf : Shelf) (t : ℕ) (pair : Labels × Scope) : Type 0 where
+  pub chosen : ℕ → Bool
+  pub question : Question
+  pub about : is_about pair question ≡ true
+  pub alive : is_some (alive_at t (face_of shelf chosen question)) ≡ true
+
+-- Each place that counts is needed at a moment.
+abbrev pub AreNeeded : ℕ → Shelf → Type 0
+AreNeeded t shelf = (pair : Labels × Scope) → has_pair shelf.owners pair ≡ true → IsNeeded shelf t pair

@@ -1,5 +1,5 @@
 -- The sweep: the cells after it.
-use Rattle.std.specs.Prelude.{◌≡◌, ◌≢◌, ◌<◌, ◌≤◌, ℕ, Bool, true, false, IfSome, List, [], ◌∷◌, ◌++◌, fold, nat_le, sum_by, length, slice_get, if◌then◌else◌}
+use Rattle.std.specs.Prelude.{◌≡◌, ◌≢◌, ◌<◌, ◌≤◌, ◌+◌, ◌-◌, ◌*◌, ℕ, Bool, true, false, IfSome, Option, List, [], ◌∷◌, ◌++◌, fold, min, nat_le, sum_by, length, slice_get, if◌then◌else◌}
 use Rattle.indexmap.specs.IndexMap.{IndexMap, get}
 use Rattle.dns_name.specs.Labels.{Labels}
 use Rattle.dns_name.specs.Order.{name_eq}
@@ -19,6 +19,8 @@ use Rattle.shelf.specs.Kept.{is_version}
 pub use Rattle.shelf.specs.Clean.{IsAlive}
 use Rattle.shelf.specs.Clean.{AreEnds, AreKeyed, IsClean, IsEnd}
 use Rattle.shelf.specs.declared.ends.Ends.{Ends}
+use Rattle.shelf.specs.declared.settling.Settling.{Settling}
+use Rattle.shelf.specs.Settling.{names_left}
 
 -- the numbers so far, and that of a flush if it covers the question
 abbrev pub number_more : Question → List ℕ → KeptFlush → List ℕ
@@ -90,3 +92,11 @@ one_ended asked end = if nat_le end asked then 1 else 0
 -- the number of names that end at a moment or before
 abbrev pub count_ended : ℕ → List ℕ → ℕ
 count_ended asked ends = sum_by (one_ended asked) ends
+
+-- the second up to which names end that a sweep at a moment visits; what ends in the latest second never ends
+abbrev pub asked_at : ℕ → ℕ
+asked_at t = min t (latest - 1)
+
+-- what a sweep at a moment has left to do: a visit for each name that has ended, and two for each that the permanent flush has to reach, since that name then ends too
+abbrev pub unswept : List ℕ → Option Settling → ℕ → ℕ
+unswept moments settling t = 2 * names_left settling + count_ended (asked_at t) moments

@@ -1,6 +1,6 @@
 //! A permanent flush of a zone. It reaches the cells of the names a few at a time, so that no call visits many of them.
 
-ghost use Rattle.std.specs.Prelude.{◌≡◌, ◌≤◌, ◌-◌, nat_lt, ◌==◌, ◌&&◌, ℕ, Some, None, IfSome, List, length};
+ghost use Rattle.std.specs.Prelude.{◌≡◌, ◌≤◌, ◌+◌, ◌-◌, nat_lt, ◌==◌, ◌&&◌, ℕ, Some, None, IfSome, List, length};
 ghost use Rattle.std.specs.List.{list_any, AllByRecursion};
 ghost use Rattle.std.specs.Map.{keys_of};
 ghost use Rattle.dns_name.specs.Below.{is_at_or_below};
@@ -11,6 +11,7 @@ ghost use Rattle.cell_store.specs.Owner.{after_settle};
 ghost use Rattle.cell_store.specs.Store.{cell_of, AreUpTo, CanSettleAt, KeepSettling, KeepUpTo};
 ghost use Rattle.shelf.specs.declared.shelf.KeptFlush.{KeptFlush};
 ghost use Rattle.shelf.specs.Clean.{AreEnds, HaveEnds};
+ghost use Rattle.shelf.specs.Sweep.{count_ended};
 ghost use Rattle.shelf.specs.Settling.{fitted_place, is_outdone, names_left, settled_version, unmoved, IsMoved, IsReaching, IsSettling};
 
 use crate::ends::{Ends, put, reset};
@@ -68,6 +69,7 @@ fn reach(
     ensures ends { (kept : List KeptFlush) → AreEnds kept owners.old.entries ends.old → AreEnds kept owners.new.entries ends.new }
     ensures names { keys_of owners.new.entries ≡ keys_of owners.old.entries }
     ensures left { (result ≡ left - most) × HaveEnds owners.new.entries ends.new }
+    ensures ended { (t : ℕ) → count_ended t ends.new.moments + result ≤ count_ended t ends.old.moments + left }
 {
     let last = left.saturating_sub(most);
     let mut place = left;
@@ -98,6 +100,8 @@ pub(crate) fn reach_some(
     ensures ends { (kept : List KeptFlush) → AreEnds kept owners.old.entries ends.old → AreEnds kept owners.new.entries ends.new }
     ensures names { (keys_of owners.new.entries ≡ keys_of owners.old.entries) × HaveEnds owners.new.entries ends.new }
     ensures left { names_left settling.new ≡ names_left settling.old - most }
+    ensures ended { (t : ℕ) →
+        count_ended t ends.new.moments + names_left settling.new ≤ count_ended t ends.old.moments + names_left settling.old }
 {
     if let Some(own) = settling {
         own.left = reach(owners, ends, stored, &own.zone, own.number, own.left, most);
@@ -121,6 +125,7 @@ pub(crate) fn reach_all(
     ensures ends { (kept : List KeptFlush) → AreEnds kept owners.old.entries ends.old → AreEnds kept owners.new.entries ends.new }
     ensures names { (keys_of owners.new.entries ≡ keys_of owners.old.entries) × HaveEnds owners.new.entries ends.new }
     ensures none { settling.new ≡ None }
+    ensures ended { (t : ℕ) → count_ended t ends.new.moments ≤ count_ended t ends.old.moments + names_left settling.old }
 {
     let names = owners.len();
     reach_some(owners, ends, stored, settling, names);

@@ -17,7 +17,7 @@ ghost use Rattle.shelf.specs.declared.shelf.KeptFlush.{KeptFlush};
 ghost use Rattle.shelf.specs.Kept.{with_shown, stands_first};
 ghost use Rattle.shelf.specs.Room.{fate_of, kind_fate, is_taken, is_wanted, room_for, IsFault};
 ghost use Rattle.shelf.specs.Settling.{names_left, reached_at_once};
-ghost use Rattle.shelf.specs.Sweep.{AreAlive};
+ghost use Rattle.shelf.specs.Sweep.{count_ended, AreAlive};
 ghost use Rattle.shelf.specs.Told.{without};
 ghost use Rattle.ranked.specs.declared.find.Scope.{Scope};
 
@@ -512,6 +512,8 @@ impl Shelf {
         ensures stored { self.new.stored ≤ self.old.stored }
         ensures pairs { KeepPairs self.old.owners self.new.owners }
         ensures left { names_left self.new.settling ≡ names_left self.old.settling - reached_at_once }
+        ensures ended { (t : ℕ) → count_ended t self.new.ends.moments + names_left self.new.settling
+            ≤ count_ended t self.old.ends.moments + names_left self.old.settling }
     {
         reach_some(
             &mut self.owners,

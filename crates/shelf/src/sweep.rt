@@ -14,7 +14,7 @@ ghost use Rattle.cell_store.specs.declared.seed.NameSeed.{NameSeed};
 ghost use Rattle.cell_store.specs.Sweep.{alive_at};
 ghost use Rattle.shelf.specs.Clean.{AreEnds};
 ghost use Rattle.shelf.specs.Lasts.{IsShaped};
-ghost use Rattle.shelf.specs.Sweep.{count_ended, numbers_of, AreAlive, AreLessened, IsSwept, IsSweptAt, IsUnderway};
+ghost use Rattle.shelf.specs.Sweep.{asked_at, count_ended, numbers_of, unswept, AreAlive, AreLessened, IsSwept, IsSweptAt, IsUnderway};
 
 use crate::ends::{Ends, drop_at, end_all, put};
 use crate::oldest::last_end;
@@ -161,6 +161,7 @@ fn sweep_ended(
     requires room { length kept.now ≤ vec_capacity numbers.old }
     requires underway { IsUnderway kept.now moment asked owners.old stored.old owners.old ends.old stored.old }
     ensures swept { IsUnderway kept.now moment asked owners.old stored.old owners.new ends.new stored.new }
+    ensures none { count_ended asked ends.new.moments ≡ 0 }
     ensures alive { AreAlive kept.now moment owners.new }
     ensures capacity { vec_capacity numbers.new ≡ vec_capacity numbers.old }
 {
@@ -181,18 +182,18 @@ pub(crate) fn sweep_few(
     numbers: &mut Vec<u64>,
     moment: u64,
 ) -> bool
+    requires small { moment < latest }
     requires room { length kept.now ≤ vec_capacity numbers.old }
     requires counted { stored.old ≡ stored_in owners.old }
     requires ends { AreEnds kept.now owners.old.entries ends.old }
     ensures less { AreLessened kept.now moment owners.old owners.new }
     ensures ends { AreEnds kept.now owners.new.entries ends.new }
-    ensures alive { moment < latest → result ≡ false → AreAlive kept.now moment owners.new }
+    ensures more { result ≡ true → count_ended moment ends.new.moments < count_ended moment ends.old.moments }
+    ensures none { result ≡ false → count_ended moment ends.new.moments ≡ 0 }
+    ensures alive { result ≡ false → AreAlive kept.now moment owners.new }
     ensures counted { (stored.new ≡ stored_in owners.new) × (stored.new ≤ stored.old) }
     ensures capacity { vec_capacity numbers.new ≡ vec_capacity numbers.old }
 {
-    if moment == u64::MAX {
-        return false;
-    }
     let mut left = SWEPT_AT_ONCE;
     while left > 0 {
         match ends.moments.first_ended(moment) {
@@ -219,6 +220,7 @@ pub(crate) fn sweep_all(
     requires ends { AreEnds kept.now owners.old.entries ends.old }
     ensures less { AreLessened kept.now moment owners.old owners.new }
     ensures ends { AreEnds kept.now owners.new.entries ends.new }
+    ensures none { count_ended (asked_at moment) ends.new.moments ≡ 0 }
     ensures alive { AreAlive kept.now moment owners.new }
     ensures counted { (stored.new ≡ stored_in owners.new) × (stored.new ≤ stored.old) }
     ensures capacity { vec_capacity numbers.new ≡ vec_capacity numbers.old }
@@ -233,6 +235,7 @@ pub(crate) fn sweep_all(
 }
 
 impl Shelf {
+    ghost use Rattle.shelf.specs.Stored.{AreNeeded};
     ghost use Rattle.shelf.specs.Told.{IsShelf, KeepsFlushes, face_of};
 
     /// Drops the finds that are dead at a moment, the versions that no kept flush needs, and the names of which nothing is left.
@@ -242,11 +245,11 @@ impl Shelf {
         ensures whole { IsShelf self.new }
         ensures faces { (chosen : ℕ → Bool) (q : Question) →
             alive_at moment (face_of self.new chosen q) ≡ alive_at moment (face_of self.old chosen q) }
-        ensures alive { AreAlive self.old.kept.items moment self.new.owners }
+        ensures alive { AreAlive self.old.kept.items moment self.new.owners × AreNeeded moment self.new }
         ensures flushes { KeepsFlushes self.old self.new }
         ensures stored { self.new.stored ≤ self.old.stored }
         ensures pairs { KeepPairs self.old.owners self.new.owners }
-        ensures settling { self.new.settling ≡ None }
+        ensures none { (self.new.settling ≡ None) × (unswept self.new.ends.moments self.new.settling moment ≡ 0) }
     {
         reach_all(
             &mut self.owners,
@@ -265,13 +268,16 @@ impl Shelf {
     }
 
     /// Drops some of what a sweep at the moment drops, and returns whether there may be more. A permanent flush of a zone reaches some
-    /// more names first. It takes no memory.
+    /// more names first. It takes no memory. If it says that there may be more, less is left than before; if not, nothing is.
     pub fn sweep_some(&mut self, moment: u64) -> bool
         requires whole { IsShelf self.old }
         ensures whole { IsShelf self.new }
         ensures faces { (chosen : ℕ → Bool) (q : Question) →
             alive_at moment (face_of self.new chosen q) ≡ alive_at moment (face_of self.old chosen q) }
-        ensures alive { moment < latest → result ≡ false → AreAlive self.old.kept.items moment self.new.owners }
+        ensures more { result ≡ true →
+            unswept self.new.ends.moments self.new.settling moment < unswept self.old.ends.moments self.old.settling moment }
+        ensures none { result ≡ false → unswept self.new.ends.moments self.new.settling moment ≡ 0 }
+        ensures alive { result ≡ false → AreAlive self.old.kept.items moment self.new.owners × AreNeeded moment self.new }
         ensures flushes { KeepsFlushes self.old self.new }
         ensures stored { self.new.stored ≤ self.old.stored }
         ensures pairs { KeepPairs self.old.owners self.new.owners }
@@ -279,6 +285,11 @@ impl Shelf {
         if is_reaching(&self.settling) {
             self.reach_names();
             return true;
+        }
+        if moment == u64::MAX {
+            // A name that was visited ends then, at the latest, so turns would not get on.
+            self.sweep(moment);
+            return false;
         }
         reach_all(
             &mut self.owners,

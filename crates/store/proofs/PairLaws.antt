@@ -1,6 +1,6 @@
 -- The pairs that count: what the cache says of them, in the words of a world.
 use Rattle.std.proofs.Common.{◌≡◌, ℕ, ◌≤◌, Bool, true, false, Option, None, List, [], ◌∷◌, map, refl, sym, ap, subst, ◌∙◌}
-use Rattle.std.specs.Prelude.{◌&&◌, ◌||◌}
+use Rattle.std.specs.Prelude.{◌&&◌, ◌||◌, is_some}
 use Rattle.std.specs.List.{AllByRecursion}
 use Rattle.std.specs.Map.{lookup}
 use Rattle.std.specs.Option.{option_map_or}
@@ -15,7 +15,7 @@ use Rattle.ranked.specs.declared.find.Find.{Find}
 use Rattle.ranked.specs.declared.find.Scope.{Scope}
 use Rattle.ranked.specs.declared.find.Scope.TheVariants.{One, Whole}
 use Rattle.change_law.specs.declared.kept.KeptChange.{KeptChange}
-use Rattle.change_law.specs.Pairs.{AddsPairs, CountsAmong, CountsNoneOf, IsAliveIn, count_pairs, pair_eq, pair_of}
+use Rattle.change_law.specs.Pairs.{AddsPairs, AreNeeded, CountsAmong, CountsNoneOf, IsAliveIn, count_pairs, pair_eq, pair_of}
 use Rattle.cell_store.specs.declared.owner.OwnerCells.{OwnerCells}
 use Rattle.cell_store.specs.Count.{AddPair, KeepPairs, has_pair, has_place}
 use Rattle.cell_store.specs.Count as stored
@@ -24,7 +24,11 @@ use Rattle.shelf.specs.Stored.{HasAdmittedEach, IsAliveInFace, pairs_in}
 use Rattle.shelf.specs.Stored as shelf
 use Rattle.shelf.specs.Told.{Told}
 use Rattle.shelf.specs.Told.Told.{admitted}
-use Rattle.store.specs.World.{shelved, cell_by, counts_in, face_by}
+use Rattle.ranked.specs.declared.cell.Admitted.{Admitted}
+use Rattle.table_changes.specs.Part.{part}
+use Rattle.store.specs.World.{shelved, cell_by, counts_in, face_by, KeepsFlushes}
+use Rattle.store.specs.Store.{of_cells, store_face, KeepsStore}
+use Rattle.store.specs.declared.store.Store.{Store}
 use Rattle.store.specs.WorldLaws.{same_alive}
 use Rattle.store.specs.declared.world.SavedFlush.{SavedFlush}
 
@@ -111,3 +115,22 @@ pub none_of : (owner : Labels) (new : Shelf) → lookup (name_eq owner) new.owne
 none_of owner new gone pair same =
     let own : lookup (name_eq pair.0) new.owners.entries ≡ None = subst (λ (n : Labels). lookup (name_eq n) new.owners.entries ≡ None) (name_eq_exact owner pair.0 same) gone in
     ap (λ (cells : Option OwnerCells). option_map_or (λ cells. has_place cells pair.1) cells false) own
+
+-- ---- what a sweep leaves
+
+-- what is needed of a shelf is needed of its world
+pub needed_there : (own : Shelf) (t : ℕ) → shelf.AreNeeded t own → AreNeeded counts_in KeepsFlushes face_by t (shelved own)
+needed_there own t is = λ kept h pair has.
+    let one = is pair has in
+    record {
+      chosen = one.chosen;
+      question = one.question;
+      about = one.about;
+      alive = ap (λ (c : Option (Admitted Find)). is_some c) (same_alive t (cell_by (shelved own) one.chosen one.question)) ∙ one.alive;
+    }
+
+-- and so of the cache beside the tables
+pub needed_beside : (x : Store) (t : ℕ) → AreNeeded counts_in KeepsFlushes face_by t x.cells → AreNeeded (λ (s : Store) pair. counts_in s.cells pair) KeepsStore store_face t x
+needed_beside x t is = λ kept h pair has.
+    let one = is (part of_cells kept) h.1 pair has in
+    record { chosen = one.chosen; question = one.question; about = one.about; alive = one.alive }

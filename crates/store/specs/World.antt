@@ -23,12 +23,14 @@ use Rattle.shelf.specs.declared.shelf.KeptFlush.{KeptFlush}
 use Rattle.shelf.specs.declared.shelf.Shelf.{Shelf}
 use Rattle.shelf.specs.declared.settling.Settling.{Settling}
 use Rattle.shelf.specs.Settling.{settled_version}
+use Rattle.shelf.specs.Sweep.{unswept}
 use Rattle.shelf.specs.Told.{chosen_version, shown_version}
 use Rattle.store.specs.declared.world.SavedFlush.{SavedFlush}
 
--- what a shelf holds, by names, which flushes it keeps, the permanent one that has not reached each name, the greatest number so far, how many places count, and how many may
+-- what a shelf holds, by names, the moments before which they need no sweep, which flushes it keeps, the permanent one that has not reached each name, the greatest number so far, how many places count, and how many may
 pub record Shelved : Type 0 where
   pub names : List (Labels × OwnerCells)
+  pub moments : List ℕ
   pub flushes : List KeptFlush
   pub settling : Option Settling
   pub top : ℕ
@@ -36,7 +38,7 @@ pub record Shelved : Type 0 where
   pub limit : ℕ
 
 abbrev pub shelved : Shelf → Shelved
-shelved shelf = record { names = shelf.owners.entries; flushes = shelf.kept.items; settling = shelf.settling; top = shelf.top; stored = shelf.stored; limit = shelf.limit }
+shelved shelf = record { names = shelf.owners.entries; moments = shelf.ends.moments; flushes = shelf.kept.items; settling = shelf.settling; top = shelf.top; stored = shelf.stored; limit = shelf.limit }
 
 -- the cell of a question in a version
 abbrev pub cell_at : Shelved → Question → ℕ → Option (Admitted Find)
@@ -49,6 +51,10 @@ cell_by shelf chosen q = cell_at shelf q (chosen_version shelf.flushes q chosen)
 -- whether the place of a pair counts
 abbrev pub counts_in : Shelved → (Labels × Scope) → Bool
 counts_in shelf pair = option_map_or (λ cells. has_place cells pair.1) (lookup (name_eq pair.0) shelf.names) false
+
+-- a bound of what a sweep at a moment has left to do
+abbrev pub unswept_in : Shelved → ℕ → ℕ
+unswept_in shelf t = unswept shelf.moments shelf.settling t
 
 abbrev pub fault_told : StoreFault → WorldFault
 fault_told (store.Full stored) = world.Full stored

@@ -66,7 +66,7 @@ impl World for Store {
     ghost use Rattle.store.specs.Store.{store_face, store_shown, table_of, needs_after_of, needs_memory_of, KeepsStore};
     ghost use Rattle.store.specs.StoreLaws.{clears_store, shows_store};
     ghost use Rattle.store.specs.ReadLaws.{reads_store};
-    ghost use Rattle.store.specs.World.{counts_in};
+    ghost use Rattle.store.specs.World.{counts_in, unswept_in};
 
     type Tables = Tables;
 
@@ -97,6 +97,8 @@ impl World for Store {
     ghost limit = { λ store. store.cells.limit };
 
     ghost counts = { λ store pair. counts_in store.cells pair };
+
+    ghost unswept = { λ store moment. unswept_in store.cells moment };
 
     ghost shows = { λ world kept chosen h p. shows_store world kept chosen h p };
 

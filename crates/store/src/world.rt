@@ -130,7 +130,7 @@ impl ShelfWorld {
 
 impl World for ShelfWorld {
     ghost use Rattle.std.specs.Prelude.{true, false, None};
-    ghost use Rattle.store.specs.World.{KeepsFlushes, counts_in, face_by, shown_face};
+    ghost use Rattle.store.specs.World.{KeepsFlushes, counts_in, face_by, shown_face, unswept_in};
     ghost use Rattle.store.specs.WorldLaws.{shows_present, clears_by_word};
     ghost use Rattle.store.specs.ReadLaws.{reads_flushes};
 
@@ -163,6 +163,8 @@ impl World for ShelfWorld {
     ghost limit = { λ shelf. shelf.limit };
 
     ghost counts = { counts_in };
+
+    ghost unswept = { unswept_in };
 
     ghost shows = { λ world kept chosen h p. shows_present world kept chosen h p };
 

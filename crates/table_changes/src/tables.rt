@@ -124,6 +124,8 @@ impl World for TableWorld {
 
     ghost counts = { λ world pair. false };
 
+    ghost unswept = { λ world moment. 0 };
+
     ghost shows = { λ world kept chosen h p. shows_both world kept chosen p };
 
     fn table(saved: &SavedTable) -> Option<u8> {

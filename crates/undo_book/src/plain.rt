@@ -115,6 +115,9 @@ impl Book for PlainBook {
 
     ghost stored = { stored_in };
 
+    // It frees nothing before an event says so.
+    ghost unswept = { λ book. 0 };
+
     ghost has_journal = { λ book history is. book.past.has_journal };
 
     ghost stores_few = { λ book history is.

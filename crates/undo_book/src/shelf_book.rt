@@ -110,6 +110,8 @@ impl Book for ShelfBook {
 
     ghost stored = { λ book. ⟦<WorldBook<StoreChange> as Book>⟧.stored book.book };
 
+    ghost unswept = { λ book. ⟦<WorldBook<StoreChange> as Book>⟧.unswept book.book };
+
     ghost has_journal = { λ book history is. is.some_commands };
 
     ghost stores_few = { λ book history is. is.few };

@@ -98,10 +98,10 @@ impl<C: BookChange> WorldBook<C> {
 
 impl<C: BookChange> Book for WorldBook<C> {
     ghost use Rattle.std.proofs.Common.{◌≡◌, ◌<◌, ◌≤◌, List, sym, ◌∙◌};
-    ghost use Rattle.std.specs.Prelude.{◌⊎◌, ℕ, OnOk, OnErr, IfErr, IsErrOf};
+    ghost use Rattle.std.specs.Prelude.{◌⊎◌, ℕ, true, false, OnOk, OnErr, IfErr, IsErrOf};
     ghost use Rattle.dns_name.specs.Labels.{Labels};
     ghost use Rattle.ranked.specs.declared.find.Scope.{Scope};
-    ghost use Rattle.change_law.specs.Pairs.{count_pairs};
+    ghost use Rattle.change_law.specs.Pairs.{count_pairs, AreNeeded};
     ghost use Rattle.history.specs.declared.event.Event.{Event};
     ghost use Rattle.history.specs.Answers.{Answers, Follows, history_after};
     ghost use Rattle.history.specs.History.{past_of};
@@ -113,6 +113,8 @@ impl<C: BookChange> Book for WorldBook<C> {
     ghost settings = { λ book. book.settings };
 
     ghost stored = { λ book. C.World.stored book.world };
+
+    ghost unswept = { λ book. C.World.unswept book.world book.moment };
 
     ghost has_journal = { λ book history is. is.some_commands };
 
@@ -193,7 +195,18 @@ impl<C: BookChange> Book for WorldBook<C> {
         }
     }
 
-    fn sweep_some(&mut self) -> bool {
+    fn sweep_some(&mut self) -> bool
+        ensures stands { (h : List Event) → IsBookOf C.World.World self.old h → IsBookOf C.World.World self.new h }
+        ensures stored { C.World.stored self.new.world ≤ C.World.stored self.old.world }
+        ensures settings { self.new.settings ≡ self.old.settings }
+        ensures more { result ≡ true →
+            C.World.unswept self.new.world self.new.moment < C.World.unswept self.old.world self.old.moment }
+        ensures none { result ≡ false → C.World.unswept self.new.world self.new.moment ≡ 0 }
+
+        // If nothing is left, each cell that counts is needed: a find about it is alive by some choice of the kept commands.
+        ensures needed { result ≡ false →
+            AreNeeded C.World.counts C.World.keeps C.World.face self.new.moment self.new.world }
+    {
         sweep_some(&self.journal, &mut self.world, self.moment)
     }
 

@@ -1,7 +1,7 @@
 //! Admissions, sweeps and forgets of a world under its journal.
 
-ghost use Rattle.std.specs.Prelude.{◌≡◌, ◌∷◌, [], ℕ, IfOk, IfErr, IsOk, OnOk, OnErr};
-ghost use Rattle.change_law.specs.Pairs.{CountsNoneOf, IsAliveIn, pair_of};
+ghost use Rattle.std.specs.Prelude.{◌≡◌, ◌<◌, ◌∷◌, [], ℕ, true, false, IfOk, IfErr, IsOk, OnOk, OnErr};
+ghost use Rattle.change_law.specs.Pairs.{AreNeeded, CountsNoneOf, IsAliveIn, pair_of};
 ghost use Rattle.history.specs.declared.event.Event.TheVariants.{Admit, Sweep, Forget};
 ghost use Rattle.history.specs.declared.event.Settings.{Settings};
 ghost use Rattle.world_book.specs.Step.{IsSound, IsSoundAfter, IsFaultOf, reply_of_fate};
@@ -48,7 +48,7 @@ fn reply_of_fate(fate: Fate) -> Reply
     }
 }
 
-/// Lets the world remove some of what has expired by the clock, and returns whether there may be more.
+/// Lets the world remove some of what has expired by the clock, and returns whether there may be more. If not, only what is needed counts.
 pub(crate) fn sweep_some<C: BookChange>(
     journal: &Journal<C>,
     world: &mut C::World,
@@ -57,6 +57,9 @@ pub(crate) fn sweep_some<C: BookChange>(
     requires { IsSound C.World.World world.old journal.now }
     ensures tied { StaysTied C.World.World clock world.old journal.now world.new }
     ensures sound { IsSoundAfter C.World.World 0 [] world.old journal.now world.new journal.now }
+    ensures more { result ≡ true → C.World.unswept world.new clock < C.World.unswept world.old clock }
+    ensures none { result ≡ false → C.World.unswept world.new clock ≡ 0 }
+    ensures needed { result ≡ false → AreNeeded C.World.counts C.World.keeps C.World.face clock world.new }
 {
     let _ = journal;
     world.sweep_some(clock)

@@ -1,10 +1,10 @@
 use Rattle.std.proofs.Common.{sym, subst}
-use Rattle.history.specs.declared.event.Reply.{Reply}
-use Rattle.shared_book.specs.Ahead.{ShowsNothing}
+use Rattle.history.specs.Desk.{IsStep}
+use Rattle.history.specs.declared.event.Event.{Event}
+use Rattle.shared_book.specs.Told.{answer_told}
 use Rattle.shared_book.proofs.next_reply.tell_silent.Goals as goal
 
-pub told_alike-kept-requires : goal.told_alike-kept-requires
-told_alike-kept-requires g c =
-    let some = c.requires.some in
-    let answers = c.in-Ok.ensures.answers some.0 some.1 in
-    subst (λ (r : Reply). ShowsNothing r) (sym answers.1) some.2
+pub returns-in-Sweep : goal.returns-in-Sweep
+returns-in-Sweep g c =
+    let b = g.B.Book in
+    subst (λ (e : Event). IsStep b.stands_for b.settings b.stored c.args.book.now e (answer_told c.tell_swept.result) c.tell_swept.new.book) (sym c.in-Sweep.is) c.tell_swept.ensures

@@ -1,13 +1,15 @@
-use Rattle.std.proofs.Common.{◌≡◌, ◌+◌, ◌-◌, ◌<◌, length, refl, sym, ap, ◌∙◌, subst, arith}
+use Rattle.std.proofs.Common.{◌≡◌, ◌+◌, ◌-◌, ◌<◌, ◌≤◌, ℕ, List, length, refl, sym, ap, ◌∙◌, subst, arith}
 use Rattle.std.proofs.Math.ListN.{length-set}
 use Rattle.indexmap.specs.IndexMap.{IndexMap}
 use Rattle.dns_name.specs.Labels.{Labels}
 use Rattle.cell_store.specs.declared.owner.OwnerCells.{OwnerCells}
 use Rattle.cell_store.specs.declared.seed.NameSeed.{NameSeed}
 use Rattle.shelf.specs.Clean.{AreEnds, HaveEnds}
+use Rattle.shelf.specs.Sweep.{count_ended}
 use Rattle.shelf.proofs.EndLaws.{ends_put}
 use Rattle.shelf.proofs.WinnerLaws.{alike}
 use Rattle.shelf.proofs.SettlingLaws.{reach_more, reach_none, same_length}
+use Rattle.shelf.proofs.VisitLaws.{ended_more}
 use Rattle.shelf.proofs.settling.reach.Goals as goal
 
 pub loop-place-init : goal.loop-place-init
@@ -22,6 +24,7 @@ loop-place-init c = record {
   ends = λ kept is. is;
   size = c.requires.low.1;
   names = refl;
+  ended = λ t. omega arith;
 }
 
 pub settle_at-requires : goal.settle_at-requires
@@ -61,6 +64,9 @@ loop-place-preserved-then-settle_at c =
           (record { moments = c.put.ensures.moments; unmixed = c.put.ensures.unmixed; flags = c.put.ensures.flags; lasts = alike c.put.new.ends.lasts c.loop-place.ends.lasts c.put.ensures.lasts });
       size = (ap length c.put.ensures.moments ∙ (length-set c.loop-place.ends.moments place 0 ∙ (was.size.0 ∙ sym size)), c.put.ensures.flags);
       names = names ∙ was.names;
+      ended = λ t.
+          let more = subst (λ (l : List ℕ). count_ended t l ≤ count_ended t c.loop-place.ends.moments + 1) (sym c.put.ensures.moments) (ended_more t c.loop-place.ends.moments place 0 (omega (arith, low, was.size.0))) in
+          omega (arith, more, was.ended t, before);
     }
 
 -- the flush does not cover the name
@@ -85,6 +91,7 @@ loop-place-preserved c =
       ends = λ kept is. subst (λ (o : IndexMap Labels OwnerCells NameSeed). AreEnds kept o.entries c.loop-place.ends) (sym same) (was.ends kept is);
       size = subst (λ (o : IndexMap Labels OwnerCells NameSeed). HaveEnds o.entries c.loop-place.ends) (sym same) was.size;
       names = names ∙ was.names;
+      ended = λ t. omega (arith, was.ended t);
     }
 
 pub loop-place-smaller : goal.loop-place-smaller
@@ -101,4 +108,5 @@ returns c =
       ends = is.ends;
       names = is.names;
       left = (omega (arith, is.last, c.loop-place-test.false, c.saturating_sub-last.ensures), is.size);
+      ended = is.ended;
     }

@@ -7,3 +7,6 @@ returns-clause-moved c = λ top upto is.
     let few = few_left c.args.owners.now c.args.settling.now c.requires.low.0 in
     moved_all top c.args.settling.now c.reach_some.new.settling c.args.owners.now c.reach_some.new.owners
     (none_left c.reach_some.new.settling (omega (arith, few, c.len-names.ensures.len, c.reach_some.ensures.left))) (c.reach_some.ensures.moved top upto is)
+
+pub returns-clause-ended : goal.returns-clause-ended
+returns-clause-ended c = λ t. omega (arith, c.reach_some.ensures.ended t)

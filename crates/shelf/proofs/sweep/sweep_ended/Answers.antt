@@ -1,6 +1,6 @@
 use Rattle.std.proofs.Common.{◌≡◌, ◌∙◌, None, arith}
 use Rattle.std.proofs.lemmas.Grind.{common_steps}
-use Rattle.shelf.proofs.VisitLaws.{all_alive, each_clean, later_zero, when_none}
+use Rattle.shelf.proofs.VisitLaws.{all_alive, each_clean, ended_zero, later_zero, when_none}
 use Rattle.shelf.proofs.sweep.sweep_ended.Goals as goal
 
 pub loop-place-preserved : goal.loop-place-preserved
@@ -14,6 +14,11 @@ returns-clause-alive c =
     let none : c.first_ended.result ≡ None = grind (arith, common_steps) in
     let later = later_zero c.loop-place.ends.moments c.args.asked (when_none c.first_ended.result none c.first_ended.ensures.none) in
     all_alive c.args.kept.now c.args.moment c.loop-place.owners (each_clean c.args.kept.now c.args.moment c.args.asked c.loop-place.owners.entries c.loop-place.ends.moments c.loop-place.invariant.underway.due later)
+
+pub returns-clause-none : goal.returns-clause-none
+returns-clause-none c =
+    let none : c.first_ended.result ≡ None = grind (arith, common_steps) in
+    ended_zero c.args.asked c.loop-place.ends.moments (later_zero c.loop-place.ends.moments c.args.asked (when_none c.first_ended.result none c.first_ended.ensures.none))
 
 pub visit-requires-clause-lasts : goal.visit-requires-clause-lasts
 visit-requires-clause-lasts c = let winners = c.loop-place.invariant.underway.ends.winners in (winners.size, winners.shape)

@@ -4,17 +4,35 @@ use Rattle.shared_book.proofs.shared.SharedBook.step.Goals as goal
 pub returns-clause-ok : goal.returns-clause-ok
 returns-clause-ok g c =
     let b = g.B.Book in
-    replied b.stands_for b.settings b.stored g.L.CallLedger.settings c.deref_mut.result.now c.call.new.self c.args.pass.now c.call.new.pass c.args.event c.call.result
-    c.call.ensures.kept c.call.ensures.made_with c.call.ensures.call
+    replied b.stands_for b.settings b.stored g.L.CallLedger.settings c.deref_mut-2.result.now c.call-2.new.self c.args.pass.now c.call-2.new.pass c.args.event c.call-2.result
+    c.call-2.ensures.kept c.call-2.ensures.made_with c.call-2.ensures.call
 
 pub returns-clause-err : goal.returns-clause-err
 returns-clause-err g c =
     let b = g.B.Book in
-    refused b.stands_for b.settings b.stored g.L.CallLedger.settings c.deref_mut.result.now c.call.new.self c.args.pass.now c.call.new.pass c.args.event c.call.result
-    c.call.ensures.kept c.call.ensures.made_with c.call.ensures.call
+    refused b.stands_for b.settings b.stored g.L.CallLedger.settings c.deref_mut-2.result.now c.call-2.new.self c.args.pass.now c.call-2.new.pass c.args.event c.call-2.result
+    c.call-2.ensures.kept c.call-2.ensures.made_with c.call-2.ensures.call
 
 pub returns-clause-locked : goal.returns-clause-locked
 returns-clause-locked g c =
+    let b = g.B.Book in
+    locked b.stands_for b.settings b.stored g.L.CallLedger.settings c.deref_mut-2.result.now c.call-2.new.self c.args.pass.now c.call-2.new.pass c.args.event c.call-2.result
+    c.call-2.ensures.kept c.call-2.ensures.made_with c.call-2.ensures.call
+
+pub returns-then-asks_oldest-clause-ok : goal.returns-then-asks_oldest-clause-ok
+returns-then-asks_oldest-clause-ok g c =
+    let b = g.B.Book in
+    replied b.stands_for b.settings b.stored g.L.CallLedger.settings c.deref_mut.result.now c.call.new.self c.args.pass.now c.call.new.pass c.args.event c.call.result
+    c.call.ensures.kept c.call.ensures.made_with c.call.ensures.call
+
+pub returns-then-asks_oldest-clause-err : goal.returns-then-asks_oldest-clause-err
+returns-then-asks_oldest-clause-err g c =
+    let b = g.B.Book in
+    refused b.stands_for b.settings b.stored g.L.CallLedger.settings c.deref_mut.result.now c.call.new.self c.args.pass.now c.call.new.pass c.args.event c.call.result
+    c.call.ensures.kept c.call.ensures.made_with c.call.ensures.call
+
+pub returns-then-asks_oldest-clause-locked : goal.returns-then-asks_oldest-clause-locked
+returns-then-asks_oldest-clause-locked g c =
     let b = g.B.Book in
     locked b.stands_for b.settings b.stored g.L.CallLedger.settings c.deref_mut.result.now c.call.new.self c.args.pass.now c.call.new.pass c.args.event c.call.result
     c.call.ensures.kept c.call.ensures.made_with c.call.ensures.call

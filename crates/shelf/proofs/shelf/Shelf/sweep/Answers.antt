@@ -3,13 +3,16 @@ use Rattle.std.specs.Prelude.{IfSome}
 use Rattle.cell_store.specs.Sweep.{alive_at}
 use Rattle.shelf.specs.declared.settling.Settling.{Settling}
 use Rattle.shelf.specs.declared.shelf.KeptFlush.{KeptFlush}
+use Rattle.shelf.specs.declared.shelf.Shelf.{Shelf}
 use Rattle.shelf.specs.Clean.{AreEnds}
 use Rattle.shelf.specs.Settling.{settled_cell, IsSettling}
-use Rattle.shelf.specs.Sweep.{AreLessened}
+use Rattle.shelf.specs.Sweep.{AreAlive, AreLessened}
 use Rattle.shelf.specs.Told.{chosen_version}
 use Rattle.shelf.proofs.FaceLaws.{settles_each}
 use Rattle.shelf.proofs.RoomLaws.{chosen_is_version}
 use Rattle.shelf.proofs.SettlingLaws.{within_names}
+use Rattle.shelf.proofs.NeedLaws.{needed}
+use Rattle.shelf.proofs.VisitLaws.{turn_none}
 use Rattle.shelf.proofs.shelf.Shelf.sweep.Goals as goal
 
 pub reach_all-requires : goal.reach_all-requires
@@ -55,3 +58,14 @@ returns-clause-whole c =
 
 pub returns-clause-pairs : goal.returns-clause-pairs
 returns-clause-pairs c = λ pair has. c.reach_all.ensures.pairs pair (c.sweep_all.ensures.less.pairs pair has)
+
+pub returns-clause-none : goal.returns-clause-none
+returns-clause-none c =
+    (c.reach_all.ensures.none, turn_none c.args.moment c.sweep_all.new.ends.moments c.reach_all.new.settling c.reach_all.ensures.none c.sweep_all.ensures.none)
+
+pub returns-clause-alive : goal.returns-clause-alive
+returns-clause-alive c =
+    let self = c.args.self.now in
+    let alive = subst (λ (l : List KeptFlush). AreAlive l c.args.moment c.sweep_all.new.owners) c.deref.ensures.value (c.sweep_all.ensures.alive) in
+    let swept : Shelf = record { alloc = self.alloc; owners = c.sweep_all.new.owners; kept = self.kept; top = self.top; stored = c.sweep_all.new.stored; limit = self.limit; numbers = c.sweep_all.new.numbers; ends = c.sweep_all.new.ends; settling = c.reach_all.new.settling } in
+    (alive, needed swept c.args.moment c.reach_all.ensures.none alive)

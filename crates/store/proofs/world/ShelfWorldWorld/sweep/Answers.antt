@@ -1,6 +1,7 @@
 use Rattle.std.proofs.Common.{arith}
 use Rattle.store.specs.World.{shelved}
 use Rattle.store.specs.WorldLaws.{row_swept}
+use Rattle.store.proofs.PairLaws.{needed_there}
 use Rattle.store.proofs.world.ShelfWorldWorld.sweep.Goals as goal
 
 pub returns-clause-row : goal.returns-clause-row
@@ -14,3 +15,9 @@ returns-clause-counts c = rw (← c.self.view_is) ((
   c.sweep.ensures.flushes.2,
   λ pair has. c.sweep.ensures.pairs pair has,
 ))
+
+pub returns-clause-none : goal.returns-clause-none
+returns-clause-none c = c.sweep.ensures.none.1
+
+pub returns-clause-needed : goal.returns-clause-needed
+returns-clause-needed c = needed_there c.sweep.new.self c.args.moment c.sweep.ensures.alive.1

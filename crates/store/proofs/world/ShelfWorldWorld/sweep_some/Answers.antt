@@ -1,6 +1,7 @@
 use Rattle.std.proofs.Common.{arith}
 use Rattle.store.specs.World.{shelved}
 use Rattle.store.specs.WorldLaws.{row_swept}
+use Rattle.store.proofs.PairLaws.{needed_there}
 use Rattle.store.proofs.world.ShelfWorldWorld.sweep_some.Goals as goal
 
 pub returns-clause-row : goal.returns-clause-row
@@ -14,3 +15,9 @@ returns-clause-counts c = rw (← c.self.view_is) ((
   c.sweep_some.ensures.flushes.2,
   λ pair has. c.sweep_some.ensures.pairs pair has,
 ))
+
+pub returns-clause-more : goal.returns-clause-more
+returns-clause-more c = rw (← c.self.view_is) (c.sweep_some.ensures.more)
+
+pub returns-clause-needed : goal.returns-clause-needed
+returns-clause-needed c = λ none. needed_there c.sweep_some.new.self c.args.moment (c.sweep_some.ensures.alive none).1

@@ -1,0 +1,11 @@
+use Rattle.std.proofs.Common.{refl}
+use Rattle.shared_book.proofs.next_reply.tell_swept.Goals as goal
+
+pub returns-in-Ok : goal.returns-in-Ok
+returns-in-Ok g c = record {
+  answers = λ h stands. (c.in-Ok.ensures.answers h stands, refl);
+  stands = c.in-Ok.ensures.stands;
+  full = λ n is. cc;
+  same_store = tt;
+  same_settings = c.follow.ensures.settings;
+}
