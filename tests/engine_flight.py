@@ -299,14 +299,15 @@ def places(checks):
 
 # ---- what the questions that wait keep
 
-# The octets that one may keep, all at any moment, and all after `relieve`. And what counts for a step and for a piece, and in a list
-# of servers for a name and for an address.
+# The octets that one may keep, all at any moment, and all after `relieve`. And what counts for a step, for a piece and for a datum, and
+# in a list of servers for a name and for an address.
 ONE_KEPT, ALL_KEPT, KEPT_AT_REST = 393_216, 25_165_824, 18_874_368
-STEP_OCTETS, PIECE_OCTETS, NAME_OCTETS, ADDRESS_OCTETS = 352, 128, 384, 80
+STEP_OCTETS, PIECE_OCTETS, DATUM_OCTETS, NAME_OCTETS, ADDRESS_OCTETS = 352, 128, 96, 384, 80
 
 # A question has taken four steps when it sends its first query: a lookup of its name, one for an alias, one for the servers, and the
-# query. After a referral it has taken three more: an admission for each of its two sets, and the query.
-FIRST_STEPS, STEPS = 4, 7
+# query. After a referral it has taken two more: an admission for the set of one address, and the query. The list of servers is too long
+# to be cached.
+FIRST_STEPS, STEPS = 4, 6
 
 
 def kept_first(asked):
@@ -318,10 +319,8 @@ def kept_by(asked, name, servers, referral):
     """What a question keeps that asks for the second time, after a referral to so many servers, of which one has an address."""
     zone = name.split(".", 1)[1]
     listed = NAME_OCTETS * servers + ADDRESS_OCTETS
-    hosts = [len(name_octets(f"n{nth}.{zone}")) for nth in range(servers)]
-    finds = PIECE_OCTETS + len(name_octets(zone)) + sum(PIECE_OCTETS + host for host in hosts)
-    finds += PIECE_OCTETS + hosts[0] + PIECE_OCTETS + 4
-    return kept_first(asked) + STEP_OCTETS * (STEPS - FIRST_STEPS) + PIECE_OCTETS + len(asked) + len(referral) + listed + finds
+    find = 2 * PIECE_OCTETS + len(name_octets(f"n0.{zone}")) + DATUM_OCTETS
+    return kept_first(asked) + STEP_OCTETS * (STEPS - FIRST_STEPS) + PIECE_OCTETS + len(asked) + len(referral) + listed + find
 
 
 def relieve(checks, talker, waiting):
@@ -343,7 +342,7 @@ def bounds(checks):
     for line in ("limit 200", HINTS):
         talker.say(line)
     for client in range(190):
-        name, servers = f"a.z{client}.", some.randrange(400, 760)
+        name, servers = f"a.z{client}.", some.randrange(520, 1_010)
         asked = query(client, f"{name} A")
         begins = sum(waiting.values()) + kept_first(asked) <= ALL_KEPT
         told = talker.say(f"client {client} {asked.hex()}")[0]

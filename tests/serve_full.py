@@ -11,6 +11,15 @@ MOST_SETS, OWNERS = 64, 2_600
 HOSTILE = "127.0.0.2"
 
 
+# The most addresses that a set has which is kept, and one more.
+LONG_SETS = (("few.test.", 170), ("more.test.", 171))
+
+
+def cut(records):
+    """What a server does that has these records: it sends them over TCP alone."""
+    return lambda asked: iter([asked.response("aa tc" if asked.over == "udp" else f"aa{records}")])
+
+
 def many(asked):
     """A response of nearly 64 KiB, with an address for each of many names below the zone."""
     if asked.over == "udp":
@@ -83,6 +92,39 @@ def check_large_responses(checks):
         checks.equal("large responses: stopped", service.stop(), STOPPED)
 
 
+def check_glue(checks):
+    """Addresses of the servers that a response names are kept, whatever additional data come before them."""
+    def crowded(asked):
+        if asked.over == "udp":
+            yield asked.response("aa tc")
+            return
+        others = "".join(f" | additional x{place}.z. 86400 A 192.0.2.2" for place in range(OWNERS // 2))
+        yield asked.response(f"aa | answer a.z. 60 A 192.0.2.1 | authority z. 60 NS ns.z.{others} | additional ns.z. 60 A {HOST}")
+
+    with NameServers({HOST: {"*": crowded}}) as servers, Service([f"{HOST}@{servers.port}"], "--cells", "100") as service:
+        service.ask("a.z.")
+        checks.equal("glue: cells", service.figures()["cache.cells"], MOST_SETS)
+        checks.equal("glue: the answer is kept", shown(service, "a.z."), "found")
+        # The address comes last in the response, and its set is one of 64.
+        checks.equal("glue: the address is kept", service.obey("servers a.z.")[0].split(), ["servers", "z.", "cache", f"{HOST}@53"])
+        checks.equal("glue: stopped", service.stop(), STOPPED)
+
+
+def check_long_sets(checks):
+    """A set whose data take much memory is answered, and not kept."""
+    few, more = ("".join(f" | answer {name} 60 A 10.0.{place // 256}.{place % 256}" for place in range(count)) for name, count in LONG_SETS)
+    strings = f" | answer strings.test. 60 TXT {' '.join(30_000 * 'x')}"
+    zone = {"few.test. A": cut(few), "more.test. A": cut(more), "strings.test. TXT": cut(strings)}
+    with NameServers({HOST: zone}) as servers, Service([f"{HOST}@{servers.port}"]) as service:
+        for name, kind, records, kept in (("few.test.", "A", 170, True), ("more.test.", "A", 171, False), ("strings.test.", "TXT", 1, False)):
+            for turn in (1, 2):
+                misses = asked_of(service)
+                checks.equal(f"{name} has so many records, time {turn}", len(service.ask(name, kind, "tcp").records), records)
+                checks.equal(f"{name} is asked for, time {turn}", asked_of(service) - misses, int(turn == 1 or not kept))
+        checks.equal("long sets: cells", service.figures()["cache.cells"], 1)
+        checks.equal("long sets: stopped", service.stop(), STOPPED)
+
+
 def hits(service, names):
     """How many of these names are answered from the cache."""
     misses = asked_of(service)
@@ -138,6 +180,8 @@ def main():
         checks.make(check_learning, cells)
     checks.make(check_undone)
     checks.make(check_large_responses)
+    checks.make(check_glue)
+    checks.make(check_long_sets)
     checks.make(check_shares)
     checks.make(check_made_up)
     checks.end()

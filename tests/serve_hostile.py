@@ -153,14 +153,14 @@ def check_servers_of_tcp_clients(checks):
 
 
 def check_large(checks, settings):
-    """A response of 59 KiB, over TCP on both sides. A client over UDP gets it cut."""
+    """A response of 59 KiB, over TCP on both sides. A client over UDP gets it cut. The cache does not keep so large a set."""
     does, sockets = cut(lambda asked: [asked.response(f"aa | {LONG}")]), disturbed(**settings)
     with NameServers({HOST: {"big.test. TXT": does}}) as servers, Service([f"{HOST}@{servers.port}"], environment=sockets) as service:
         checks.equal(f"59 KiB over UDP, {settings}", service.ask("big.test.", "TXT").words(), "tc")
         reply = service.ask("big.test.", "TXT", "tcp")
         wanted = [f'"{place:03}{"x" * 250}"' for place in range(230)]
         checks.equal(f"59 KiB over TCP, {settings}", [record.data for record in reply.records], wanted)
-        checks.equal(f"59 KiB: asked once, {settings}", len(servers.asked), 2)
+        checks.equal(f"59 KiB: asked over UDP and over TCP for each client, {settings}", len(servers.asked), 4)
 
 
 def check_kept(checks, over):

@@ -150,8 +150,8 @@ def packed(text):
     return bytes(int(part) for part in text.split("."))
 
 
-# The most sets that one response brings to the cache.
-MOST_SETS = 64
+# The most sets that one response brings to the cache, and the most servers of a list there, of 16 KiB.
+MOST_SETS, MOST_SERVERS = 64, 170
 
 # A question and as many addresses of its name make a message of 65,535 octets.
 NAME = "messages.test."
@@ -189,21 +189,21 @@ def queries_when_full(expected):
 
 
 def largest_messages(expected):
-    """A set whose message is the largest comes over TCP, is cached, and is asked for by a query that is as large."""
+    """A set whose message is the largest comes over TCP, and is asked for by a query that is as large. It is too large to be cached."""
     query = header(RD, 1) + QUESTION
     large = header(RD, 1, 0, 0, len(ADDRESSES)) + QUESTION + ANSWERS
     whole = header(QR | RD | RA, 1, len(ADDRESSES)) + QUESTION + ANSWERS
     assert len(large) == len(whole) == MOST
     expected.add("at 190")
-    expected.add(asked(QR | TC, (1, 0, 0, 0)))
-    expected.add(asked(QR | AA, (1, len(ADDRESSES), 0, 0), ANSWERS))
     sent = [f"{HINTS[0]} {over} {NAME} A" for over in ("udp", "tcp")]
-    expected.add(f"stream {framed(query)}", *sent, f"wrote {framed(whole)}", "ended")
-    expected.add(f"stream {framed(large)}", f"wrote {framed(whole)}", "ended")
-    expected.add(f"udp {query.hex()}", f"reply {(header(QR | TC | RD | RA, 1) + QUESTION).hex()}")
-    expected.add(f"udp {large.hex()}", f"reply {(header(QR | TC | RD | RA, 1) + QUESTION).hex()}")
+    over_tcp, over_udp = [f"wrote {framed(whole)}", "ended"], [f"reply {(header(QR | TC | RD | RA, 1) + QUESTION).hex()}"]
+    for octets in query, large:
+        for line, told in (f"stream {framed(octets)}", over_tcp), (f"udp {octets.hex()}", over_udp):
+            expected.add(asked(QR | TC, (1, 0, 0, 0)))
+            expected.add(asked(QR | AA, (1, len(ADDRESSES), 0, 0), ANSWERS))
+            expected.add(line, *sent, *told)
     expected.add(f"message {whole.hex()}", f"octets {whole.hex()}")
-    expected.script([("at 190", "ok"), (f"look {NAME} A", f"found 4 60 {NAME} A " + " | ".join(ADDRESSES))])
+    expected.script([("at 190", "ok"), (f"look {NAME} A", "unknown")])
 
 
 def largest_names(expected):
@@ -218,13 +218,13 @@ def largest_names(expected):
     expected.add(f"message {(header(QR, 1, 4_000) + asks + pointed).hex()}", "not written")
 
 
-def largest_referral(expected):
-    """A referral to as many servers as fit into a message, of which one answers."""
-    zone, servers = name_octets("far."), []
-    room = MOST - 12 - len(question_octets("deep.far.", "A"))
-    for place in range(10_000, 20_000):
-        name = name_octets(f"ns{place}.far.")
-        pair = record(zone, 2, name), record(name, 1, packed(address(place)))
+def largest_referral(expected, zone, most, is_cached):
+    """A referral to so many servers, or to as many as fit into a message. One of them answers."""
+    octets, servers = name_octets(zone), []
+    room = MOST - 12 - len(question_octets(f"deep.{zone}", "A"))
+    for place in range(10_000, 10_000 + most):
+        name = name_octets(f"ns{place}.{zone}")
+        pair = record(octets, 2, name), record(name, 1, packed(address(place)))
         room -= len(b"".join(pair))
         if room < 0:
             break
@@ -234,14 +234,14 @@ def largest_referral(expected):
     expected.add(asked(QR, (1, 0, len(servers), len(servers)), records))
     answer = record(b"\xc0\x0c", 1, packed("192.0.2.9"))
     expected.add(asked(QR | AA, (1, 1, 0, 0), answer))
-    question = question_octets("deep.far.", "A")
-    sent = [f"{HINTS[0]} udp deep.far. A", f"{places[0]} udp deep.far. A"]
+    question = question_octets(f"deep.{zone}", "A")
+    sent = [f"{HINTS[0]} udp deep.{zone} A", f"{places[0]} udp deep.{zone} A"]
     reply = header(QR | RD | RA, 1, 1) + question + answer
     expected.add(f"udp {(header(RD, 1) + question).hex()}", *sent, f"reply {reply.hex()}")
     # The cache has the names of all, and the addresses of the first ones.
     kept = MOST_SETS - 1
-    shown = ["servers far. cache", *places[:kept], "|", *(f"ns{place}.far." for place, *_ in servers[kept:])]
-    expected.script([("at 190", "ok"), ("servers deep.far.", " ".join(shown))])
+    cached = [f"{zone} cache", *places[:kept], "|", *(f"ns{place}.{zone}" for place, *_ in servers[kept:])]
+    expected.script([("at 190", "ok"), (f"servers deep.{zone}", f"servers {' '.join(cached if is_cached else ['. hints', *HINTS])}")])
 
 
 # ---- workers
@@ -309,7 +309,8 @@ def expected_of(names):
     expired_names(expected, cache)
     largest_messages(expected)
     largest_names(expected)
-    largest_referral(expected)
+    largest_referral(expected, "far.", 10_000, False)
+    largest_referral(expected, "near.", MOST_SERVERS, True)
     return expected
 
 

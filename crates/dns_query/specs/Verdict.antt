@@ -5,6 +5,7 @@ use Rattle.dns_name.specs.Labels.{Labels}
 use Rattle.dns_text.specs.declared.record.Question.{Question}
 use Rattle.dns_wire.specs.declared.message.Message.{Message}
 use Rattle.neg_rule.specs.Negative.{negative_in, said_by}
+use Rattle.harvest.specs.Chosen.{chosen_in}
 use Rattle.harvest.specs.Harvest.{finds_in, passing_in}
 use Rattle.harvest.specs.Learnt.{set_of}
 use Rattle.dns_query.specs.declared.over.Over.{Over}
@@ -54,6 +55,7 @@ pub record IsHeard (port : ℕ) (zone : Labels) (id : ℕ) (question : Question)
   pub response : IsResponse id question octets message
   pub whole : IsWhole message
   pub finds : map said_by heard.harvest.finds ≡ finds_in message question zone
+  pub chosen : map said_by heard.harvest.chosen ≡ chosen_in message question zone
   pub passing : map set_of heard.harvest.passing ≡ passing_in message question zone
   pub says : IsSaid port zone question message heard.says
 

@@ -2,9 +2,6 @@
 use Rattle.std.specs.Prelude.{ℕ, ◌+◌, ◌*◌, ◌/◌, min, List, length, slice_index}
 use Rattle.std.specs.List.{sum_by}
 use Rattle.dns_name.specs.Labels.{wire_len}
-use Rattle.dns_text.specs.declared.record.Data.{Data}
-use Rattle.dns_text.specs.declared.record.Data.TheVariants.{Txt}
-use Rattle.dns_wire.specs.Write.Rdata.{data_octets}
 use Rattle.history.specs.declared.event.Event.TheVariants.{Admit}
 use Rattle.history.specs.declared.event.Reply.TheVariants.{Seen}
 use Rattle.history.specs.declared.event.Seen.TheVariants.{Held, Servers as Named}
@@ -14,29 +11,13 @@ use Rattle.iterate.specs.declared.want.Input.TheVariants.{Came, Reply}
 use Rattle.iterate.specs.declared.want.Step.{Step}
 use Rattle.iterate.specs.declared.want.Want.{Want}
 use Rattle.iterate.specs.declared.want.Want.TheVariants.{Book, Send}
-use Rattle.ranked.specs.declared.find.Body.{Body}
-use Rattle.ranked.specs.declared.find.Body.TheVariants.{Set, NoData, NoName}
+use Rattle.ranked.specs.Memory.{body_memory}
 use Rattle.ranked.specs.declared.find.Find.{Find}
 use Rattle.flight.specs.declared.kept.TheConstants.{ADDRESS_OCTETS, NAME_OCTETS, PIECE_OCTETS, RECORD_OCTETS, STEP_OCTETS}
 
--- how many pieces of memory a datum has: one, and one more for each string of TXT
-abbrev pub pieces_of : Data → ℕ
-pieces_of (Txt strings) = length strings + 1
-pieces_of _ = 1
-
--- what a datum keeps: its pieces, and the octets of its RDATA, with each name whole
-abbrev pub datum_kept : Data → ℕ
-datum_kept datum = PIECE_OCTETS * pieces_of datum + length (data_octets datum)
-
--- what the body of a find keeps; a negative answer has an SOA record
-abbrev pub body_kept : Body → ℕ
-body_kept (Set found) = sum_by datum_kept found
-body_kept (NoData soa) = PIECE_OCTETS + datum_kept soa.body
-body_kept (NoName soa) = PIECE_OCTETS + datum_kept soa.body
-
--- what a find keeps
+-- what a find keeps: its own block and that of its list or SOA record, its owner, and its data
 abbrev pub find_kept : Find → ℕ
-find_kept find = PIECE_OCTETS + wire_len find.owner + body_kept find.body
+find_kept find = 2 * PIECE_OCTETS + wire_len find.owner + body_memory find.body
 
 -- what a list of servers keeps
 abbrev pub list_kept : Servers → ℕ

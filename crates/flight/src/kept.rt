@@ -1,22 +1,18 @@
 //! What the questions that wait keep in memory, and the bounds of it.
 
 ghost use Rattle.std.specs.Prelude.{◌≡◌, ◌<◌, ◌≤◌, slice_index};
-ghost use Rattle.std.specs.List.{sum_by};
 ghost use Rattle.front_workers.specs.Sizing.{capped};
-ghost use Rattle.flight.specs.Kept.{body_kept, count_at, datum_kept, find_kept, input_kept, kept_in, list_kept};
-ghost use Rattle.flight.specs.Kept.{pieces_of, response_kept, step_kept, want_kept};
+ghost use Rattle.flight.specs.Kept.{count_at, find_kept, input_kept, kept_in, list_kept};
+ghost use Rattle.flight.specs.Kept.{response_kept, step_kept, want_kept};
 
-use dns_text::Data;
-use front_workers::data_size;
 use history::{Event, Reply, Seen, Servers};
 use iterate::{Input, Step, Want};
-use ranked::{Body, Find};
+use ranked::Find;
 
 /// The octets of a step. It has 168, in a list that may have room for twice as many, and the allocator adds up to 16.
 pub(crate) const STEP_OCTETS: usize = 352;
 
-/// The octets of a piece of memory: a find with its counts has 112, a datum 96, a string of TXT 32, twice at most, and the allocator
-/// adds up to 16 to each block.
+/// The octets of a piece of memory: a find with its counts has 112, an SOA record has 56 beside its datum, and the allocator adds up to 16.
 pub(crate) const PIECE_OCTETS: usize = 128;
 
 /// The octets of a server's name in a list, or of a datum of a set that is not cached. The name has 32 octets there, in a list that may
@@ -39,52 +35,12 @@ pub const MOST_ALL_KEPT: usize = 25_165_824;
 /// The octets that they may keep after `relieve`. The 16 exchanges at which a turn looks may each add `MOST_KEPT` to it.
 pub const MOST_AT_REST: usize = MOST_ALL_KEPT - 16 * MOST_KEPT;
 
-/// The pieces of memory that a datum has.
-fn pieces_of(datum: &Data) -> usize
-    ensures { result ≡ pieces_of datum.now }
-{
-    match datum {
-        Data::Txt(strings) => strings.as_slice().len() + 1,
-        _ => 1,
-    }
-}
-
-/// What a datum keeps.
-fn datum_kept(datum: &Data) -> usize
-    ensures { result ≡ capped (datum_kept datum.now) }
-{
-    PIECE_OCTETS
-        .saturating_mul(pieces_of(datum))
-        .saturating_add(data_size(datum))
-}
-
-/// What data keep.
-fn data_kept(found: &[Data]) -> usize
-    ensures { result ≡ capped (sum_by datum_kept found.now) }
-{
-    let mut total = 0usize;
-    for datum in found {
-        total = total.saturating_add(datum_kept(datum));
-    }
-    total
-}
-
-/// What the body of a find keeps.
-fn body_kept(body: &Body) -> usize
-    ensures { result ≡ capped (body_kept body.now) }
-{
-    match body {
-        Body::Set(found) => data_kept(found.as_slice()),
-        Body::NoData(soa) => datum_kept(&soa.get().body).saturating_add(PIECE_OCTETS),
-        Body::NoName(soa) => datum_kept(&soa.get().body).saturating_add(PIECE_OCTETS),
-    }
-}
-
 /// What a find keeps.
 fn find_kept(find: &Find) -> usize
     ensures { result ≡ capped (find_kept find.now) }
 {
-    body_kept(&find.body).saturating_add(PIECE_OCTETS + find.owner.wire_len())
+    find.memory()
+        .saturating_add(2 * PIECE_OCTETS + find.owner.wire_len())
 }
 
 /// What a list of servers keeps.

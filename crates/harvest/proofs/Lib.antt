@@ -4,3 +4,4 @@ pub mod IndexedLaws
 pub mod DistinctLaws
 pub mod LoopLaws
 pub mod ZoneLaws
+pub mod ChosenLaws

@@ -38,7 +38,7 @@ all_kept P keys [] h k = h
 all_kept P keys (key ∷ more) h k =
     all_kept P (with_datum same_key keys key) more (elim (is_among same_key keys key) as (λ b. AllByRecursion P (cond b keys (keys ++ key ∷ []))) [ true ↦ h | false ↦ all_push P keys key h k.0 ]) k.1
 
-contained : {X : Type 0} (P : X → Type 0) (xs : List X) (x : X) → AllByRecursion P xs → Contains xs x → P x
+pub contained : {X : Type 0} (P : X → Type 0) (xs : List X) (x : X) → AllByRecursion P xs → Contains xs x → P x
 contained P xs x all h = subst P h.2 (All-get_or P xs h.0 x h.1 (All-from_recursion P xs all))
 
 -- ---- at or below

@@ -4,3 +4,4 @@ pub mod Sets
 pub mod Indexed
 pub mod Learnt
 pub mod Harvest
+pub mod Chosen

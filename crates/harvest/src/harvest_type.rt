@@ -9,6 +9,8 @@ use ranked::SharedFind;
 pub struct Harvest {
     /// The sets that may be cached, and last the negative answer, if there is one.
     pub finds: Items<SharedFind>,
+    /// Those of the finds that are handed to a cache: of `MOST_MEMORY` octets at most, and `MOST_CHOSEN` at most.
+    pub chosen: Items<SharedFind>,
     /// The sets with a TTL of 0, which may be passed on once but not cached.
     pub passing: Items<Shared<PassingSet>>,
 }

@@ -5,8 +5,10 @@ ghost use Rattle.std.specs.Option.{option_to_list};
 ghost use Rattle.dns_wire.specs.WellFormed.{HasForms};
 ghost use Rattle.neg_rule.specs.Negative.{negative_in, said_by};
 ghost use Rattle.harvest.specs.Learnt.{said_of, set_of};
+ghost use Rattle.harvest.specs.Chosen.{chosen_in};
 ghost use Rattle.harvest.specs.Harvest.{finds_in, lives, passes, passing_in};
 
+use crate::choosing::chosen_of;
 use crate::counted::records_of;
 use crate::gathering::Gathering;
 use crate::harvest_type::Harvest;
@@ -110,7 +112,8 @@ fn push_negative(
 }
 
 /// The harvest of a message from a server of `zone` that was asked a question. It has each set of the records that count:
-/// as a passing set if its TTL is 0, else as a find. The negative answer, if there is one, is the last find.
+/// as a passing set if its TTL is 0, else as a find. The negative answer, if there is one, is the last find. It also has the finds
+/// that are handed to a cache.
 pub fn harvest(
     alloc: Global,
     message: &Message,
@@ -119,6 +122,7 @@ pub fn harvest(
 ) -> Result<Harvest, NoMemory>
     requires { HasForms message.now }
     ensures finds { IfOk result (λ harvest. map said_by harvest.finds ≡ finds_in message.now question.now zone.now) }
+    ensures chosen { IfOk result (λ harvest. map said_by harvest.chosen ≡ chosen_in message.now question.now zone.now) }
     ensures passing { IfOk result (λ harvest. map set_of harvest.passing ≡ passing_in message.now question.now zone.now) }
 {
     let records = records_of(alloc, message, question, zone)?;
@@ -126,8 +130,10 @@ pub fn harvest(
     let passing = passing_of(alloc, &sets)?;
     let mut finds = finds_of(alloc, &sets)?;
     push_negative(alloc, message, question, zone, &mut finds)?;
+    let chosen = chosen_of(alloc, &finds)?;
     Ok(Harvest {
         finds: Items::new(finds),
+        chosen: Items::new(chosen),
         passing,
     })
 }

@@ -13,13 +13,16 @@ mod gathering;
 mod sets;
 // A set with a TTL of 0.
 mod passing;
+// The finds that are handed to a cache.
+mod choosing;
 // The harvest of a message, and its type.
 mod harvest_type;
 mod harvesting;
 // Laws of the definitions, which callers may cite.
 mod laws;
 
+pub use choosing::{MOST_CHOSEN, MOST_MEMORY, MOST_SERVERS};
 pub use harvest_type::Harvest;
 pub use harvesting::harvest;
-pub use laws::zone_law;
+pub use laws::{chosen_law, limits_law, zone_law};
 pub use passing::PassingSet;

@@ -357,6 +357,7 @@ hearing port question before log want searching server id over (Came octets allo
       split = here.adds;
       responds = Known.responded here (unknown_innermost searching w.is_search) (next_serves searching w.is_search w.next) w.query (innermost_hunt searching w.is_search).zone h.response (record { whole = h.whole; says = tells heard.says h.says });
       finds = h.finds;
+      chosen = h.chosen;
       passing = h.passing;
       says = h.says;
       orderly = all_sent once port server over w.bytes id (Came octets allowance) w.rest (turn_of over) Turn.heard searching.base searching.path.last searching.frames.items here w.query w.next (λ o was. tt) tt w.orderly;
@@ -381,7 +382,7 @@ acts_cut port search server id over input (Err e) judged asks = tt
 
 pub acts_heard : {E : Type 0} (port : ℕ) (search : Search) (server : Addr) (id : ℕ) (over : Over) (input : Input) (moment : ℕ) (r : Result Advance E) (heard : Heard)
     → IsJudged port over (hunt_of search).servers.zone id (question_of search) input (HeardVerdict heard)
-    → ((find : Find) → IsHanded heard.harvest.finds (allowed_in input heard.says) 0 find → IfOk r (λ t. t.want ≡ Book (Admit moment find))) → IfOk r (λ t. ActsOn port search server id over input t.want)
+    → ((find : Find) → IsHanded heard.harvest.chosen (allowed_in input heard.says) 0 find → IfOk r (λ t. t.want ≡ Book (Admit moment find))) → IfOk r (λ t. ActsOn port search server id over input t.want)
 acts_heard port search server id over input moment (Ok t) heard judged hands = record { verdict = HeardVerdict heard; judged = judged; fits = λ find is. (moment, hands find is) }
 acts_heard port search server id over input moment (Err e) heard judged hands = tt
 

@@ -9,7 +9,7 @@ use Rattle.dns_query.specs.declared.over.Over.{Over}
 use Rattle.dns_text.specs.declared.addr.Addr.{Addr}
 use Rattle.dns_text.specs.declared.record.Question.{Question}
 use Rattle.dns_query.specs.declared.verdict.Heard.{Heard}
-use Rattle.harvest.specs.Harvest.{finds_in}
+use Rattle.harvest.specs.Chosen.{chosen_in}
 use Rattle.neg_rule.specs.Negative.{Said, said_by}
 use Rattle.rand_core.specs.Stream.{Stream}
 use Rattle.ranked.specs.declared.find.Find.{Find}
@@ -96,7 +96,7 @@ mapped finds find among =
     (among.0, omega (arith, among.1, length-map finds said_by), get_or-map said_by finds among.0 find (said_by find) among.1 ∙ ap said_by among.2)
 
 -- A find of the harvest may be handed to a book.
-harvested : {port : ℕ} {question : Question} {log : List Exchange} {searching : Search} {heard : Heard} {allowed : ℕ} → IsHearing port question log searching heard allowed → (next : ℕ) (find : Find) → IsHanded heard.harvest.finds allowed next find → IsHarvested port log find
+harvested : {port : ℕ} {question : Question} {log : List Exchange} {searching : Search} {heard : Heard} {allowed : ℕ} → IsHearing port question log searching heard allowed → (next : ℕ) (find : Find) → IsHanded heard.harvest.chosen allowed next find → IsHarvested port log find
 harvested {searching = searching} {heard = heard} {allowed = allowed} h next find handed = record {
   zone = (hunt_of searching).servers.zone;
   question = question_of searching;
@@ -115,10 +115,10 @@ harvested {searching = searching} {heard = heard} {allowed = allowed} h next fin
     query = h.query;
     response = h.response;
   };
-  among = subst (λ (n : ℕ). Contains (take (min 64 n) (finds_in h.message (question_of searching) (hunt_of searching).servers.zone)) (said_by find)) h.is_allowed
-      (subst (λ (xs : List Said). Contains (take (min 64 allowed) xs) (said_by find)) h.finds
-      (subst (λ (xs : List Said). Contains xs (said_by find)) (sym (take-map said_by (min 64 allowed) heard.harvest.finds))
-      (mapped (take (min 64 allowed) heard.harvest.finds) find (among_first heard.harvest.finds allowed next find handed))));
+  among = subst (λ (n : ℕ). Contains (take (min 64 n) (chosen_in h.message (question_of searching) (hunt_of searching).servers.zone)) (said_by find)) h.is_allowed
+      (subst (λ (xs : List Said). Contains (take (min 64 allowed) xs) (said_by find)) h.chosen
+      (subst (λ (xs : List Said). Contains xs (said_by find)) (sym (take-map said_by (min 64 allowed) heard.harvest.chosen))
+      (mapped (take (min 64 allowed) heard.harvest.chosen) find (among_first heard.harvest.chosen allowed next find handed))));
 }
 
 -- ---- the measure
@@ -169,7 +169,7 @@ pub heard_on : {port : ℕ} {question : Question} {log : List Exchange} {searchi
 heard_on t = hearing_more t.hearing t.adds (handing_unsent t.handing)
 
 asking : (port : ℕ) (question : Question) (log : List Exchange) (moment : ℕ) (id : Stream) (left : ℕ) (searching : Box Search) (heard : Box Heard) (allowed next : ℕ) (tried : Attempt) (find : Find) (event : Event)
-    → IsHearing port question log searching.value heard.value allowed → IsHanded heard.value.harvest.finds allowed next find → IsTrying tried find log (Book event) → MayCall port question log moment event
+    → IsHearing port question log searching.value heard.value allowed → IsHanded heard.value.harvest.chosen allowed next find → IsTrying tried find log (Book event) → MayCall port question log moment event
     → left_of_finds searching.value.path next tried < left → Goes port question log moment (idle id) left (Admitting searching heard allowed next tried) (Book event)
 asking port question log moment id left searching heard allowed next tried find event h handed trying may less = record {
   wants = may;
@@ -196,7 +196,7 @@ trying_hand attempt.Forget find log moment by = absurd by
 
 -- A find is handed over.
 pub handing : (port : ℕ) (question : Question) (log : List Exchange) (moment : ℕ) (id : Stream) (left : ℕ) (searching : Box Search) (heard : Box Heard) (allowed next : ℕ) (tried : Attempt) (find : Find)
-    → IsHearing port question log searching.value heard.value allowed → IsHanded heard.value.harvest.finds allowed next find → IsHandedBy tried find log
+    → IsHearing port question log searching.value heard.value allowed → IsHanded heard.value.harvest.chosen allowed next find → IsHandedBy tried find log
     → left_of_finds searching.value.path next tried < left → Goes port question log moment (idle id) left (Admitting searching heard allowed next tried) (Book (Admit moment find))
 handing port question log moment id left searching heard allowed next tried find h handed by less =
     asking port question log moment id left searching heard allowed next tried find (Admit moment find) h handed (trying_hand tried find log moment by) (refl, harvested h next find handed, may_hand tried find log by) less
@@ -224,7 +224,7 @@ sweeping port question log moment id searching heard allowed next input t says =
 
 -- Then the find is handed over again.
 pub swept_hands : (port : ℕ) (question : Question) (log : List Exchange) (searching : Search) (heard : Heard) (allowed next : ℕ) (input : Input) → IsTold port question log searching heard allowed next attempt.Sweep input → input ≡ Reply Swept
-    → (find : Find) → IsHanded heard.harvest.finds allowed next find → IsHandedBy attempt.Again find log
+    → (find : Find) → IsHanded heard.harvest.chosen allowed next find → IsHandedBy attempt.Again find log
 swept_hands port question log searching heard allowed next input t is find handed =
     subst (λ (f : Find). IsSwept f log) (one_find t.handing.handed handed)
     (record { before = t.before; full = t.handing.trying.0; moment = t.handing.trying.1.moment; swept = came_as t.adds t.handing.trying.1.wanted is })
@@ -251,7 +251,7 @@ forgetting port question log moment id searching heard allowed next input owner 
 
 -- Then the find is handed over a last time.
 pub forgotten_hands : (port : ℕ) (question : Question) (log : List Exchange) (searching : Search) (heard : Heard) (allowed next : ℕ) (input : Input) → IsTold port question log searching heard allowed next attempt.Forget input → input ≡ Reply Forgotten
-    → (find : Find) → IsHanded heard.harvest.finds allowed next find → IsHandedBy attempt.Last find log
+    → (find : Find) → IsHanded heard.harvest.chosen allowed next find → IsHandedBy attempt.Last find log
 forgotten_hands port question log searching heard allowed next input t is find handed =
     subst (λ (f : Find). IsForgotten f log) (one_find t.handing.handed handed)
     (record { before = t.before; owner = t.handing.trying.0; named = t.handing.trying.1; moment = t.handing.trying.2.moment; forgotten = came_as t.adds t.handing.trying.2.wanted is })

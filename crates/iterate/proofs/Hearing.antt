@@ -84,6 +84,7 @@ hearing_more {port} {y = y} {searching = searching} h a is = record {
   split = a.adds ∙ ap (λ (xs : List Exchange). xs ++ y ∷ []) h.split ∙ append_assoc h.before (_ ∷ h.since) (y ∷ []);
   responds = h.responds;
   finds = h.finds;
+  chosen = h.chosen;
   passing = h.passing;
   says = h.says;
   orderly = all_looked port searching.base searching.path.last Turn.heard searching.frames.items a is h.orderly;

@@ -216,7 +216,7 @@ AsksSeen port seen want = (server : Addr) × IsAddressSeen port seen server × A
 abbrev pub FitsVerdict : Search → Addr → (Says → ℕ) → Verdict → Want → Type 0
 FitsVerdict search server allowed Struck want = (other : Addr) (rest : List Addr) → IsNextServer search server (other ∷ rest) → AsksOver other Udp want
 FitsVerdict search server allowed Cut want = AsksOver server Tcp want
-FitsVerdict search server allowed (Heard heard) want = (find : Find) → IsHanded heard.harvest.finds (allowed heard.says) 0 find → (moment : ℕ) × (want ≡ Book (Admit moment find))
+FitsVerdict search server allowed (Heard heard) want = (find : Find) → IsHanded heard.harvest.chosen (allowed heard.says) 0 find → (moment : ℕ) × (want ≡ Book (Admit moment find))
 
 -- A verdict on what came is acted on.
 pub record ActsOn (port : ℕ) (search : Search) (server : Addr) (id : ℕ) (over : Over) (input : Input) (want : Want) : Type 0 where

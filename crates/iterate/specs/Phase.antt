@@ -9,6 +9,7 @@ use Rattle.dns_query.specs.declared.verdict.Heard.{Heard}
 use Rattle.dns_query.specs.Query.{IsQuery, address_question, alias_question}
 use Rattle.dns_query.specs.Response.{IsResponse}
 use Rattle.dns_query.specs.Verdict.{IsSaid}
+use Rattle.harvest.specs.Chosen.{chosen_in}
 use Rattle.harvest.specs.Harvest.{finds_in, passing_in}
 use Rattle.harvest.specs.Learnt.{set_of}
 use Rattle.neg_rule.specs.Negative.{said_by}
@@ -121,6 +122,7 @@ pub record IsHearing (port : ℕ) (question : Question) (log : List Exchange) (s
   pub split : log ≡ before ++ exchange (Send server over bytes) (Came octets allowance) ∷ since
   pub responds : Known port upto (Responds (hunt_of search).servers.zone (question_of search) message)
   pub finds : map said_by heard.harvest.finds ≡ finds_in message (question_of search) (hunt_of search).servers.zone
+  pub chosen : map said_by heard.harvest.chosen ≡ chosen_in message (question_of search) (hunt_of search).servers.zone
   pub passing : map set_of heard.harvest.passing ≡ passing_in message (question_of search) (hunt_of search).servers.zone
   pub says : IsSaid port (hunt_of search).servers.zone (question_of search) message heard.says
   pub orderly : IsOrderly port log search Turn.heard
@@ -131,7 +133,7 @@ pub record IsTold (port : ℕ) (question : Question) (log : List Exchange) (sear
   pub before : List Exchange
   pub want : Want
   pub hearing : IsHearing port question before search heard allowed
-  pub handing : IsHanding heard.harvest.finds allowed next tried before want
+  pub handing : IsHanding heard.harvest.chosen allowed next tried before want
   pub suits : Suits want input
   pub adds : Adds before (exchange want input) log
 
@@ -145,7 +147,7 @@ Remembers port question log want (Following path harvest) = IsBehind port questi
 Remembers port question log want (Listing path) = IsAskable port question log path × IsLook want (ServersFor (served_name path.last))
 Remembers port question log want (Seeking search target stage) = IsSeeking port question log search.value target stage × IsLook want (ask_at stage target)
 Remembers port question log want (Sent search server id over) = IsWaiting port question log want search.value server id over
-Remembers port question log want (Admitting search heard allowed next tried) = IsHearing port question log search.value heard.value allowed × IsHanding heard.value.harvest.finds allowed next tried log want
+Remembers port question log want (Admitting search heard allowed next tried) = IsHearing port question log search.value heard.value allowed × IsHanding heard.value.harvest.chosen allowed next tried log want
 Remembers port question log want Ended = (answer : Answer) × (want ≡ Finish answer) × (count_sends log ≤ MOST_SENDS)
 Remembers port question log want Broken = ⊥
 

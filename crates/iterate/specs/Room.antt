@@ -97,7 +97,7 @@ abbrev pub allowed_in : Input → Says → ℕ
 allowed_in (Came octets allowance) says = allowed_for says allowance
 allowed_in input says = 0
 
--- A find is at this place of a harvest, and is among the first ones, of which so many may be handed to a book.
+-- A find is at this place of those chosen from a harvest, and is among the first ones, of which so many may be handed to a book.
 pub record IsHanded (finds : List Find) (allowed next : ℕ) (find : Find) : Type 0 where
   pub within : next < allowed
   pub early : next < MOST_FINDS
@@ -142,7 +142,7 @@ AsksNext tried find moment input want = Unit {0}
 
 -- So it is with the next want of a task in this phase, for the find that is being handed over.
 abbrev pub AsksOn : Phase → ℕ → Input → Want → Type 0
-AsksOn (Admitting search heard allowed next tried) moment input want = (find : Find) → IsHanded heard.value.harvest.finds allowed next find → AsksNext tried find moment input want
+AsksOn (Admitting search heard allowed next tried) moment input want = (find : Find) → IsHanded heard.value.harvest.chosen allowed next find → AsksNext tried find moment input want
 AsksOn phase moment input want = Unit {0}
 
 -- what came of a look for the name to forget first names none

@@ -13,7 +13,7 @@ use Rattle.dns_query.specs.Query.{IsQuery, address_question}
 use Rattle.dns_query.specs.Response.{IsResponse}
 use Rattle.dns_query.specs.Verdict.{IsSaid, IsTruncated}
 use Rattle.dns_query.specs.declared.verdict.Says.{Says}
-use Rattle.harvest.specs.Harvest.{finds_in}
+use Rattle.harvest.specs.Chosen.{chosen_in}
 use Rattle.neg_rule.specs.Negative.{said_by}
 use Rattle.rand_core.specs.Stream.{Stream, next_u32}
 use Rattle.ranked.specs.declared.find.Find.{Find}
@@ -44,7 +44,7 @@ pub record WasAllowed (log : List Exchange) (question : Question) (message : Mes
   pub query : IsQuery bytes id question
   pub response : IsResponse id question octets message
 
--- A find is among the first in the harvest of a response: of those that may be handed to a book, by what the response says.
+-- A find is one of those chosen from the harvest of a response, and of the first of them: as many may be handed to a book, by what the response says.
 pub record IsHarvested (port : ℕ) (log : List Exchange) (find : Find) : Type 0 where
   pub zone : Labels
   pub question : Question
@@ -54,7 +54,7 @@ pub record IsHarvested (port : ℕ) (log : List Exchange) (find : Find) : Type 0
   pub said : IsSaid port zone question message says
   pub allowance : Allowance
   pub was_allowed : WasAllowed log question message allowance
-  pub among : Contains (take (min MOST_FINDS (allowed_for says allowance)) (finds_in message question zone)) (said_by find)
+  pub among : Contains (take (min MOST_FINDS (allowed_for says allowance)) (chosen_in message question zone)) (said_by find)
 
 -- The server was asked the question over UDP, and its response was truncated.
 pub record WasTruncated (log : List Exchange) (server : Addr) (question : Question) : Type 0 where

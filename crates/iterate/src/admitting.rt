@@ -33,10 +33,10 @@ use std::alloc::Global;
 
 /// The find at this place of a response, if it is one of the first ones that may be handed over.
 fn find_at(heard: &Heard, allowed: usize, next: usize) -> Result<Option<SharedFind>, NoMemory>
-    ensures { IfOk result (λ found. MatchOption found ((find : Find) → ¬ (IsHanded heard.now.harvest.finds allowed next find))
-        (IsHanded heard.now.harvest.finds allowed next)) }
+    ensures { IfOk result (λ found. MatchOption found ((find : Find) → ¬ (IsHanded heard.now.harvest.chosen allowed next find))
+        (IsHanded heard.now.harvest.chosen allowed next)) }
 {
-    let finds = heard.harvest.finds.as_slice();
+    let finds = heard.harvest.chosen.as_slice();
     if next < allowed && next < MOST_FINDS && next < finds.len() {
         return Ok(Some(finds[next].share()?));
     }
@@ -79,10 +79,10 @@ fn hand<R: Rng>(
     next: usize,
     attempt: Attempt,
 ) -> Result<Advance, NoMemory>
-    ensures hands { (find : Find) → IsHanded heard.value.harvest.finds allowed next find
+    ensures hands { (find : Find) → IsHanded heard.value.harvest.chosen allowed next find
         → IfOk result (λ told. told.want ≡ Book (Admit moment find)) }
     ensures goes { (question : Question) (log : List Exchange) (left : ℕ) → IsHearing port question log search.value heard.value allowed
-        → ((find : Find) → IsHanded heard.value.harvest.finds allowed next find → IsHandedBy attempt find log)
+        → ((find : Find) → IsHanded heard.value.harvest.chosen allowed next find → IsHandedBy attempt find log)
         → left_of_hearing search.value.path 1 ≤ left → (next < MOST_FINDS → left_of_finds search.value.path next attempt < left)
         → IfOk result (Advances port question log moment (drawing (R.stream ids.old) (R.stream ids.new)) left) }
 {
@@ -112,7 +112,7 @@ pub(crate) fn admit<R: Rng>(
     heard: Box<Heard>,
     allowed: usize,
 ) -> Result<Advance, NoMemory>
-    ensures hands { (find : Find) → IsHanded heard.value.harvest.finds allowed 0 find
+    ensures hands { (find : Find) → IsHanded heard.value.harvest.chosen allowed 0 find
         → IfOk result (λ told. told.want ≡ Book (Admit moment find)) }
     ensures goes { (question : Question) (log : List Exchange) (left : ℕ) → IsHearing port question log search.value heard.value allowed
         → ¬ (MadeRoom log)
@@ -144,7 +144,7 @@ fn pass<R: Rng>(
     next: usize,
     lawful: bool,
 ) -> Result<Advance, NoMemory>
-    ensures hands { (find : Find) → lawful ≡ true → IsHanded heard.value.harvest.finds allowed (next + 1) find
+    ensures hands { (find : Find) → lawful ≡ true → IsHanded heard.value.harvest.chosen allowed (next + 1) find
         → IfOk result (λ told. told.want ≡ Book (Admit moment find)) }
     ensures goes { (question : Question) (log : List Exchange) (attempt : Attempt) → IsHearing port question log search.value heard.value allowed
         → next < MOST_FINDS → ¬ (MadeRoom log)
@@ -257,7 +257,7 @@ fn handed<R: Rng>(
     next: usize,
     input: &Input,
 ) -> Result<Advance, NoMemory>
-    ensures asks { (find : Find) → IsHanded heard.value.harvest.finds allowed next find
+    ensures asks { (find : Find) → IsHanded heard.value.harvest.chosen allowed next find
         → IfOk result (λ told. AsksNext Attempt.Admit find moment input.now told.want) }
     ensures goes { (question : Question) (log : List Exchange)
         → IsTold port question log search.value heard.value allowed next Attempt.Admit input.now
@@ -292,7 +292,7 @@ fn swept<R: Rng>(
     next: usize,
     input: &Input,
 ) -> Result<Advance, NoMemory>
-    ensures asks { (find : Find) → IsHanded heard.value.harvest.finds allowed next find
+    ensures asks { (find : Find) → IsHanded heard.value.harvest.chosen allowed next find
         → IfOk result (λ told. AsksNext Attempt.Sweep find moment input.now told.want) }
     ensures goes { (question : Question) (log : List Exchange)
         → IsTold port question log search.value heard.value allowed next Attempt.Sweep input.now
@@ -330,7 +330,7 @@ fn handed_again<R: Rng>(
     next: usize,
     input: &Input,
 ) -> Result<Advance, NoMemory>
-    ensures asks { (find : Find) → IsHanded heard.value.harvest.finds allowed next find
+    ensures asks { (find : Find) → IsHanded heard.value.harvest.chosen allowed next find
         → IfOk result (λ told. AsksNext Attempt.Again find moment input.now told.want) }
     ensures goes { (question : Question) (log : List Exchange)
         → IsTold port question log search.value heard.value allowed next Attempt.Again input.now
@@ -410,7 +410,7 @@ fn forgotten<R: Rng>(
     next: usize,
     input: &Input,
 ) -> Result<Advance, NoMemory>
-    ensures asks { (find : Find) → IsHanded heard.value.harvest.finds allowed next find
+    ensures asks { (find : Find) → IsHanded heard.value.harvest.chosen allowed next find
         → IfOk result (λ told. AsksNext Attempt.Forget find moment input.now told.want) }
     ensures goes { (question : Question) (log : List Exchange)
         → IsTold port question log search.value heard.value allowed next Attempt.Forget input.now
@@ -472,7 +472,7 @@ pub(crate) fn admitted<R: Rng>(
     attempt: Attempt,
     input: &Input,
 ) -> Result<Advance, NoMemory>
-    ensures asks { (find : Find) → IsHanded heard.value.harvest.finds allowed next find
+    ensures asks { (find : Find) → IsHanded heard.value.harvest.chosen allowed next find
         → IfOk result (λ told. AsksNext attempt find moment input.now told.want) }
     ensures goes { (question : Question) (log : List Exchange)
         → IsTold port question log search.value heard.value allowed next attempt input.now

@@ -1,7 +1,10 @@
 //! Consequences of the definitions.
 
-ghost use Rattle.std.specs.Prelude.{◌≡◌, ℕ, Bool, List, Option, [], ◌∷◌, ◌++◌};
+ghost use Rattle.std.specs.Prelude.{◌≡◌, ◌≤◌, ℕ, Bool, List, Option, [], ◌∷◌, ◌++◌};
 ghost use Rattle.dns_text.specs.declared.record.Question.{Question};
+ghost use Rattle.harvest.specs.declared.choosing.TheConstants.{MOST_MEMORY};
+ghost use Rattle.ranked.specs.Memory.{body_memory};
+ghost use Rattle.ranked.specs.declared.find.Find.{Find};
 ghost use Rattle.iterate.specs.declared.answer.Answer.{Answer};
 ghost use Rattle.iterate.specs.declared.answer.Answer.TheVariants.{Reply as Replies};
 ghost use Rattle.iterate.specs.declared.answer.AnswerSet.{AnswerSet};
@@ -15,8 +18,10 @@ ghost use Rattle.iterate.specs.Phase.{Suits};
 ghost use Rattle.iterate.specs.Resolved.{Began, IsNoAnswer, IsResolved};
 ghost use Rattle.iterate.specs.Task.{IsDueAt};
 ghost use Rattle.iterate.specs.Told.{IsFit};
+ghost use Rattle.iterate.specs.Wanted.{IsHarvested};
 
 use crate::limits::{MOST_ALIASES, MOST_BEGUN, MOST_DEPTH, MOST_FINDS, MOST_SENDS, MOST_TARGETS};
+use harvest::chosen_law;
 
 /// An answer that resolves a question can be written.
 #[tactic(auto, using(crate::proofs::FitLaws::resolved_is_fit))]
@@ -40,6 +45,13 @@ pub fn servfail_law()
         (last : Option AnswerSet) (authority : Option Soa) → IsResolved port question log (Replies 2 aa aliases last authority)
         → Began question input log → IsNoAnswer question input }
 {}
+
+/// The data of each find that a task hands to the book take little memory.
+pub fn admission_law()
+    ensures { (port : ℕ) (log : List Exchange) (find : Find) → IsHarvested port log find → body_memory find.body ≤ MOST_MEMORY }
+{
+    chosen_law();
+}
 
 /// The limits of a task: 16 aliases, 64 queries, 64 questions for addresses of servers, 8 of them open at once, and for the first
 /// 5 servers of a list alone, and 64 finds of a response for the book.

@@ -1,5 +1,7 @@
 //! Limits of the work for one question, with all the questions that are begun for it.
 
+use harvest::MOST_CHOSEN;
+
 /// The most aliases that are followed.
 pub const MOST_ALIASES: usize = 16;
 
@@ -18,7 +20,6 @@ pub const MOST_TARGETS: usize = 5;
 /// The most questions for addresses of servers that are open inside one another.
 pub const MOST_DEPTH: usize = 8;
 
-/// The number of finds of one response that are handed to the book: the first ones. A response of 64 KiB can name 2,600 owners, and
-/// whoever controls a zone could fill the cache with them. It is more than a referral with 13 servers and two addresses each has,
-/// or a chain of as many aliases as are followed. The answer, the aliases and the referral are taken from the whole response.
-pub const MOST_FINDS: usize = 64;
+/// The most finds of one response that are handed to the book: as many as a harvest chooses. That is more than a chain of as many
+/// aliases as are followed has. The answer, the aliases and the referral are taken from the whole response.
+pub const MOST_FINDS: usize = MOST_CHOSEN;

@@ -5,7 +5,7 @@ use Rattle.iterate.proofs.admitting.find_at.Goals as goal
 
 pub returns-then-next-finds : goal.returns-then-next-finds
 returns-then-next-finds c =
-    let finds = c.args.heard.now.harvest.finds in
+    let finds = c.args.heard.now.harvest.chosen in
     let next = c.args.next in
     let found = c.index-finds-next.result in
     let same : c.as_slice-finds.result.now ≡ finds = c.as_slice-finds.ensures in

@@ -93,6 +93,6 @@ returns-clause-acts g c = λ bytes suits few.
     let zone : c.get.result.now.zone ≡ (hunt_of search_in).servers.zone = ap (λ (s : Servers). s.zone) c.get.ensures ∙ ap (λ (h : Hunt). h.servers.zone) c.hunt.ensures in
     let judged = meant c.args.port c.args.over c.args.id c.args.input.now _ zone c.in_ok-question.ensures (rw c.in-Heard.is at (c.in_ok-judged.ensures c.args.server bytes suits)) in
     acts_heard c.args.port search_in c.args.server c.args.id c.args.over c.args.input.now c.args.moment c.admit.result c.in-Heard.heard judged
-    (subst (λ (n : ℕ). (find : Find) → IsHanded c.in-Heard.heard.harvest.finds n 0 find → IfOk c.admit.result (λ t. t.want ≡ Book (Admit c.args.moment find))) c.allowed_in-allowed.ensures
-    (subst (λ (h : Heard). (find : Find) → IsHanded h.harvest.finds c.allowed_in-allowed.result 0 find → IfOk c.admit.result (λ t. t.want ≡ Book (Admit c.args.moment find)))
+    (subst (λ (n : ℕ). (find : Find) → IsHanded c.in-Heard.heard.harvest.chosen n 0 find → IfOk c.admit.result (λ t. t.want ≡ Book (Admit c.args.moment find))) c.allowed_in-allowed.ensures
+    (subst (λ (h : Heard). (find : Find) → IsHanded h.harvest.chosen c.allowed_in-allowed.result 0 find → IfOk c.admit.result (λ t. t.want ≡ Book (Admit c.args.moment find)))
     c.in_ok-heard-in-Heard.ensures.ok c.admit.ensures.hands))

@@ -64,7 +64,7 @@ returns-in-Admitting-clause-goes g c = rw c.in-Admitting.is (λ before log want 
     c.admitted.ensures.goes c.args.question.now log (record { before = before; want = want; hearing = f.0; handing = f.1; suits = suits; adds = adds }))
 
 pub returns-in-Admitting-clause-asks : goal.returns-in-Admitting-clause-asks
-returns-in-Admitting-clause-asks g c = rw c.in-Admitting.is (ok_for_each (IsHanded c.in-Admitting.heard.value.harvest.finds c.in-Admitting.allowed c.in-Admitting.next)
+returns-in-Admitting-clause-asks g c = rw c.in-Admitting.is (ok_for_each (IsHanded c.in-Admitting.heard.value.harvest.chosen c.in-Admitting.allowed c.in-Admitting.next)
     (λ (find : Find) (next : Advance). AsksNext c.in-Admitting.attempt find c.args.moment c.args.input.now next.want) c.admitted.result (λ find handed. c.admitted.ensures.asks find handed))
 
 pub returns-in-Fresh-clause-asks : goal.returns-in-Fresh-clause-asks
