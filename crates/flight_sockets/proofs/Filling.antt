@@ -1,5 +1,5 @@
 -- How the counts of cells change as a place is emptied or filled.
-use Rattle.std.proofs.Common.{◌≡◌, ℕ, ◌+◌, ◌-◌, ◌*◌, ◌<◌, ◌≤◌, Bool, false, List, length, get_or, replicate, Option, Some, None, cond, count_by, eqb, refl, sym, ap, ◌∙◌, inl, inr, arith}
+use Rattle.std.proofs.Common.{◌≡◌, ℕ, ◌+◌, ◌*◌, ◌<◌, ◌≤◌, Bool, false, List, length, get_or, replicate, Option, Some, None, cond, count_by, eqb, refl, sym, ap, ◌∙◌, inl, inr, arith}
 use Rattle.std.proofs.Math.ListN.{set}
 use Rattle.std.proofs.lemmas.Bool.{cases_eq, cases_lt}
 use Rattle.std.proofs.lemmas.Bool.Decides.{nat_tests}
@@ -46,10 +46,6 @@ module _ (places : List (Option Filled)) (place : ℕ) (within : place < length 
   written : (p : Option Filled → Bool) (new : Option Filled) → count_by p (set places place new) + one_if (p (get_or places place None)) ≡ count_by p places + one_if (p new)
   written p new = sum_by-set (λ (cell : Option Filled). one_if (p cell)) places place new None within
 
-  -- A place without a cell is emptied.
-  pub empty_still : (p : Option Filled → Bool) → p None ≡ false → get_or places place None ≡ None → count_by p (set places place None) ≡ count_by p places
-  empty_still p none is = omega (arith, written p None, ap (λ (cell : Option Filled). one_if (p cell)) is)
-
   -- A place is emptied that had a cell.
   pub emptied : (p : Option Filled → Bool) (cell : Filled) → p None ≡ false → get_or places place None ≡ Some cell → count_by p (set places place None) + one_if (p (Some cell)) ≡ count_by p places
   emptied p cell none is = omega (arith, written p None, ap (λ (c : Option Filled). one_if (p c)) is, ap one_if none)
@@ -68,27 +64,6 @@ module _ (places : List (Option Filled)) (place : ℕ) (within : place < length 
     is_known cell is = elim (cases_lt cell.counter (length held)) [
       | inl known ↦ known
       | inr past ↦ absurd (omega (arith, is_counted cell is, get_or_past held cell.counter 0 past))
-    ]
-
-    pub emptied_each : (cell : Filled) → get_or places place None ≡ Some cell → (counter : ℕ)
-        → get_or (set held cell.counter (get_or held cell.counter 0 - 1)) counter 0 ≡ count_by (is_of counter) (set places place None)
-    emptied_each cell is counter = elim (cases_eq counter cell.counter) [
-      | inl same ↦ omega (
-        arith,
-        ap (λ (n : ℕ). get_or (set held cell.counter (get_or held cell.counter 0 - 1)) n 0) same,
-        get_or-set_same held cell.counter (get_or held cell.counter 0 - 1) 0 (is_known cell is),
-        each cell.counter,
-        ap (λ (n : ℕ). count_by (is_of n) (set places place None)) same,
-        emptied (is_of cell.counter) cell refl is,
-        same_counts cell.counter cell.counter refl,
-      )
-      | inr other ↦ omega (
-        arith,
-        get_or-set_other held cell.counter counter (get_or held cell.counter 0 - 1) 0 other,
-        each counter,
-        emptied (is_of counter) cell refl is,
-        other_counts cell.counter counter (λ e. other (sym e)),
-      )
     ]
 
     pub filled_each : (cell : Filled) → get_or places place None ≡ None → cell.counter < length held → (counter : ℕ)

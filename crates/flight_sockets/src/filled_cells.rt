@@ -1,8 +1,8 @@
 //! The cells that the workers filled, and how many of them each zone has.
 
 ghost use Rattle.std.specs.Prelude.{◌≡◌, ◌<◌, ◌≤◌, ◌+◌, ℕ, None, Some, IfOk, count_by, is_some, replicate, slice_get, slice_index, slice_set, vec_len};
-ghost use Rattle.flight_sockets.specs.FilledCells.{allowed_of, is_of};
-ghost use Rattle.flight_sockets.specs.declared.filled_cells.TheConstants.{ZONE_COUNTERS};
+ghost use Rattle.flight_sockets.specs.FilledCells.{allowed_of, end_in, is_marked, is_of, row_of, IsLookedOver, IsPlaceFor};
+ghost use Rattle.flight_sockets.specs.declared.filled_cells.TheConstants.{ROW, ZONE_COUNTERS};
 
 use dns_text::NoMemory;
 use iterate::MOST_FINDS;
@@ -50,7 +50,9 @@ pub(crate) struct FilledCells {
 }
 
 /// The moment at which the cell of a place ends. A place without one comes first.
-fn end_of(place: Option<Filled>) -> u64 {
+fn end_of(place: Option<Filled>) -> u64
+    ensures { result ≡ end_in place }
+{
     match place {
         Some(cell) => cell.until,
         None => 0,
@@ -58,7 +60,9 @@ fn end_of(place: Option<Filled>) -> u64 {
 }
 
 /// Whether a place has the cell with this hash.
-fn has_mark(place: Option<Filled>, mark: u64) -> bool {
+fn has_mark(place: Option<Filled>, mark: u64) -> bool
+    ensures { result ≡ is_marked mark place }
+{
     match place {
         Some(cell) => cell.mark == mark,
         None => false,
@@ -103,8 +107,10 @@ impl FilledCells {
     }
 
     /// Empties those of the next few places whose cells have ended.
-    fn retire(&mut self, now: u64) {
-        for _ in 0..LOOKED_AT {
+    fn retire(&mut self, now: u64)
+        ensures { IsLookedOver now self.old.cursor self.old.places.items self.new.places.items self.new.cursor }
+    {
+        for looked in 0..LOOKED_AT {
             if self.cursor >= self.places.len() {
                 self.cursor = 0;
                 return;
@@ -120,7 +126,8 @@ impl FilledCells {
     /// How many cells more the zones of a counter may fill with one response.
     pub(crate) fn allowed(&mut self, counter: usize, now: u64) -> usize
         requires { counter < ZONE_COUNTERS }
-        ensures { result ≡ allowed_of self.new.places.items counter }
+        ensures looked { IsLookedOver now self.old.cursor self.old.places.items self.new.places.items self.new.cursor }
+        ensures allowed { result ≡ allowed_of self.new.places.items counter }
     {
         self.retire(now);
         let free = self.places.len() - self.taken;
@@ -131,7 +138,8 @@ impl FilledCells {
     /// The place for a cell in the row that begins here: its own if it has one, else the one that ends first.
     fn place_of(&self, first: usize, mark: u64) -> usize
         requires { first + ROW ≤ vec_len self.now.places }
-        ensures { result < vec_len self.now.places }
+        ensures within { result < vec_len self.now.places }
+        ensures place { IsPlaceFor self.now.places.items first mark result }
     {
         let mut best = first;
         for place in first..first + ROW {
@@ -148,6 +156,10 @@ impl FilledCells {
     /// Notes a cell that is filled. With fewer places than a row has, nothing is noted.
     pub(crate) fn note(&mut self, cell: Filled)
         requires { cell.counter < ZONE_COUNTERS }
+        ensures few { vec_len self.old.places < ROW → self.new.places ≡ self.old.places }
+        ensures noted { ROW ≤ vec_len self.old.places
+            → (place : ℕ) × IsPlaceFor self.old.places.items (row_of self.old.places.items cell.mark) cell.mark place
+            × (self.new.places.items ≡ slice_set self.old.places.items place (Some cell)) }
     {
         let rows = self.places.len() / ROW;
         if rows == 0 {
