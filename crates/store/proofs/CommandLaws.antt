@@ -15,10 +15,11 @@ use Rattle.history.specs.declared.event.Command.TheVariants.{FlushType, Flush, F
 use Rattle.history.specs.declared.tables.Tables.{Tables}
 use Rattle.history.specs.Changes.{after_command_on, reason_on, reason_in, stub_reason_in}
 use Rattle.history.specs.Event.{covers, flush_of}
-use Rattle.table_changes.specs.Both.{change_of, change_after, change_reason, change_table}
+use Rattle.table_changes.specs.Both.{change_of, change_after, change_reason, change_removes, change_table}
 use Rattle.table_changes.specs.Stubs.{stub_code_in}
 use Rattle.table_changes.specs.Zones.{zone_code_in}
 use Rattle.table_changes.specs.declared.tables.TableChange.{TableChange}
+use Rattle.world_book.specs.Removals.{removes}
 use Rattle.world_book.specs.Step.{code_of}
 use Rattle.world_book.specs.Versions.{table_of}
 use Rattle.store.specs.Command.{IsMadeOf}
@@ -97,6 +98,21 @@ table_is (DropName name) = refl
 table_is (SetStub new) = refl
 table_is (DropStub name) = refl
 
+abbrev removes_in : Option TableChange → Tables → Bool
+removes_in None t = false
+removes_in (Some change) t = change_removes change t
+
+removes_is : (command : Command) (t : Tables) → removes_in (change_of command) t ≡ removes command t
+removes_is (FlushType target) t = refl
+removes_is (Flush name) t = refl
+removes_is (FlushZone name) t = refl
+removes_is (SetZone name kind) t = refl
+removes_is (DropZone name) t = refl
+removes_is (AddRecord new) t = refl
+removes_is (DropName name) t = refl
+removes_is (SetStub new) t = refl
+removes_is (DropStub name) t = refl
+
 -- A flush is no change of the tables.
 flush_apart : (command : Command) (flush : CellFlush) → flush_of command ≡ Some flush → change_of command ≡ None
 flush_apart (FlushType target) flush e = refl
@@ -129,6 +145,7 @@ flush_is_made command flush e =
       empties = λ q. ap (λ (o : Option CellFlush). covers_in o q) (sym e) ∙ covers_is command q;
       table = ap table_in apart ∙ table_is command;
       reason = λ t. ap (λ (o : Option TableChange). reason_by o t) apart ∙ reason_is command t;
+      removes = λ t. ap (λ (o : Option TableChange). removes_in o t) apart ∙ removes_is command t;
     }
 
 pub table_is_made : (command : Command) (change : TableChange) → flush_of command ≡ None → change_of command ≡ Some change → IsMadeOf command (made.Table change)
@@ -137,4 +154,5 @@ table_is_made command change e f = record {
   empties = λ q. ap (λ (o : Option CellFlush). covers_in o q) (sym e) ∙ covers_is command q;
   table = ap table_in (sym f) ∙ table_is command;
   reason = λ t. ap (λ (o : Option TableChange). reason_by o t) (sym f) ∙ reason_is command t;
+  removes = λ t. ap (λ (o : Option TableChange). removes_in o t) (sym f) ∙ removes_is command t;
 }

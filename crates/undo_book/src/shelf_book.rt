@@ -102,7 +102,8 @@ impl Book for ShelfBook {
     ghost use Rattle.history.specs.declared.event.Event.{Event};
     ghost use Rattle.history.specs.Answers.{Answers, Follows, history_after};
     ghost use Rattle.history.specs.History.{past_of};
-    ghost use Rattle.world_book.specs.Versions.{count_pairs, pairs_left, AreAliveAfter, ForgetsOldest, IsFreeIn};
+    ghost use Rattle.world_book.specs.Removals.{IsFreeAfter};
+    ghost use Rattle.world_book.specs.Versions.{count_pairs, pairs_left, AreAliveAfter, ForgetsOldest};
 
     ghost stands_for = { λ book history. ⟦<WorldBook<StoreChange> as Book>⟧.stands_for book.book history };
 
@@ -135,9 +136,10 @@ impl Book for ShelfBook {
             (n : ℕ) → IsErrOf result (StepFault.Full n) →
             (⟦<WorldBook<StoreChange> as Book>⟧.settings self.old.book).cells ≤ count_pairs (pairs_left h) }
 
-        // A sweep, a forget, an undo or a redo that reaches a flush, and an admission whose pair is alive in some version need no memory.
+        // A sweep, a forget, an undo or a redo that reaches a flush, an undo of a command that removed nothing, and an admission whose
+        // pair is alive in some version need no memory.
         ensures free { (h : List Event) → ⟦<WorldBook<StoreChange> as Book>⟧.stands_for self.old.book h →
-            IsFreeIn (past_of (⟦<WorldBook<StoreChange> as Book>⟧.settings self.old.book).journal h) event →
+            IsFreeAfter (⟦<WorldBook<StoreChange> as Book>⟧.settings self.old.book).journal h event →
             IfErr result (λ fault. (fault ≡ StepFault.BadMoment) ⊎ (fault ≡ StepFault.CountEnded)) }
 
         // A forget of the name to forget first at its moment makes room: fewer cells are stored after it.
@@ -162,9 +164,10 @@ impl Book for ShelfBook {
         ensures settings { ⟦<WorldBook<StoreChange> as Book>⟧.settings self.new.book
             ≡ ⟦<WorldBook<StoreChange> as Book>⟧.settings self.old.book }
 
-        // A sweep, a forget, an undo or a redo that reaches a flush, and an admission whose pair is alive in some version need no memory.
+        // A sweep, a forget, an undo or a redo that reaches a flush, an undo of a command that removed nothing, and an admission whose
+        // pair is alive in some version need no memory.
         ensures free { (h : List Event) → ⟦<WorldBook<StoreChange> as Book>⟧.stands_for self.old.book h →
-            IsFreeIn (past_of (⟦<WorldBook<StoreChange> as Book>⟧.settings self.old.book).journal h) event →
+            IsFreeAfter (⟦<WorldBook<StoreChange> as Book>⟧.settings self.old.book).journal h event →
             IfErr result (λ fault. (fault ≡ StepFault.BadMoment) ⊎ (fault ≡ StepFault.CountEnded)) }
     {
         match self.book.follow(event) {

@@ -14,6 +14,7 @@ use Rattle.change_law.specs.declared.kept.Standing.TheVariants.{Done, Undone, Cl
 use Rattle.change_law.specs.Choice.{IsFounded, IsOneTable, IsUncovered, is_done}
 use Rattle.change_law.specs.ChoiceLaws.{same_number, other_number}
 use Rattle.undo_journal.specs.Journal.{AreAscending, AreChanges, AreInTurn, CanBeRedone, CanBeUndone, Changes, IsLastDone, IsPlaceOf, NeedsNone, done_of, first_of, in_effect, is_among, is_one_table, last_of, lies_on, lies_under, standing_in, table_at, tickets_of}
+use Rattle.undo_journal.specs.Needs.{UndoNeedsNone}
 use Rattle.undo_journal.proofs.RingLaws.{IsAt, Done≢Undone, Undone≢Done, all_among, all_both, among_push_here, among_push_other, and_true, at_place, drop_past, map_append, never_past, or_none, take_past, take_there}
 use Rattle.undo_journal.proofs.MoveLaws.{asc_after, asc_before, done_here, done_standing, last_founded, standing_done, standing_undone}
 
@@ -255,6 +256,13 @@ needs_none_at {S} needs_memory kept place ticket none own = by (slice_get kept p
     by : (o : Option (KeptChange S)) → slice_get kept place ≡ o → option_map (λ k. k.ticket) o ≡ Some ticket → IfSome o (λ k. needs_memory k.saved ≡ false)
     by None there is = tt
     by (Some k) there is = let same : k.ticket ≡ ticket = cc in all_at (λ x. x.ticket ≡ ticket → needs_memory x.saved ≡ false) kept place k none there same
+
+-- no memory to undo the change at a place, which is in effect
+pub undo_needs_none_at : {S : Type 0} (needs_memory : S → Bool) (kept : List (KeptChange S)) (place ticket : ℕ) (k : KeptChange S) → UndoNeedsNone needs_memory kept ticket → slice_get kept place ≡ Some k →
+    k.ticket ≡ ticket → k.standing ≡ Done → IfSome (slice_get kept place) (λ k. needs_memory k.saved ≡ false)
+undo_needs_none_at {S} needs_memory kept place ticket k none there own done =
+    subst (λ (o : Option (KeptChange S)). IfSome o (λ k. needs_memory k.saved ≡ false)) (sym there)
+    (all_at (λ x. x.ticket ≡ ticket → x.standing ≡ Done → needs_memory x.saved ≡ false) kept place k none there own done)
 
 -- ---- a walk over the ring
 

@@ -1,22 +1,22 @@
 -- Rows one after another, and the ring at its ends.
-use Rattle.std.proofs.Common.{◌≡◌, ◌≢◌, ℕ, zero, suc, ◌+◌, ◌-◌, ◌<◌, ◌≤◌, Bool, true, false, cond, Option, Some, None, ◌⊎◌, inl, inr, List, [], ◌∷◌, ◌++◌, length, take, drop, map, refl, sym, ap, subst, ◌∙◌, arith, rules, length-append, length-drop, append_assoc}
+use Rattle.std.proofs.Common.{◌≡◌, ◌≢◌, ℕ, zero, suc, ◌+◌, ◌-◌, ◌<◌, ◌≤◌, Bool, true, false, cond, Option, Some, inl, inr, List, [], ◌∷◌, ◌++◌, length, drop, refl, sym, ap, subst, ◌∙◌, arith, rules, length-append, length-drop, append_assoc}
 use Rattle.std.proofs.lemmas.Bool.{cases_Bool, false≢true}
-use Rattle.std.proofs.lemmas.List.{append-nil, take-append-drop}
+use Rattle.std.proofs.lemmas.List.{append-nil}
 use Rattle.std.proofs.lemmas.List.Elements.{filter-append}
-use Rattle.std.specs.Prelude.{filter, not, slice_get, slice_set, if◌then◌else◌}
+use Rattle.std.specs.Prelude.{filter, not, slice_get}
 use Rattle.std.specs.List.{AllByRecursion}
-use Rattle.dns_name.specs.ListLaws.{all-append, all-drop, all-take, all_split, all_weaker}
+use Rattle.dns_name.specs.ListLaws.{all-append, all-drop, all_split, all_weaker}
 use Rattle.circular_buffer.specs.Buffer.{Buffer, buffer, keep_last}
 use Rattle.change_law.specs.declared.kept.KeptChange.{KeptChange}
 use Rattle.change_law.specs.declared.kept.Standing.{Standing}
 use Rattle.change_law.specs.declared.kept.Standing.TheVariants.{Done, Undone, Cleared}
 use Rattle.change_law.specs.Choice.{IsOneTable, AreLeftOut, AllowsAt, IsChoice, IsPresent, IsUncovered, is_done, clear, cleared, cleared_one}
 use Rattle.change_law.specs.Face.{Face, IsSame}
-use Rattle.change_law.specs.Row.{kept_as, IsNext, IsRowAfter, any, same_face}
-use Rattle.undo_journal.specs.Journal.{AreAscending, AreChanges, AreInTurn, Changes, IsChange, IsClosed, IsForgotten, in_effect, is_among, newest, out_of_effect, settled_by, standing_in, tickets_of, told_of}
+use Rattle.change_law.specs.Row.{kept_as, IsRowAfter, same_face}
+use Rattle.undo_journal.specs.Journal.{AreAscending, AreChanges, AreInTurn, Changes, IsClosed, in_effect, out_of_effect, standing_in, tickets_of}
 use Rattle.undo_journal.specs.Settling.{IsTurned, TurnsFirst}
-use Rattle.undo_journal.proofs.RingLaws.{IsAt, Undone≢Cleared, Done≢Cleared, Done≢Undone, Undone≢Done, all_back, all_both, all_filter, all_images, all_pass, kept_is, length_filter, map_append, map_length}
-use Rattle.undo_journal.proofs.MoveLaws.{done_standing, standing_done}
+use Rattle.undo_journal.proofs.RingLaws.{Done≢Undone, all_back, all_both, all_filter, all_images, all_pass, length_filter}
+use Rattle.undo_journal.proofs.MoveLaws.{done_standing}
 use Rattle.undo_journal.proofs.ReachLaws.{drop_at}
 
 pub same_then : {T : Type 0} {a b c : Face T} → IsSame a b → IsSame b c → IsSame a c
@@ -105,7 +105,7 @@ module _ {S : Type 0} (table : S → Option ℕ) (chosen : ℕ → Bool) where
       (allows_more table chosen x.standing x (earlier ++ k' ∷ later) (earlier ++ k ∷ later) (left_out_as x.saved earlier k k' later t e) h.0, choice_as earlier k k' later t e n n' h.1)
 
   -- the first of them
-  choice_front : (xs ys : List (KeptChange S)) → IsChoice table (xs ++ ys) chosen → IsChoice table xs chosen
+  pub choice_front : (xs ys : List (KeptChange S)) → IsChoice table (xs ++ ys) chosen → IsChoice table xs chosen
   choice_front [] ys h = tt
   choice_front (x ∷ xs) ys h =
       (allows_more table chosen x.standing x (xs ++ ys) xs (λ all. (all_split (λ k. IsOneTable (table x.saved) (table k.saved) → chosen k.ticket ≡ false) xs ys all).0) h.0, choice_front xs ys h.1)
@@ -474,138 +474,3 @@ module _ {S : Type 0} (table : S → Option ℕ) where
       (all-append (λ k. k.ticket ≤ ticket) changes.kept (new ∷ []) (all_weaker _ _ (λ k h. omega (arith, h, next)) changes.kept are.given) (omega arith, tt))
       (all-append (λ k. k.standing ≡ Done) changes.kept (new ∷ []) (none_undone_done changes.kept changes.undone none are.standings) (refl, tt))
       (omega (arith, length-append changes.kept (new ∷ []), room)) are.room
-
--- ---- a new change
-
-drop_push : {X : Type 0} (n : ℕ) (xs : List X) (x : X) → n ≤ length xs → drop n (xs ++ x ∷ []) ≡ drop n xs ++ x ∷ []
-drop_push zero xs x within = refl
-drop_push (suc n) [] x within = absurd (omega arith)
-drop_push (suc n) (a ∷ xs) x within = drop_push n xs x (omega arith)
-
-drop_map : {X Y : Type 0} (f : X → Y) (n : ℕ) (xs : List X) → drop n (map f xs) ≡ map f (drop n xs)
-drop_map f zero xs = refl
-drop_map f (suc n) [] = refl
-drop_map f (suc n) (x ∷ xs) = drop_map f n xs
-
-module _ {S : Type 0} (table : S → Option ℕ) (before : Changes S) (are : AreChanges table before) (saved : S) where
-  abbrev left : List (KeptChange S)
-  left = in_effect before.kept
-
-  abbrev excess : ℕ
-  excess = length left + 1 - before.limit
-
-  abbrev new : KeptChange S
-  new = kept_as Done (before.tickets + 1) saved
-
-  -- the newest of these, with the image of the new one
-  newest_image : {Y : Type 0} (f : KeptChange S → Y) → map f (drop excess left ++ new ∷ []) ≡ newest before.limit (map f left ++ f new ∷ [])
-  newest_image {Y} f =
-      let long : length (map f left ++ f new ∷ []) ≡ length left + 1 = omega (arith, length-append (map f left) (f new ∷ []), map_length f left) in
-      let few : excess ≤ length (map f left) = omega (arith, are.room, map_length f left) in
-      let same : excess ≡ length (map f left ++ f new ∷ []) - before.limit = omega (arith, long) in
-      map_append f (drop excess left) (new ∷ [])
-      ∙ ap (λ (l : List Y). l ++ f new ∷ []) (sym (drop_map f excess left))
-      ∙ sym (drop_push excess (map f left) (f new) few)
-      ∙ ap (λ (n : ℕ). drop n (map f left ++ f new ∷ [])) same
-
-  pub applied_change : (after : Changes S) → after ≡ record { kept = drop excess left ++ new ∷ []; undone = []; tickets = before.tickets + 1; limit = before.limit } → IsChange before (before.tickets + 1) after
-  unfolding newest_image
-  applied_change after is =
-      let present = all-append (λ k. k.standing ≡ Done) (drop excess left) (new ∷ []) (all-drop (λ k. k.standing ≡ Done) excess left (in_effect_done before.kept)) (refl, tt) in
-      rw is (record {
-        next = refl;
-        tickets = refl;
-        limit = refl;
-        done = ap (λ (l : List (KeptChange S)). tickets_of l) (all_in_effect (drop excess left ++ new ∷ []) present) ∙ newest_image (λ k. k.ticket);
-        present = present;
-        undone = refl;
-      })
-
-  pub applied_row : {W T : Type 0} (keeps : W → List (KeptChange S) → Type 0) (face : W → List (KeptChange S) → (ℕ → Bool) → Face T)
-      (made : (ℕ → Bool) → Face T → Face T) (w0 w1 w2 w3 : W) →
-      IsRowAfter table keeps face made any w0 before.kept w1 (cleared before.kept ++ new ∷ []) →
-      IsRowAfter table keeps face same_face (IsPresent (out_of_effect before.kept)) w1 (cleared before.kept ++ new ∷ []) w2 (left ++ new ∷ []) →
-      IsRowAfter table keeps face same_face (IsPresent (take excess left)) w2 (left ++ new ∷ []) w3 (drop excess left ++ new ∷ []) →
-      IsRowAfter table keeps face made (IsPresent (settled_by before)) w0 before.kept w3 (drop excess left ++ new ∷ [])
-  applied_row {W} {T} keeps face made w0 w1 w2 w3 row0 row1 row2 =
-      let gone = out_of_effect before.kept in
-      let old = take excess left in
-      let first = row_then table keeps face made any (IsPresent gone) (IsPresent gone) w0 w1 w2 before.kept (cleared before.kept ++ new ∷ []) (left ++ new ∷ []) row0 row1
-      (λ chosen p. tt) (λ chosen p. p)
-      (λ chosen p choice. choice_with_gone table chosen before.kept (new ∷ []) (present_out table chosen before.kept p) choice) in
-      let again : old ++ (drop excess left ++ new ∷ []) ≡ left ++ new ∷ []
-      = sym (append_assoc old (drop excess left) (new ∷ [])) ∙ ap (λ (l : List (KeptChange S)). l ++ new ∷ []) (take-append-drop excess left) in
-      row_then table keeps face made (IsPresent gone) (IsPresent old) (IsPresent (settled_by before)) w0 w2 w3 before.kept (left ++ new ∷ []) (drop excess left ++ new ∷ []) first row2
-      (λ chosen p. (present_append chosen old gone p).1) (λ chosen p. (present_append chosen old gone p).0)
-      (λ chosen p choice. subst (λ (l : List (KeptChange S)). IsChoice table l chosen) again
-      (choice_with_old table chosen old (drop excess left ++ new ∷ []) (all-take _ excess left (in_effect_done before.kept)) (present_append chosen old gone p).0 choice))
-
-  abbrev shrunk : Changes S
-  shrunk = record { kept = left; undone = []; tickets = before.tickets; limit = before.limit }
-
-  pub forgotten_kept : (c f : Changes S) → c ≡ shrunk → IsForgotten c f → f.kept ≡ drop excess left
-  forgotten_kept c f e is = is.kept ∙ ap (λ (x : Changes S). drop (length x.kept + 1 - x.limit) x.kept) e
-
-  pub applied_changes : (c f k : Changes S) → c ≡ shrunk → IsForgotten c f →
-      k ≡ record { kept = f.kept ++ new ∷ []; undone = []; tickets = before.tickets + 1; limit = f.limit } → IsChange before (before.tickets + 1) k
-  applied_changes c f k e is g =
-      let rest = forgotten_kept c f e is in
-      let limit : f.limit ≡ before.limit = is.limit ∙ ap (λ (x : Changes S). x.limit) e in
-      applied_change k (g ∙ (λ i. record { kept = rest i ++ new ∷ []; undone = []; tickets = before.tickets + 1; limit = limit i }))
-
-  pub applied_whole : {W T : Type 0} (keeps : W → List (KeptChange S) → Type 0) (face : W → List (KeptChange S) → (ℕ → Bool) → Face T)
-      (made : (ℕ → Bool) → Face T → Face T) (w0 w1 w2 w3 : W) (c f : Changes S) → c ≡ shrunk → IsForgotten c f →
-      IsRowAfter table keeps face made any w0 before.kept w1 (cleared before.kept ++ new ∷ []) →
-      ((tail : List (KeptChange S)) → keeps w1 (cleared before.kept ++ tail) → IsRowAfter table keeps face same_face (IsPresent (out_of_effect before.kept)) w1 (cleared before.kept ++ tail) w2 (c.kept ++ tail)) →
-      ((tail : List (KeptChange S)) → keeps w2 (c.kept ++ tail) → IsRowAfter table keeps face same_face (IsPresent (take (length c.kept + 1 - c.limit) c.kept)) w2 (c.kept ++ tail) w3 (f.kept ++ tail)) →
-      IsRowAfter table keeps face made (IsPresent (settled_by before)) w0 before.kept w3 (f.kept ++ new ∷ [])
-  applied_whole {W} {T} keeps face made w0 w1 w2 w3 c f e is row0 clear forget =
-      let rest = forgotten_kept c f e is in
-      let row1 = clear (new ∷ []) row0.keeps_left in
-      let row2 = forget (new ∷ []) row1.keeps_left in
-      let row1' = subst (λ (x : Changes S). IsRowAfter table keeps face same_face (IsPresent (out_of_effect before.kept)) w1 (cleared before.kept ++ new ∷ []) w2 (x.kept ++ new ∷ [])) e row1 in
-      let row2' = subst (λ (x : Changes S). IsRowAfter table keeps face same_face (IsPresent (take (length x.kept + 1 - x.limit) x.kept)) w2 (x.kept ++ new ∷ []) w3 (f.kept ++ new ∷ [])) e row2 in
-      let row2'' = subst (λ (l : List (KeptChange S)). IsRowAfter table keeps face same_face (IsPresent (take excess left)) w2 (left ++ new ∷ []) w3 (l ++ new ∷ [])) rest row2' in
-      subst (λ (l : List (KeptChange S)). IsRowAfter table keeps face made (IsPresent (settled_by before)) w0 before.kept w3 (l ++ new ∷ [])) (sym rest)
-      (applied_row keeps face made w0 w1 w2 w3 row0 row1' row2'')
-
-  pub applied_told : {D : Type 0} (told : S → D) (d : D) → told saved ≡ d → (c f k : Changes S) → c ≡ shrunk → IsForgotten c f → k.kept ≡ f.kept ++ new ∷ [] →
-      told_of told k.kept ≡ newest before.limit (told_of told left ++ (before.tickets + 1, d) ∷ [])
-  applied_told {D} told d same c f k e is g =
-      ap (told_of told) (g ∙ ap (λ (l : List (KeptChange S)). l ++ new ∷ []) (forgotten_kept c f e is))
-      ∙ newest_image (λ x. (x.ticket, told x.saved))
-      ∙ ap (λ (x : D). newest before.limit (told_of told left ++ (before.tickets + 1, x) ∷ [])) same
-
-  pub is_next : IsNext (before.tickets + 1) before.kept
-  is_next = all_weaker _ _ (λ k h. omega (arith, h)) before.kept are.given
-
-  -- a choice of what is left is one of what was kept
-  pub applied_choices : (c f k : Changes S) → c ≡ shrunk → IsForgotten c f → k.kept ≡ f.kept ++ new ∷ [] →
-      (chosen : ℕ → Bool) → IsPresent (settled_by before) chosen → IsChoice table k.kept chosen → IsChoice table before.kept chosen
-  applied_choices c f k e is g chosen p choice =
-      let old = take excess left in
-      let both = present_append chosen old (out_of_effect before.kept) p in
-      let there : k.kept ≡ drop excess left ++ new ∷ [] = g ∙ ap (λ (l : List (KeptChange S)). l ++ new ∷ []) (forgotten_kept c f e is) in
-      let rest = choice_front table chosen (drop excess left) (new ∷ []) (subst (λ (l : List (KeptChange S)). IsChoice table l chosen) there choice) in
-      let all_done = choice_with_old table chosen old (drop excess left) (all-take _ excess left (in_effect_done before.kept)) both.0 rest in
-      let done = subst (λ (l : List (KeptChange S)). IsChoice table l chosen) (take-append-drop excess left) all_done in
-      choice_with_undone table chosen before.kept are.closed (present_out table chosen before.kept both.1) done
-
--- ---- one place
-
--- what was at a place and what is there now are of one ticket and one table
-pub choices_at : {S : Type 0} (table : S → Option ℕ) (kept : List (KeptChange S)) (n : ℕ) (k k' : KeptChange S) (at : IsAt kept n k) → k'.ticket ≡ k.ticket → table k'.saved ≡ table k.saved →
-    k.standing ≢ Cleared → k'.standing ≢ Cleared → (chosen : ℕ → Bool) → IsChoice table (slice_set kept n k') chosen → IsChoice table kept chosen
-choices_at {S} table kept n k k' at t e n0 n1 chosen h =
-    subst (λ (l : List (KeptChange S)). IsChoice table l chosen) (sym at.all)
-    (choice_as table chosen at.earlier k k' at.later t e n0 n1 (subst (λ (l : List (KeptChange S)). IsChoice table l chosen) (at.written k') h))
-
-pub told_at : {S D : Type 0} (told : S → D) (kept : List (KeptChange S)) (n : ℕ) (k k' : KeptChange S) (at : IsAt kept n k) → k'.ticket ≡ k.ticket → told k'.saved ≡ told k.saved →
-    told_of told (slice_set kept n k') ≡ told_of told kept
-told_at {S} {D} told kept n k k' at t e =
-    let one : KeptChange S → ℕ × D = λ k. (k.ticket, told k.saved) in
-    ap (told_of told) (at.written k')
-    ∙ map_append one at.earlier (k' ∷ at.later)
-    ∙ ap (λ (p : ℕ × D). map one at.earlier ++ p ∷ map one at.later) (λ i. (t i, e i))
-    ∙ sym (map_append one at.earlier (k ∷ at.later))
-    ∙ sym (ap (told_of told) at.all)

@@ -47,6 +47,7 @@ impl<C: Change> Model for Journal<C> {
 impl<C: Change> Journal<C> {
     ghost use Rattle.undo_journal.specs.Journal.{AreChanges, AreChoicesBefore, CanBeRedone, CanBeUndone, IsChange, IsForgotten, IsLastDone, IsPlaceOf, IsPutBack, IsRedo, IsRedoOf, IsTakenBack, IsToldAfter, IsUndo, IsUndoOf, NeedsNone};
     ghost use Rattle.undo_journal.specs.Journal.{done_of, first_of, in_effect, is_among, last_of, lies_on, lies_under, out_of_effect, settled_by, tickets_of, told_of};
+    ghost use Rattle.undo_journal.specs.Needs.{HaveNeeds, IsNeededAfter, UndoNeedsNone};
 
     /// An empty journal, which keeps at most `limit` changes. It takes all its memory here.
     pub fn new(alloc: Global, limit: usize) -> Result<Journal<C>, NoMemory>
@@ -65,12 +66,13 @@ impl<C: Change> Journal<C> {
         requires { C.World.keeps world.old self.old.kept }
         ensures ticket { IfOk result (λ ticket. IsUndo self.old ticket self.new) }
         ensures free { (ticket : ℕ) → last_of (done_of self.old) ≡ Some ticket →
-            NeedsNone C.World.needs_memory self.old.kept ticket → IsOk result }
+            UndoNeedsNone C.World.needs_memory self.old.kept ticket → IsOk result }
         ensures row { OnOk result (IsRowAfter C.World.table C.World.keeps C.World.face same_face any
             world.old self.old.kept world.new self.new.kept) }
         ensures choices { OnOk result (AreChoicesBefore C.World.table any self.old self.new) }
         ensures told { OnOk result (told_of C.World.told self.new.kept ≡ told_of C.World.told self.old.kept) }
-        ensures tables { OnOk result (told_of C.World.table self.new.kept ≡ told_of C.World.table self.old.kept) }
+        ensures tables { OnOk result ((told_of C.World.table self.new.kept ≡ told_of C.World.table self.old.kept)
+            × HaveNeeds C.World.needs_memory C.World.needs_memory_after self.old self.new) }
         ensures err { OnErr result (IsRefused C.World.table C.World.keeps C.World.face C.World.newest C.World.stored C.World.counts
             world.old world.new × (self.new ≡ self.old)) }
         ensures counts { IsNoMore C.World.newest C.World.stored C.World.limit C.World.counts world.old world.new }
@@ -94,7 +96,8 @@ impl<C: Change> Journal<C> {
             world.old self.old.kept world.new self.new.kept) }
         ensures choices { OnOk result (AreChoicesBefore C.World.table any self.old self.new) }
         ensures told { OnOk result (told_of C.World.told self.new.kept ≡ told_of C.World.told self.old.kept) }
-        ensures tables { OnOk result (told_of C.World.table self.new.kept ≡ told_of C.World.table self.old.kept) }
+        ensures tables { OnOk result ((told_of C.World.table self.new.kept ≡ told_of C.World.table self.old.kept)
+            × HaveNeeds C.World.needs_memory C.World.needs_memory_after self.old self.new) }
         ensures err { OnErr result (IsRefused C.World.table C.World.keeps C.World.face C.World.newest C.World.stored C.World.counts
             world.old world.new × (self.new ≡ self.old)) }
         ensures counts { IsNoMore C.World.newest C.World.stored C.World.limit C.World.counts world.old world.new }
@@ -112,12 +115,13 @@ impl<C: Change> Journal<C> {
     pub fn undo_of(&mut self, world: &mut C::World, ticket: u64) -> Result<Outcome, NoMemory>
         requires { C.World.keeps world.old self.old.kept }
         ensures outcome { IfOk result (λ outcome. IsUndoOf C.World.table self.old ticket outcome self.new) }
-        ensures free { NeedsNone C.World.needs_memory self.old.kept ticket → IsOk result }
+        ensures free { UndoNeedsNone C.World.needs_memory self.old.kept ticket → IsOk result }
         ensures row { OnOk result (IsRowAfter C.World.table C.World.keeps C.World.face same_face any
             world.old self.old.kept world.new self.new.kept) }
         ensures choices { OnOk result (AreChoicesBefore C.World.table any self.old self.new) }
         ensures told { OnOk result (told_of C.World.told self.new.kept ≡ told_of C.World.told self.old.kept) }
-        ensures tables { OnOk result (told_of C.World.table self.new.kept ≡ told_of C.World.table self.old.kept) }
+        ensures tables { OnOk result ((told_of C.World.table self.new.kept ≡ told_of C.World.table self.old.kept)
+            × HaveNeeds C.World.needs_memory C.World.needs_memory_after self.old self.new) }
         ensures err { OnErr result (IsRefused C.World.table C.World.keeps C.World.face C.World.newest C.World.stored C.World.counts
             world.old world.new × (self.new ≡ self.old)) }
         ensures counts { IsNoMore C.World.newest C.World.stored C.World.limit C.World.counts world.old world.new }
@@ -148,7 +152,8 @@ impl<C: Change> Journal<C> {
             world.old self.old.kept world.new self.new.kept) }
         ensures choices { OnOk result (AreChoicesBefore C.World.table any self.old self.new) }
         ensures told { OnOk result (told_of C.World.told self.new.kept ≡ told_of C.World.told self.old.kept) }
-        ensures tables { OnOk result (told_of C.World.table self.new.kept ≡ told_of C.World.table self.old.kept) }
+        ensures tables { OnOk result ((told_of C.World.table self.new.kept ≡ told_of C.World.table self.old.kept)
+            × HaveNeeds C.World.needs_memory C.World.needs_memory_after self.old self.new) }
         ensures err { OnErr result (IsRefused C.World.table C.World.keeps C.World.face C.World.newest C.World.stored C.World.counts
             world.old world.new × (self.new ≡ self.old)) }
         ensures counts { IsNoMore C.World.newest C.World.stored C.World.limit C.World.counts world.old world.new }
@@ -178,7 +183,9 @@ impl<C: Change> Journal<C> {
         ensures reason { OnOk result (C.reason change (C.World.shown world.old).tables ≡ None) }
         ensures ticket { IfOk result (λ ticket. IsChange self.old ticket self.new
             × IsToldAfter C.World.told self.old ticket (C.told change) self.new
-            × IsToldAfter C.World.table self.old ticket (C.table change) self.new) }
+            × IsToldAfter C.World.table self.old ticket (C.table change) self.new
+            × IsNeededAfter C.World.needs_memory C.World.needs_memory_after self.old ticket
+            (C.removes change (C.World.shown world.old).tables) self.new) }
 
         // A choice that agrees with the settled changes has the face that it had, with the effect of the change if that is chosen.
         ensures row { IfOk result (λ ticket. IsRowAfter C.World.table C.World.keeps C.World.face
@@ -231,7 +238,8 @@ impl<C: Change> Journal<C> {
         ensures row { OnOk result (IsRowAfter C.World.table C.World.keeps C.World.face same_face any
             world.old self.old.kept world.new self.new.kept × AreChoicesBefore C.World.table any self.old self.new) }
         ensures told { OnOk result ((told_of C.World.told self.new.kept ≡ told_of C.World.told self.old.kept)
-            × (told_of C.World.table self.new.kept ≡ told_of C.World.table self.old.kept)) }
+            × (told_of C.World.table self.new.kept ≡ told_of C.World.table self.old.kept)
+            × HaveNeeds C.World.needs_memory C.World.needs_memory_after self.old self.new) }
         ensures err { OnErr result (IsRefused C.World.table C.World.keeps C.World.face C.World.newest C.World.stored C.World.counts
             world.old world.new × (self.new ≡ self.old)) }
         ensures counts { IsNoMore C.World.newest C.World.stored C.World.limit C.World.counts world.old world.new }
@@ -258,7 +266,8 @@ impl<C: Change> Journal<C> {
         ensures row { OnOk result (IsRowAfter C.World.table C.World.keeps C.World.face same_face any
             world.old self.old.kept world.new self.new.kept × AreChoicesBefore C.World.table any self.old self.new) }
         ensures told { OnOk result ((told_of C.World.told self.new.kept ≡ told_of C.World.told self.old.kept)
-            × (told_of C.World.table self.new.kept ≡ told_of C.World.table self.old.kept)) }
+            × (told_of C.World.table self.new.kept ≡ told_of C.World.table self.old.kept)
+            × HaveNeeds C.World.needs_memory C.World.needs_memory_after self.old self.new) }
         ensures err { OnErr result (IsRefused C.World.table C.World.keeps C.World.face C.World.newest C.World.stored C.World.counts
             world.old world.new × (self.new ≡ self.old)) }
         ensures counts { IsNoMore C.World.newest C.World.stored C.World.limit C.World.counts world.old world.new }

@@ -14,6 +14,7 @@ use Rattle.ranked.specs.declared.find.Scope.{Scope}
 use Rattle.change_law.specs.declared.world.World.{Ghosts}
 use Rattle.change_law.specs.Pairs.{AddsPairs, CountsAmong, CountsNoneOf, pair_eq, pair_of}
 use Rattle.undo_journal.specs.Journal.{Changes}
+use Rattle.undo_journal.specs.Needs.{is_needy}
 use Rattle.course.specs.CourseLaws.{same_at}
 use Rattle.history.specs.declared.book.StepFault.{StepFault}
 use Rattle.history.specs.declared.book.StepFault.TheVariants.{BadMoment, CountEnded, Full, NoMemory}
@@ -30,8 +31,10 @@ use Rattle.history.specs.History.{Past, past_of, nothing, followed_by}
 use Rattle.world_book.specs.Book.{BookState, IsBookOf, IsPassed, IsUntouched}
 use Rattle.world_book.specs.Deeds.{empty_face}
 use Rattle.world_book.specs.Step.{ForgetsPairs, IsFaultOf}
+use Rattle.world_book.specs.Removals.{HasRemoved, IsFreeAfter}
 use Rattle.world_book.specs.Versions.{finds_after, finds_left, pairs_left, ForgetsOldest}
-use Rattle.world_book.specs.Tied.{IsTied, IsHistoryReply, MakesRoom, StaysTied, TakesIn, TakesNothingIn}
+use Rattle.world_book.specs.Tied.{GainsNeeds, IsFreeBy, IsTied, IsHistoryReply, MakesRoom, StaysTied, TakesIn, TakesNothingIn, undo_may_need}
+use Rattle.world_book.proofs.NeedLaws.{free_weaker, keeps_needs, removed_more, removed_now}
 
 pub past_more : (bound : ℕ) (h : List Event) (event : Event) → past_of bound (h ++ event ∷ []) ≡ followed_by bound (past_of bound h) event
 past_more bound h event = fold-append (followed_by bound) nothing h (event ∷ [])
@@ -122,8 +125,9 @@ module _ {W S : Type 0} (by : Ghosts W Tables S Command) where
   -- with the event
   pub goes_on : (book : BookState W S) (w' : W) (changes' : Changes S) (clock : ℕ) (event : Event) → clock ≡ max book.moment (moment_of event) →
       TakesIn by clock event book.world book.changes w' changes' → by.stored w' ≤ by.stored book.world + cond (is_admission event) 1 0 → by.limit w' ≡ by.limit book.world →
-      AddsPairs by.counts (pairs_left (event ∷ [])) book.world w' → ForgetsPairs by event w' → (h : List Event) → BookOf book h → BookOf (record { world = w'; changes = changes'; settings = book.settings; moment = clock; count = book.count + 1 }) (h ++ event ∷ [])
-  goes_on book w' changes' clock event is takes fewer same adds gone h so =
+      AddsPairs by.counts (pairs_left (event ∷ [])) book.world w' → ForgetsPairs by event w' → GainsNeeds by event book.world book.changes changes' →
+      (h : List Event) → BookOf book h → BookOf (record { world = w'; changes = changes'; settings = book.settings; moment = clock; count = book.count + 1 }) (h ++ event ∷ [])
+  goes_on book w' changes' clock event is takes fewer same adds gone gains h so =
       let bound = book.settings.journal in
       let past = past_of bound h in
       let more : past_of bound (h ++ event ∷ []) ≡ followed_by bound past event = past_more bound h event in
@@ -136,6 +140,7 @@ module _ {W S : Type 0} (by : Ghosts W Tables S Command) where
         pairs = subst (λ (pairs : List (Labels × Scope)). CountsAmong by.counts pairs w') (sym (pairs_more h event)) (among_after (finds_left h) event book.world w' so.pairs adds gone);
         most = same ∙ so.most;
         some_commands = so.some_commands;
+        needs = λ t needy. elim (gains bound past so.tied t needy) [ inl before ↦ removed_more bound h event t (so.needs t before) | inr now ↦ removed_now bound h event t now ];
       }
 
   -- after a forget of the name to forget first
@@ -165,6 +170,7 @@ module _ {W S : Type 0} (by : Ghosts W Tables S Command) where
     pairs = λ pair has. so.pairs pair (adds pair has);
     most = same ∙ so.most;
     some_commands = so.some_commands;
+    needs = so.needs;
   }
 
   -- after a fault
@@ -178,6 +184,7 @@ module _ {W S : Type 0} (by : Ghosts W Tables S Command) where
     pairs = λ pair has. so.pairs pair (none.pairs pair has);
     most = same ∙ so.most;
     some_commands = so.some_commands;
+    needs = λ t needy. so.needs t (ap (λ (l : List (ℕ × Bool)). is_needy l t) (sym none.needs) ∙ needy);
   }
 
   pub answered : (book : BookState W S) (clock : ℕ) (event : Event) (reply : Reply) → clock ≡ max book.moment (moment_of event) → moment_of event < MOMENT_END → book.count < MOST_EVENTS →
@@ -187,6 +194,19 @@ module _ {W S : Type 0} (by : Ghosts W Tables S Command) where
       let at : clock ≡ max past.now (moment_of event) = is ∙ ap (λ (m : ℕ). max m (moment_of event)) so.moment in
       (record { moment = timely; count_goes_on = subst (λ (n : ℕ). n < MOST_EVENTS) so.count counted }, told book.settings.journal past at so.tied)
 
+  -- an event that needs no memory
+  pub free_here : {Q : Type 0} (book : BookState W S) (clock : ℕ) (event : Event) → clock ≡ max book.moment (moment_of event) →
+      ((bound : ℕ) (past : Past) → clock ≡ max past.now (moment_of event) → IsTied by book.world book.changes bound past → IsFreeBy by book.changes past event → Q) →
+      (h : List Event) → BookOf book h → IsFreeAfter book.settings.journal h event → Q
+  free_here book clock event is taken h so free =
+      let bound = book.settings.journal in
+      let past = past_of bound h in
+      taken bound past (is ∙ ap (λ (m : ℕ). max m (moment_of event)) so.moment) so.tied
+      (free_weaker (λ t. HasRemoved bound h t → ⊥) (λ t. undo_may_need by book.changes t ≡ false) (λ t none. not_needy t none) past event free)
+    where
+      not_needy : (t : ℕ) → (HasRemoved book.settings.journal h t → ⊥) → undo_may_need by book.changes t ≡ false
+      not_needy t none = elim (cases_Bool (undo_may_need by book.changes t)) [ inl needy ↦ absurd (none (so.needs t needy)) | inr free ↦ free ]
+
   -- an event that changes nothing but the clock, of which no reply is read
   pub passed : {A : Type 0} (book : BookState W S) (w' : W) (clock : ℕ) (event : Event) (taken : A) → clock ≡ max book.moment (moment_of event) → moment_of event < MOMENT_END → book.count < MOST_EVENTS →
       TakesIn by clock event book.world book.changes w' book.changes → by.stored w' ≤ by.stored book.world + cond (is_admission event) 1 0 → by.limit w' ≡ by.limit book.world →
@@ -194,7 +214,7 @@ module _ {W S : Type 0} (by : Ghosts W Tables S Command) where
       IsPassed by book event (Ok taken) (record { world = w'; changes = book.changes; settings = book.settings; moment = clock; count = book.count + 1 })
   passed book w' clock event taken is timely counted takes fewer same adds gone = record {
     answers = λ h so. record { moment = timely; count_goes_on = subst (λ (n : ℕ). n < MOST_EVENTS) so.count counted };
-    stands = goes_on book w' book.changes clock event is takes fewer same adds gone;
+    stands = goes_on book w' book.changes clock event is takes fewer same adds gone (keeps_needs by event book.world book.changes book.changes refl);
     same_store = tt;
     same_settings = refl;
     untimely = tt;
@@ -244,4 +264,5 @@ module _ {W S : Type 0} (by : Ghosts W Tables S Command) where
     pairs = untouched.pairs;
     most = untouched.limit;
     some_commands = some;
+    needs = λ t needy. absurd (false≢true needy);
   }

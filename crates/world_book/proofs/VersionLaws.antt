@@ -1,5 +1,5 @@
 -- The versions of a past are faces of the world that it comes to; and an event that needs no memory there needs none here.
-use Rattle.std.proofs.Common.{◌≡◌, ◌≢◌, ℕ, ◌-◌, ◌≤◌, Bool, true, false, Option, Some, None, List, [], ◌∷◌, zero, suc, length, take, drop, map, refl, sym, ap, subst, ◌∙◌, arith}
+use Rattle.std.proofs.Common.{◌≡◌, ◌≢◌, ℕ, ◌-◌, ◌≤◌, Bool, true, false, Option, Some, None, ◌⊎◌, inl, inr, List, [], ◌∷◌, zero, suc, length, take, drop, map, refl, sym, ap, subst, ◌∙◌, arith}
 use Rattle.std.specs.Prelude.{if◌then◌else◌}
 use Rattle.std.specs.List.{AllByRecursion}
 use Rattle.dns_name.specs.Labels.{Labels}
@@ -13,6 +13,7 @@ use Rattle.change_law.specs.Choice.{AllowsAt, AreLeftOut, IsChoice, IsOneTable}
 use Rattle.change_law.specs.Face.{IsSame, IsSameAt, alive_at}
 use Rattle.change_law.specs.Pairs.{IsAliveIn}
 use Rattle.undo_journal.specs.Journal.{Changes, AreChanges, NeedsNone, done_of, is_among, tickets_of, told_of}
+use Rattle.undo_journal.specs.Needs.{UndoNeedsNone}
 use Rattle.course.specs.Course.{IsFair, face_by}
 use Rattle.course.specs.CourseLaws.{same_at, same_at_later, same_at_then}
 use Rattle.dns_name.specs.ListLaws.{all_weaker}
@@ -24,10 +25,11 @@ use Rattle.history.specs.Journal.{commands_of}
 use Rattle.history.specs.Marks.{is_struck, last_of}
 use Rattle.world_book.specs.Deeds.{deeds_of, empty_face, face_of}
 use Rattle.world_book.specs.Held.{held_in}
-use Rattle.world_book.specs.Tied.{IsTied, tables_told}
+use Rattle.world_book.specs.Tied.{IsTied, tables_told, undo_may_need}
 use Rattle.world_book.specs.Versions.{table_of, IsChoiceOf, IsAliveInVersion, IsFlush}
 use Rattle.world_book.proofs.DeedLaws.{deeds_show}
 use Rattle.world_book.proofs.HeldLaws.{held_commands}
+use Rattle.world_book.proofs.NeedLaws.{no_need}
 pub use Rattle.world_book.proofs.WayLaws.{HasTable}
 use Rattle.world_book.proofs.WayLaws.{have_tables}
 
@@ -120,9 +122,15 @@ module _ {W S : Type 0} (by : Ghosts W Tables S Command) (w : W) (changes : Chan
       flush_needs by.table by.told by.needs_memory law t changes.kept tables_kept
       (subst (λ (l : List Journalled). AllByRecursion (λ held. held.ticket ≡ t → table_of held.command ≡ None) l) (sym held_commands_of) flush)
 
-  pub undo_free : ((saved : S) → by.table saved ≡ None → by.needs_memory saved ≡ false) → (t : ℕ) → last_of past.marks.done ≡ Some t → IsFlush past t →
-      (ticket : ℕ) × (last_of (done_of changes) ≡ Some ticket) × NeedsNone by.needs_memory changes.kept ticket
-  undo_free law t last flush = (t, ap last_of tied.done ∙ last, no_memory law t flush)
+  -- nor does the undo of a command that removed nothing
+  pub undo_needs_none : ((saved : S) → by.table saved ≡ None → by.needs_memory saved ≡ false) → (t : ℕ) → IsFlush past t ⊎ (undo_may_need by changes t ≡ false) → UndoNeedsNone by.needs_memory changes.kept t
+  undo_needs_none law t (inl flush) =
+      all_weaker (λ k. k.ticket ≡ t → by.needs_memory k.saved ≡ false) (λ k. k.ticket ≡ t → k.standing ≡ Done → by.needs_memory k.saved ≡ false) (λ k free own done. free own) changes.kept (no_memory law t flush)
+  undo_needs_none law t (inr none) = no_need by.needs_memory by.needs_memory_after changes.kept t none
+
+  pub undo_free : ((saved : S) → by.table saved ≡ None → by.needs_memory saved ≡ false) → (t : ℕ) → last_of past.marks.done ≡ Some t → IsFlush past t ⊎ (undo_may_need by changes t ≡ false) →
+      (ticket : ℕ) × (last_of (done_of changes) ≡ Some ticket) × UndoNeedsNone by.needs_memory changes.kept ticket
+  undo_free law t last free = (t, ap last_of tied.done ∙ last, undo_needs_none law t free)
 
   pub redo_free : ((saved : S) → by.table saved ≡ None → by.needs_memory saved ≡ false) → (t : ℕ) → last_of past.marks.undone ≡ Some t → IsFlush past t →
       (ticket : ℕ) × (last_of changes.undone ≡ Some ticket) × NeedsNone by.needs_memory changes.kept ticket

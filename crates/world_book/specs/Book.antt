@@ -1,5 +1,5 @@
 -- What a book keeps, and which histories it represents.
-use Rattle.std.specs.Prelude.{◌≡◌, ◌≤◌, ◌⊎◌, ℕ, Bool, List, [], length, count_by, refl, Result, IfErr, OnErr}
+use Rattle.std.specs.Prelude.{◌≡◌, ◌≤◌, ◌⊎◌, ℕ, Bool, true, List, [], length, count_by, refl, Result, IfErr, OnErr}
 use Rattle.std.specs.Coded.{Coded, code_by, coded×, coded_ℕ}
 use Rattle.change_law.specs.declared.world.World.{Ghosts}
 use Rattle.change_law.specs.Face.{Face, IsSame}
@@ -15,8 +15,9 @@ use Rattle.history.specs.declared.limits.TheConstants.{MOST_EVENTS}
 use Rattle.history.specs.Answers.{Follows, history_after}
 use Rattle.history.specs.Event.{is_admission}
 use Rattle.history.specs.History.{past_of}
+use Rattle.world_book.specs.Removals.{HasRemoved}
 use Rattle.world_book.specs.Step.{IsSound}
-use Rattle.world_book.specs.Tied.{IsTied}
+use Rattle.world_book.specs.Tied.{IsTied, undo_may_need}
 use Rattle.world_book.specs.Versions.{pairs_left}
 
 -- a world, the changes of its journal, the settings, the greatest moment and the count of events
@@ -40,7 +41,7 @@ pub record IsWell {W T S D : Type 0} (by : Ghosts W T S D) (book : BookState W S
   pub tickets : book.changes.tickets ≤ book.count
   pub count : book.count ≤ MOST_EVENTS
 
--- The book is in the state that the history gives.
+-- The book is in the state that the history gives. A command whose undo may need memory removed something when it was given.
 pub record IsBookOf {W S : Type 0} (by : Ghosts W Tables S Command) (book : BookState W S) (history : List Event) : Type 0 where
   pub tied : IsTied by book.world book.changes book.settings.journal (past_of book.settings.journal history)
   pub moment : book.moment ≡ (past_of book.settings.journal history).now
@@ -49,6 +50,7 @@ pub record IsBookOf {W S : Type 0} (by : Ghosts W Tables S Command) (book : Book
   pub pairs : CountsAmong by.counts (pairs_left history) book.world
   pub most : by.limit book.world ≡ book.settings.cells
   pub some_commands : 1 ≤ book.settings.journal
+  pub needs : (ticket : ℕ) → undo_may_need by book.changes ticket ≡ true → HasRemoved book.settings.journal history ticket
 
 -- A book took an event that changes nothing but the clock, or it was not timely. Nobody reads the reply.
 pub record IsPassed {W S A : Type 0} (by : Ghosts W Tables S Command) (book : BookState W S) (event : Event) (answer : Result A StepFault) (book' : BookState W S) : Type 0 where

@@ -9,6 +9,7 @@ use Rattle.ranked.specs.declared.find.Scope.{Scope}
 use Rattle.undo_journal.specs.declared.outcome.Outcome.{Outcome}
 use Rattle.undo_journal.specs.declared.outcome.Outcome.TheVariants as outcome
 use Rattle.undo_journal.specs.Journal.{Changes, NeedsNone, done_of, last_of}
+use Rattle.undo_journal.specs.Needs.{UndoNeedsNone}
 use Rattle.history.specs.declared.book.StepFault.{StepFault}
 use Rattle.history.specs.declared.book.StepFault.TheVariants.{Full, NoMemory}
 use Rattle.history.specs.declared.event.Event.{Event}
@@ -71,8 +72,8 @@ redo_told (outcome.Buried other) ticket = Buried other
 abbrev pub IsFree : {S : Type 0} → (S → Bool) → Changes S → Event → Type 0
 IsFree needs changes (Sweep moment) = Unit {0}
 IsFree needs changes (Forget moment owner) = Unit {0}
-IsFree needs changes (Undo moment) = (ticket : ℕ) × (last_of (done_of changes) ≡ Some ticket) × NeedsNone needs changes.kept ticket
+IsFree needs changes (Undo moment) = (ticket : ℕ) × (last_of (done_of changes) ≡ Some ticket) × UndoNeedsNone needs changes.kept ticket
 IsFree needs changes (Redo moment) = (ticket : ℕ) × (last_of changes.undone ≡ Some ticket) × NeedsNone needs changes.kept ticket
-IsFree needs changes (UndoOf moment ticket) = NeedsNone needs changes.kept ticket
+IsFree needs changes (UndoOf moment ticket) = UndoNeedsNone needs changes.kept ticket
 IsFree needs changes (RedoOf moment ticket) = NeedsNone needs changes.kept ticket
 IsFree needs changes event = ⊥

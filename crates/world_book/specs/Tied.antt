@@ -1,9 +1,10 @@
 -- What ties a world under its journal to a past.
-use Rattle.std.specs.Prelude.{◌≡◌, ℕ, ◌<◌, ◌≤◌, max, true, Option, Some, List, [], map, Result, IsOk}
+use Rattle.std.specs.Prelude.{◌≡◌, ◌⊎◌, ℕ, ◌<◌, ◌≤◌, max, Bool, true, false, Option, Some, List, [], map, Result, IsOk}
 use Rattle.std.specs.List.{AllByRecursion, Contains}
 use Rattle.change_law.specs.declared.world.World.{Ghosts}
 use Rattle.change_law.specs.Pairs.{AddsPairs}
 use Rattle.undo_journal.specs.Journal.{Changes, done_of, told_of}
+use Rattle.undo_journal.specs.Needs.{HaveNeeds, is_needy, needs_of}
 use Rattle.course.specs.Course.{AreAscending, Stands}
 use Rattle.history.specs.declared.event.Command.{Command}
 use Rattle.history.specs.declared.event.Event.{Event}
@@ -17,7 +18,8 @@ use Rattle.history.specs.History.{Past, followed_by}
 use Rattle.history.specs.Oldest.{IsOldest}
 use Rattle.history.specs.Reply.{reply_of}
 use Rattle.world_book.specs.Deeds.{deeds_of, given_in, given_tickets, empty_face}
-use Rattle.world_book.specs.Versions.{table_of, IsFreeIn}
+use Rattle.world_book.specs.Removals.{IsRemoval}
+use Rattle.world_book.specs.Versions.{table_of, IsFreeWhere}
 
 -- The kept changes are commands of the past, each with its ticket.
 pub record AreGiven {S : Type 0} (told : S → Command) (changes : Changes S) (past : Past) : Type 0 where
@@ -55,17 +57,32 @@ abbrev pub StaysTied : {W S : Type 0} → Ghosts W Tables S Command → ℕ → 
 StaysTied by clock world changes world' =
     (bound : ℕ) (past : Past) → clock ≡ past.now → IsTied by world changes bound past → IsTied by world' changes bound past
 
--- A fault took nothing in: the world and its journal come to the same histories, no ticket was given out, as many cells are stored, and no more pairs count.
+-- A fault took nothing in: the world and its journal come to the same histories, no ticket was given out, as many cells are stored, no more pairs count, and the undos need what they did.
 pub record TakesNothingIn {W S : Type 0} (by : Ghosts W Tables S Command) (world : W) (changes : Changes S) (world' : W) (changes' : Changes S) : Type 0 where
   pub tied : (bound : ℕ) (past : Past) → IsTied by world changes bound past → IsTied by world' changes' bound past
   pub tickets : changes'.tickets ≡ changes.tickets
   pub stored : by.stored world' ≡ by.stored world
   pub pairs : AddsPairs by.counts [] world world'
+  pub needs : HaveNeeds by.needs_memory by.needs_memory_after changes changes'
+
+-- whether the journal keeps a command of this ticket whose undo may need memory
+abbrev pub undo_may_need : {W S : Type 0} → Ghosts W Tables S Command → Changes S → ℕ → Bool
+undo_may_need by changes ticket = is_needy (needs_of by.needs_memory by.needs_memory_after changes.kept) ticket
+
+-- Where the undo of a command may need memory after an event, it might before it, or the event is that command and removed something.
+abbrev pub GainsNeeds : {W S : Type 0} → Ghosts W Tables S Command → Event → W → Changes S → Changes S → Type 0
+GainsNeeds by event world changes changes' =
+    (bound : ℕ) (past : Past) → IsTied by world changes bound past → (ticket : ℕ) → undo_may_need by changes' ticket ≡ true →
+    (undo_may_need by changes ticket ≡ true) ⊎ IsRemoval past event ticket
+
+-- An event that needs no memory, by what the undos of the kept commands need.
+abbrev pub IsFreeBy : {W S : Type 0} → Ghosts W Tables S Command → Changes S → Past → Event → Type 0
+IsFreeBy by changes past event = IsFreeWhere (λ ticket. undo_may_need by changes ticket ≡ false) past event
 
 -- Whatever history the world and its journal came to, the event is answered if it needs no memory. The clock is at the later of its last moment and the event's.
 abbrev pub IsTakenIfFree : {W S A E : Type 0} → Ghosts W Tables S Command → ℕ → Event → W → Changes S → Result A E → Type 0
 IsTakenIfFree by clock event world changes result =
-    (bound : ℕ) (past : Past) → clock ≡ max past.now (moment_of event) → IsTied by world changes bound past → IsFreeIn past event → IsOk result
+    (bound : ℕ) (past : Past) → clock ≡ max past.now (moment_of event) → IsTied by world changes bound past → IsFreeBy by changes past event → IsOk result
 
 -- If an event forgets the name to forget first at its moment, fewer cells are stored after it, whatever history the world and its journal came to.
 abbrev pub MakesRoom : {W S : Type 0} → Ghosts W Tables S Command → Event → W → Changes S → W → Type 0

@@ -1,5 +1,5 @@
 -- The versions of a history: the cells that it would give, if only some of the commands of its journal were in force. And the events that need no memory.
-use Rattle.std.specs.Prelude.{◌≡◌, ◌≢◌, ℕ, max, Bool, false, not, Option, Some, None, List, [], ◌∷◌, ◌++◌, filter, fold, map}
+use Rattle.std.specs.Prelude.{◌≡◌, ◌≢◌, ◌⊎◌, ℕ, max, Bool, false, not, Option, Some, None, List, [], ◌∷◌, ◌++◌, filter, fold, map}
 use Rattle.std.specs.List.{AllByRecursion}
 use Rattle.dns_name.specs.Labels.{Labels}
 use Rattle.dns_name.specs.Order.{name_eq}
@@ -63,16 +63,16 @@ AreAliveAfter bound history pairs = AllByRecursion (IsAliveInVersion (past_of bo
 abbrev pub IsFlush : Past → ℕ → Type 0
 IsFlush past ticket = AllByRecursion (λ held. held.ticket ≡ ticket → table_of held.command ≡ None) (commands_of past)
 
--- An event that needs no memory: a sweep, a forget, an undo or a redo that reaches or names a flush, and an admission whose pair is alive in some version. (A look and a command may need memory.)
-abbrev pub IsFreeIn : Past → Event → Type 0
-IsFreeIn past (Sweep moment) = Unit {0}
-IsFreeIn past (Forget moment owner) = Unit {0}
-IsFreeIn past (Undo moment) = (ticket : ℕ) × (last_of past.marks.done ≡ Some ticket) × IsFlush past ticket
-IsFreeIn past (Redo moment) = (ticket : ℕ) × (last_of past.marks.undone ≡ Some ticket) × IsFlush past ticket
-IsFreeIn past (UndoOf moment ticket) = IsFlush past ticket
-IsFreeIn past (RedoOf moment ticket) = IsFlush past ticket
-IsFreeIn past (Admit moment find) = IsAliveInVersion past (max past.now moment) (pair_of find)
-IsFreeIn past event = ⊥
+-- An event that needs no memory: a sweep, a forget, an undo or a redo that reaches or names a flush, an undo that reaches or names a ticket with a property, and an admission whose pair is alive in some version. (A look and a command may need memory.)
+abbrev pub IsFreeWhere : (ℕ → Type 0) → Past → Event → Type 0
+IsFreeWhere P past (Sweep moment) = Unit {0}
+IsFreeWhere P past (Forget moment owner) = Unit {0}
+IsFreeWhere P past (Undo moment) = (ticket : ℕ) × (last_of past.marks.done ≡ Some ticket) × (IsFlush past ticket ⊎ P ticket)
+IsFreeWhere P past (Redo moment) = (ticket : ℕ) × (last_of past.marks.undone ≡ Some ticket) × IsFlush past ticket
+IsFreeWhere P past (UndoOf moment ticket) = IsFlush past ticket ⊎ P ticket
+IsFreeWhere P past (RedoOf moment ticket) = IsFlush past ticket
+IsFreeWhere P past (Admit moment find) = IsAliveInVersion past (max past.now moment) (pair_of find)
+IsFreeWhere P past event = ⊥
 
 -- A forget of the name to forget first at its moment.
 abbrev pub ForgetsOldest : Past → Event → Type 0

@@ -106,7 +106,8 @@ impl<C: BookChange> Book for WorldBook<C> {
     ghost use Rattle.history.specs.Answers.{Answers, Follows, history_after};
     ghost use Rattle.history.specs.History.{past_of};
     ghost use Rattle.world_book.specs.Book.{IsBookOf};
-    ghost use Rattle.world_book.specs.Versions.{pairs_left, AreAliveAfter, ForgetsOldest, IsFreeIn};
+    ghost use Rattle.world_book.specs.Removals.{IsFreeAfter};
+    ghost use Rattle.world_book.specs.Versions.{pairs_left, AreAliveAfter, ForgetsOldest};
 
     ghost stands_for = { IsBookOf C.World.World };
 
@@ -136,7 +137,7 @@ impl<C: BookChange> Book for WorldBook<C> {
             self.old.settings.cells ≤ count_pairs (pairs_left h) }
 
         // An event that needs no memory is refused only by the clock and the count of events.
-        ensures free { (h : List Event) → IsBookOf C.World.World self.old h → IsFreeIn (past_of self.old.settings.journal h) event →
+        ensures free { (h : List Event) → IsBookOf C.World.World self.old h → IsFreeAfter self.old.settings.journal h event →
             IfErr result (λ fault. (fault ≡ StepFault.BadMoment) ⊎ (fault ≡ StepFault.CountEnded)) }
 
         // A forget of the name to forget first at its moment makes room: fewer cells are stored after it.
@@ -179,7 +180,7 @@ impl<C: BookChange> Book for WorldBook<C> {
         ensures settings { self.new.settings ≡ self.old.settings }
 
         // An event that needs no memory is refused only by the clock and the count of events.
-        ensures free { (h : List Event) → IsBookOf C.World.World self.old h → IsFreeIn (past_of self.old.settings.journal h) event →
+        ensures free { (h : List Event) → IsBookOf C.World.World self.old h → IsFreeAfter self.old.settings.journal h event →
             IfErr result (λ fault. (fault ≡ StepFault.BadMoment) ⊎ (fault ≡ StepFault.CountEnded)) }
     {
         match event {

@@ -5,7 +5,7 @@ ghost use Rattle.history.specs.declared.event.Event.TheVariants.{Do};
 ghost use Rattle.history.specs.declared.event.Reason.{Reason};
 ghost use Rattle.history.specs.declared.event.Settings.{Settings};
 ghost use Rattle.world_book.specs.Step.{IsSound, IsSoundAfter, code_of};
-ghost use Rattle.world_book.specs.Tied.{IsHistoryReply, TakesIn, TakesNothingIn};
+ghost use Rattle.world_book.specs.Tied.{GainsNeeds, IsHistoryReply, TakesIn, TakesNothingIn};
 
 use crate::world::BookChange;
 use change_law::ChangeFault;
@@ -28,6 +28,8 @@ pub(crate) fn give<C: BookChange>(
         TakesIn C.World.World clock (Do moment command) world.old journal.old world.new journal.new) }
     ensures same { OnErr result (TakesNothingIn C.World.World world.old journal.old world.new journal.new) }
     ensures sound { IsSoundAfter C.World.World 0 [] world.old journal.old world.new journal.new }
+    ensures needs { OnOk result ((moment : ℕ) →
+        GainsNeeds C.World.World (Do moment command) world.old journal.old journal.new) }
 {
     let _undone = journal.undone();
     let change = C::of(command)?;

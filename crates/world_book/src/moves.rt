@@ -4,6 +4,7 @@ ghost use Rattle.std.specs.Prelude.{◌≡◌, [], ℕ, IfOk, IsOk, OnOk, OnErr}
 ghost use Rattle.history.specs.declared.event.Event.TheVariants.{Undo, Redo, UndoOf, RedoOf};
 ghost use Rattle.history.specs.declared.event.Settings.{Settings};
 ghost use Rattle.history.specs.Reply.{reply_to_undo, reply_to_redo};
+ghost use Rattle.undo_journal.specs.Needs.{HaveNeeds};
 ghost use Rattle.world_book.specs.Step.{IsSound, IsSoundAfter, IsFree, redo_told, undo_told};
 ghost use Rattle.world_book.specs.Tied.{IsHistoryReply, TakesIn, TakesNothingIn};
 
@@ -25,6 +26,7 @@ pub(crate) fn undo<C: BookChange>(
     ensures same { OnErr result (TakesNothingIn C.World.World world.old journal.old world.new journal.new) }
     ensures free { (moment : ℕ) → IsFree C.World.needs_memory journal.old (Undo moment) → IsOk result }
     ensures sound { IsSoundAfter C.World.World 0 [] world.old journal.old world.new journal.new }
+    ensures needs { OnOk result (HaveNeeds C.World.needs_memory C.World.needs_memory_after journal.old journal.new) }
 {
     let ticket = journal.undo(world)?;
     Ok(reply_to_undo(ticket))
@@ -43,6 +45,7 @@ pub(crate) fn redo<C: BookChange>(
     ensures same { OnErr result (TakesNothingIn C.World.World world.old journal.old world.new journal.new) }
     ensures free { (moment : ℕ) → IsFree C.World.needs_memory journal.old (Redo moment) → IsOk result }
     ensures sound { IsSoundAfter C.World.World 0 [] world.old journal.old world.new journal.new }
+    ensures needs { OnOk result (HaveNeeds C.World.needs_memory C.World.needs_memory_after journal.old journal.new) }
 {
     let _undone = journal.undone();
     let ticket = journal.redo(world)?;
@@ -63,6 +66,7 @@ pub(crate) fn undo_of<C: BookChange>(
     ensures same { OnErr result (TakesNothingIn C.World.World world.old journal.old world.new journal.new) }
     ensures free { (moment : ℕ) → IsFree C.World.needs_memory journal.old (UndoOf moment ticket) → IsOk result }
     ensures sound { IsSoundAfter C.World.World 0 [] world.old journal.old world.new journal.new }
+    ensures needs { OnOk result (HaveNeeds C.World.needs_memory C.World.needs_memory_after journal.old journal.new) }
 {
     let _undone = journal.undone();
     let outcome = journal.undo_of(world, ticket)?;
@@ -83,6 +87,7 @@ pub(crate) fn redo_of<C: BookChange>(
     ensures same { OnErr result (TakesNothingIn C.World.World world.old journal.old world.new journal.new) }
     ensures free { (moment : ℕ) → IsFree C.World.needs_memory journal.old (RedoOf moment ticket) → IsOk result }
     ensures sound { IsSoundAfter C.World.World 0 [] world.old journal.old world.new journal.new }
+    ensures needs { OnOk result (HaveNeeds C.World.needs_memory C.World.needs_memory_after journal.old journal.new) }
 {
     let _undone = journal.undone();
     let outcome = journal.redo_of(world, ticket)?;

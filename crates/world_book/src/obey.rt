@@ -3,7 +3,7 @@
 ghost use Rattle.std.specs.Prelude.{◌<◌, ◌^◌, ◌∷◌, [], IfOk, IfErr, OnOk, OnErr, if◌then◌else◌};
 ghost use Rattle.history.specs.Event.{is_admission};
 ghost use Rattle.world_book.specs.Step.{ForgetsPairs, IsSound, IsSoundAfter, IsFaultOf};
-ghost use Rattle.world_book.specs.Tied.{IsHistoryReply, IsTakenIfFree, MakesRoom, TakesIn, TakesNothingIn};
+ghost use Rattle.world_book.specs.Tied.{GainsNeeds, IsHistoryReply, IsTakenIfFree, MakesRoom, TakesIn, TakesNothingIn};
 ghost use Rattle.world_book.specs.Versions.{pairs_left};
 
 use crate::finds::{admit, forget, sweep};
@@ -34,6 +34,7 @@ pub(crate) fn obey<C: BookChange>(
         world.old journal.old world.new journal.new }
     ensures forgotten { OnOk result (ForgetsPairs C.World.World event world.new
         × MakesRoom C.World.World event world.old journal.old world.new) }
+    ensures needs { OnOk result (GainsNeeds C.World.World event world.old journal.old journal.new) }
 {
     let _undone = journal.undone();
     match event {

@@ -13,6 +13,7 @@ ghost use Rattle.history.specs.Changes.{after_command_on, reason_on};
 ghost use Rattle.history.specs.Event.{covers};
 ghost use Rattle.change_law.specs.declared.kept.KeptChange.{KeptChange};
 ghost use Rattle.change_law.specs.Pairs.{CountsAmong, IsAliveIn, count_pairs, pair_of};
+ghost use Rattle.world_book.specs.Removals.{removes};
 ghost use Rattle.world_book.specs.Step.{code_of};
 ghost use Rattle.world_book.specs.Versions.{table_of};
 
@@ -59,5 +60,6 @@ pub trait BookChange: Change<World: BookWorld> {
         ensures empties { IfOk result (λ change. (q : Question) → Self.empties change q ≡ covers command q) }
         ensures reason { IfOk result (λ change. (t : Tables) → Self.reason change t ≡ option_map code_of (reason_on t command)) }
         ensures told { IfOk result (λ change. Self.told change ≡ command) }
-        ensures table { IfOk result (λ change. Self.table change ≡ table_of command) };
+        ensures table { IfOk result (λ change. Self.table change ≡ table_of command) }
+        ensures removes { IfOk result (λ change. (t : Tables) → Self.removes change t ≡ removes command t) };
 }

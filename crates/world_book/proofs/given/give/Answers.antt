@@ -1,9 +1,11 @@
 use Rattle.std.proofs.Common.{◌≡◌, ℕ, ◌+◌, None, ◌∙◌, sym, ap, subst}
 use Rattle.change_law.specs.declared.fault.ChangeFault.{ChangeFault}
 use Rattle.change_law.specs.Effect.{IsFaultFor}
+use Rattle.history.specs.declared.event.Event.TheVariants.{Do}
 use Rattle.history.specs.declared.event.Reply.TheVariants.{Done, Refused}
 use Rattle.history.specs.Reply.{reply_to_command}
 use Rattle.history.specs.History.{reason_of}
+use Rattle.world_book.proofs.NeedLaws.{keeps_needs, made_needs, needs_still}
 use Rattle.world_book.proofs.TiedLaws.{tied_made, tied_refused, tied_shows}
 use Rattle.world_book.proofs.ReplyLaws.{accepted, refused}
 use Rattle.world_book.proofs.given.give.Goals as goal
@@ -40,3 +42,17 @@ returns-in-Err-Refused-clause-tied g c = λ clock moment bound past is tied.
     (subst (λ (f : ChangeFault). IsFaultFor (g.C.Change.reason c.in_ok-change.change (g.C.World.World.shown c.args.world.now).tables) f) c.in-Err-Refused.field-0-is c.in-Err-Refused.ensures.err) in
     tied_refused g.C.World.World
     c.args.world.now c.apply.new.world c.args.journal.now c.apply.new.self bound moment c.args.command past why.0 why.1 c.in-Err-Refused.ensures.same.0.0 c.in-Err-Refused.ensures.same.1 tied
+
+pub returns-in-Ok-clause-needs : goal.returns-in-Ok-clause-needs
+returns-in-Ok-clause-needs g c = λ moment.
+    let change = c.in_ok-change.change in
+    made_needs g.C.World.World c.args.world.now c.args.journal.now c.apply.new.self moment c.args.command c.in-Ok.ticket (g.C.Change.removes change) c.in_ok-change.ensures.removes c.in-Ok.ensures.ticket.0.next
+    (λ bound past tied.
+    let shown = (tied_shows g.C.World.World g.met.C.World.World.shows c.args.world.now c.args.journal.now bound past c.undone-undone.ensures.sound tied) in
+    (accepted past (g.C.World.World.shown c.args.world.now) c.args.command (g.C.Change.reason change) c.in_ok-change.ensures.reason shown c.in-Ok.ensures.reason, shown.tables))
+    c.in-Ok.ensures.ticket.3
+
+pub returns-in-Err-Refused-clause-needs : goal.returns-in-Err-Refused-clause-needs
+returns-in-Err-Refused-clause-needs g c = λ moment.
+    keeps_needs g.C.World.World (Do moment c.args.command) c.args.world.now c.args.journal.now c.apply.new.self
+    (needs_still g.C.World.World.needs_memory g.C.World.World.needs_memory_after c.args.journal.now c.apply.new.self c.in-Err-Refused.ensures.same.1)

@@ -1,4 +1,4 @@
-use Rattle.std.proofs.Common.{◌≡◌, ◌≤◌, ℕ, ◌∙◌, sym, ap, subst, max, arith}
+use Rattle.std.proofs.Common.{◌≡◌, ◌≤◌, ℕ, ◌∙◌, refl, sym, ap, subst, max, arith}
 use Rattle.std.proofs.lemmas.Bool.{false≢true}
 use Rattle.history.specs.declared.event.Event.{Event}
 use Rattle.history.specs.declared.event.Reply.TheVariants.{Seen}
@@ -7,10 +7,11 @@ use Rattle.history.specs.Reply.{reply_of}
 use Rattle.change_law.specs.Pairs.{pair_of}
 use Rattle.history.specs.declared.event.Event.TheVariants.{Undo, Redo, UndoOf, RedoOf}
 use Rattle.world_book.specs.Step.{ForgetsPairs, IsFaultOf}
-use Rattle.world_book.specs.Versions.{IsAliveInVersion, IsFreeIn}
-use Rattle.world_book.specs.Tied.{IsHistoryReply, MakesRoom, TakesIn}
+use Rattle.world_book.specs.Versions.{IsAliveInVersion}
+use Rattle.world_book.specs.Tied.{GainsNeeds, IsFreeBy, IsHistoryReply, MakesRoom, TakesIn}
+use Rattle.world_book.proofs.NeedLaws.{keeps_needs}
 use Rattle.world_book.proofs.TiedLaws.{tied_look}
-use Rattle.world_book.proofs.VersionLaws.{alive_in_face, no_memory, redo_free, undo_free}
+use Rattle.world_book.proofs.VersionLaws.{alive_in_face, no_memory, redo_free, undo_free, undo_needs_none}
 use Rattle.world_book.proofs.obey.obey.Goals as goal
 
 pub returns-in-Ok-clause-told : goal.returns-in-Ok-clause-told
@@ -80,28 +81,28 @@ pub returns-in-Err-clause-free : goal.returns-in-Err-clause-free
 returns-in-Err-clause-free g c = λ bound past is tied free.
     let at : c.args.clock ≡ max past.now c.in-Admit.moment = is ∙ ap (λ (e : Event). max past.now (moment_of e)) c.in-Admit.is in
     let less : past.now ≤ c.args.clock = omega (arith, at) in
-    let given : IsAliveInVersion past (max past.now c.in-Admit.moment) (pair_of c.in-Admit.find) = subst (λ (e : Event). IsFreeIn past e) c.in-Admit.is free in
+    let given : IsAliveInVersion past (max past.now c.in-Admit.moment) (pair_of c.in-Admit.find) = subst (λ (e : Event). IsFreeBy g.C.World.World c.args.journal.now past e) c.in-Admit.is free in
     let alive : IsAliveInVersion past c.args.clock (pair_of c.in-Admit.find) = subst (λ (m : ℕ). IsAliveInVersion past m (pair_of c.in-Admit.find)) (sym at) given in
     absurd (false≢true (c.in-Err.ensures.free
     (alive_in_face g.C.World.World c.args.world.now c.args.journal.now bound past c.undone-undone.ensures.sound tied c.args.clock (pair_of c.in-Admit.find) less alive)))
 
 pub returns-in_err-undo-in-Undo-clause-free : goal.returns-in_err-undo-in-Undo-clause-free
 returns-in_err-undo-in-Undo-clause-free g c = λ bound past is tied free.
-    let flush : IsFreeIn past (Undo c.in-Undo.moment) = subst (λ (e : Event). IsFreeIn past e) c.in-Undo.is free in
+    let flush : IsFreeBy g.C.World.World c.args.journal.now past (Undo c.in-Undo.moment) = subst (λ (e : Event). IsFreeBy g.C.World.World c.args.journal.now past e) c.in-Undo.is free in
     absurd (false≢true (c.in_err-undo-in-Undo.ensures.free c.in-Undo.moment
     (undo_free g.C.World.World c.args.world.now c.args.journal.now bound past c.undone-undone.ensures.sound tied g.met.C.World.BookWorld.needs_none flush.0 flush.1 flush.2)))
 
 pub returns-in_err-redo-in-Redo-clause-free : goal.returns-in_err-redo-in-Redo-clause-free
 returns-in_err-redo-in-Redo-clause-free g c = λ bound past is tied free.
-    let flush : IsFreeIn past (Redo c.in-Redo.moment) = subst (λ (e : Event). IsFreeIn past e) c.in-Redo.is free in
+    let flush : IsFreeBy g.C.World.World c.args.journal.now past (Redo c.in-Redo.moment) = subst (λ (e : Event). IsFreeBy g.C.World.World c.args.journal.now past e) c.in-Redo.is free in
     absurd (false≢true (c.in_err-redo-in-Redo.ensures.free c.in-Redo.moment
     (redo_free g.C.World.World c.args.world.now c.args.journal.now bound past c.undone-undone.ensures.sound tied g.met.C.World.BookWorld.needs_none flush.0 flush.1 flush.2)))
 
 pub returns-in_err-seen-in-Look-clause-free : goal.returns-in_err-seen-in-Look-clause-free
-returns-in_err-seen-in-Look-clause-free g c = λ bound past is tied free. absurd (subst (λ (e : Event). IsFreeIn past e) c.in-Look.is free)
+returns-in_err-seen-in-Look-clause-free g c = λ bound past is tied free. absurd (subst (λ (e : Event). IsFreeBy g.C.World.World c.args.journal.now past e) c.in-Look.is free)
 
 pub returns-in_err-give-in-Do-clause-free : goal.returns-in_err-give-in-Do-clause-free
-returns-in_err-give-in-Do-clause-free g c = λ bound past is tied free. absurd (subst (λ (e : Event). IsFreeIn past e) c.in-Do.is free)
+returns-in_err-give-in-Do-clause-free g c = λ bound past is tied free. absurd (subst (λ (e : Event). IsFreeBy g.C.World.World c.args.journal.now past e) c.in-Do.is free)
 
 pub returns-in_ok-undo_of-in-UndoOf-clause-told : goal.returns-in_ok-undo_of-in-UndoOf-clause-told
 returns-in_ok-undo_of-in-UndoOf-clause-told g c =
@@ -114,9 +115,9 @@ returns-in_ok-undo_of-in-UndoOf-clause-tied g c =
 
 pub returns-in_err-undo_of-in-UndoOf-clause-free : goal.returns-in_err-undo_of-in-UndoOf-clause-free
 returns-in_err-undo_of-in-UndoOf-clause-free g c = λ bound past is tied free.
-    let flush : IsFreeIn past (UndoOf c.in-UndoOf.moment c.in-UndoOf.ticket) = subst (λ (e : Event). IsFreeIn past e) c.in-UndoOf.is free in
+    let flush : IsFreeBy g.C.World.World c.args.journal.now past (UndoOf c.in-UndoOf.moment c.in-UndoOf.ticket) = subst (λ (e : Event). IsFreeBy g.C.World.World c.args.journal.now past e) c.in-UndoOf.is free in
     absurd (false≢true (c.in_err-undo_of-in-UndoOf.ensures.free c.in-UndoOf.moment
-    (no_memory g.C.World.World c.args.world.now c.args.journal.now bound past c.undone-undone.ensures.sound tied g.met.C.World.BookWorld.needs_none c.in-UndoOf.ticket flush)))
+    (undo_needs_none g.C.World.World c.args.world.now c.args.journal.now bound past c.undone-undone.ensures.sound tied g.met.C.World.BookWorld.needs_none c.in-UndoOf.ticket flush)))
 
 pub returns-in_ok-redo_of-in-RedoOf-clause-told : goal.returns-in_ok-redo_of-in-RedoOf-clause-told
 returns-in_ok-redo_of-in-RedoOf-clause-told g c =
@@ -129,6 +130,36 @@ returns-in_ok-redo_of-in-RedoOf-clause-tied g c =
 
 pub returns-in_err-redo_of-in-RedoOf-clause-free : goal.returns-in_err-redo_of-in-RedoOf-clause-free
 returns-in_err-redo_of-in-RedoOf-clause-free g c = λ bound past is tied free.
-    let flush : IsFreeIn past (RedoOf c.in-RedoOf.moment c.in-RedoOf.ticket) = subst (λ (e : Event). IsFreeIn past e) c.in-RedoOf.is free in
+    let flush : IsFreeBy g.C.World.World c.args.journal.now past (RedoOf c.in-RedoOf.moment c.in-RedoOf.ticket) = subst (λ (e : Event). IsFreeBy g.C.World.World c.args.journal.now past e) c.in-RedoOf.is free in
     absurd (false≢true (c.in_err-redo_of-in-RedoOf.ensures.free c.in-RedoOf.moment
     (no_memory g.C.World.World c.args.world.now c.args.journal.now bound past c.undone-undone.ensures.sound tied g.met.C.World.BookWorld.needs_none c.in-RedoOf.ticket flush)))
+
+-- ---- what the undos need
+
+pub returns-in-Ok-clause-needs : goal.returns-in-Ok-clause-needs
+returns-in-Ok-clause-needs g c = keeps_needs g.C.World.World c.args.event c.args.world.now c.args.journal.now c.args.journal.now refl
+
+pub returns-in_ok-seen-in-Look-clause-needs : goal.returns-in_ok-seen-in-Look-clause-needs
+returns-in_ok-seen-in-Look-clause-needs g c = keeps_needs g.C.World.World c.args.event c.args.world.now c.args.journal.now c.args.journal.now refl
+
+pub returns-in-Sweep-clause-needs : goal.returns-in-Sweep-clause-needs
+returns-in-Sweep-clause-needs g c = keeps_needs g.C.World.World c.args.event c.args.world.now c.args.journal.now c.args.journal.now refl
+
+pub returns-in-Forget-clause-needs : goal.returns-in-Forget-clause-needs
+returns-in-Forget-clause-needs g c = keeps_needs g.C.World.World c.args.event c.args.world.now c.args.journal.now c.args.journal.now refl
+
+pub returns-in_ok-give-in-Do-clause-needs : goal.returns-in_ok-give-in-Do-clause-needs
+returns-in_ok-give-in-Do-clause-needs g c =
+    subst (λ (e : Event). GainsNeeds g.C.World.World e c.args.world.now c.args.journal.now c.give.new.journal) (sym c.in-Do.is) (c.in_ok-give-in-Do.ensures.needs c.in-Do.moment)
+
+pub returns-in_ok-undo-in-Undo-clause-needs : goal.returns-in_ok-undo-in-Undo-clause-needs
+returns-in_ok-undo-in-Undo-clause-needs g c = keeps_needs g.C.World.World c.args.event c.args.world.now c.args.journal.now c.undo.new.journal c.in_ok-undo-in-Undo.ensures.needs
+
+pub returns-in_ok-redo-in-Redo-clause-needs : goal.returns-in_ok-redo-in-Redo-clause-needs
+returns-in_ok-redo-in-Redo-clause-needs g c = keeps_needs g.C.World.World c.args.event c.args.world.now c.args.journal.now c.redo.new.journal c.in_ok-redo-in-Redo.ensures.needs
+
+pub returns-in_ok-undo_of-in-UndoOf-clause-needs : goal.returns-in_ok-undo_of-in-UndoOf-clause-needs
+returns-in_ok-undo_of-in-UndoOf-clause-needs g c = keeps_needs g.C.World.World c.args.event c.args.world.now c.args.journal.now c.undo_of.new.journal c.in_ok-undo_of-in-UndoOf.ensures.needs
+
+pub returns-in_ok-redo_of-in-RedoOf-clause-needs : goal.returns-in_ok-redo_of-in-RedoOf-clause-needs
+returns-in_ok-redo_of-in-RedoOf-clause-needs g c = keeps_needs g.C.World.World c.args.event c.args.world.now c.args.journal.now c.redo_of.new.journal c.in_ok-redo_of-in-RedoOf.ensures.needs

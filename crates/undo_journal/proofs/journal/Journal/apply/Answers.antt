@@ -4,7 +4,7 @@ use Rattle.change_law.specs.Choice.{cleared, IsPresent}
 use Rattle.change_law.specs.Effect.{effect}
 use Rattle.change_law.specs.Row.{IsRowAfter, same_face, where_chosen}
 use Rattle.undo_journal.specs.Journal.{Changes, in_effect, out_of_effect}
-use Rattle.undo_journal.proofs.RowLaws.{applied_changes, applied_whole, applied_choices, applied_told, is_next}
+use Rattle.undo_journal.proofs.AppliedLaws.{applied_changes, applied_whole, applied_choices, applied_needs, applied_told, is_next}
 use Rattle.undo_journal.proofs.journal.Journal.apply.Goals as goal
 
 pub returns-clause-ticket : goal.returns-clause-ticket
@@ -18,6 +18,8 @@ returns-clause-ticket g c =
       applied_changes table before c.self.invariant.0 c.in_ok-saved.saved c.clear.new.self c.forget.new.self c.keep.new.self shrunk c.forget.ensures.kept c.keep.ensures,
       applied_told table before c.self.invariant.0 c.in_ok-saved.saved g.C.World.World.told (g.C.Change.told c.args.change) c.in_ok-saved.ensures.kind.1 c.clear.new.self c.forget.new.self c.keep.new.self shrunk c.forget.ensures.kept kept,
       applied_told table before c.self.invariant.0 c.in_ok-saved.saved table (g.C.Change.table c.args.change) c.in_ok-saved.ensures.kind.0 c.clear.new.self c.forget.new.self c.keep.new.self shrunk c.forget.ensures.kept kept,
+      applied_needs table before c.self.invariant.0 c.in_ok-saved.saved g.C.World.World.needs_memory g.C.World.World.needs_memory_after (g.C.Change.removes c.args.change (g.C.World.World.shown c.args.world.now).tables)
+          c.in_ok-saved.ensures.frees c.clear.new.self c.forget.new.self c.keep.new.self shrunk c.forget.ensures.kept kept,
     ))
 
 pub returns-clause-row : goal.returns-clause-row

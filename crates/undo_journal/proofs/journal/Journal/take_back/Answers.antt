@@ -5,7 +5,7 @@ use Rattle.change_law.specs.declared.kept.Standing.TheVariants.{Done, Undone, Cl
 use Rattle.change_law.specs.Row.{IsRefused, any, kept_as, same_face}
 use Rattle.undo_journal.specs.Journal.{AreChanges, CanBeUndone, Changes}
 use Rattle.undo_journal.proofs.RingLaws.{Done≢Cleared, Undone≢Cleared, at_place, on_err}
-use Rattle.undo_journal.proofs.RowLaws.{choices_at, told_at}
+use Rattle.undo_journal.proofs.AppliedLaws.{choices_at, needs_back_at, told_at}
 use Rattle.undo_journal.proofs.PlaceLaws.{here_done, last_here, row_here, same_here, taken_are, taken_is, undone_fit}
 use Rattle.undo_journal.proofs.journal.Journal.take_back.Goals as goal
 
@@ -107,8 +107,10 @@ returns-clause-told g c =
     let at = at_place _ _ k there in
     let table = g.C.World.World.table in
     let can = subst (λ (x : Changes _). CanBeUndone table x.kept c.args.place) (sym c.self.view_is) c.requires.last in
+    let was = here_done table j.ring.items c.args.place k there at can in
     let same = c.in_ok-back-in-Some.ensures.kind.0 in
     rw (← c.self.view_is) ((
       told_at g.C.World.World.told j.ring.items c.args.place k (kept_as Undone k.ticket c.back.new.saved) at refl c.in_ok-back-in-Some.ensures.kind.1,
       told_at table j.ring.items c.args.place k (kept_as Undone k.ticket c.back.new.saved) at refl same,
+      needs_back_at g.C.World.World.needs_memory g.C.World.World.needs_memory_after j.ring.items c.args.place k c.back.new.saved at was.0 c.in_ok-back-in-Some.ensures.turned,
     ))

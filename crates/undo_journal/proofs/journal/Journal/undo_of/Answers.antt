@@ -3,7 +3,7 @@ use Rattle.std.specs.Prelude.{IfSome, filter, slice_get, option_map}
 use Rattle.std.proofs.lemmas.Bool.{false≢true}
 use Rattle.change_law.specs.declared.kept.KeptChange.{KeptChange}
 use Rattle.undo_journal.specs.Journal.{AreChanges, Changes, done_of, is_among, last_of, lies_on, tickets_of}
-use Rattle.undo_journal.proofs.ReachLaws.{absent_not_done, can_be_undone, done_among, needs_none_at, not_undone_done, undone_not_done}
+use Rattle.undo_journal.proofs.ReachLaws.{absent_not_done, can_be_undone, done_among, not_undone_done, undo_needs_none_at, undone_not_done}
 use Rattle.undo_journal.proofs.journal.Journal.undo_of.Goals as goal
 
 pub returns-then-contains-clause-outcome : goal.returns-then-contains-clause-outcome
@@ -27,9 +27,14 @@ take_back-requires-clause-last g c =
 
 pub returns-in_err-take_back-in-None-over-clause-free : goal.returns-in_err-take_back-in-None-over-clause-free
 returns-in_err-take_back-in-None-over-clause-free g c = λ none.
+    let kept = c.args.self.now.kept in
     let is = c.in-Some.ensures.some in
+    let are = subst (λ (x : Changes _). AreChanges g.C.World.World.table x) c.self.view_is c.self.invariant.0 in
+    let out : is_among c.args.self.now.undone c.args.ticket ≡ false
+    = subst (λ (x : Changes _). is_among x.undone c.args.ticket ≡ false) c.self.view_is (ap (λ l. is_among l c.args.ticket) (sym c.deref.ensures.value) ∙ (sym c.contains.ensures.value ∙ c.if-contains.false)) in
+    let done = not_undone_done c.args.self.now.undone kept c.in-Some.place c.args.ticket is.here are.standings is.there is.own out in
     absurd (false≢true (c.in_err-take_back-in-None-over.ensures.free
-    (needs_none_at g.C.World.World.needs_memory c.args.self.now.kept c.in-Some.place c.args.ticket none (ap (λ o. option_map (λ k. k.ticket) o) is.there ∙ ap (λ n. Some n) is.own))))
+    (undo_needs_none_at g.C.World.World.needs_memory kept c.in-Some.place c.args.ticket is.here none is.there is.own done)))
 
 pub returns-in-Some-over-clause-outcome : goal.returns-in-Some-over-clause-outcome
 returns-in-Some-over-clause-outcome g c =
