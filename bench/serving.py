@@ -93,7 +93,7 @@ def operator(who, place):
         with socket.create_connection((HOST, place)) as connection, connection.makefile("rb") as file:
             def obey(line):
                 connection.sendall(line.encode() + b"\n")
-                return expected(line, file.readline(), (b"ok ", b"undone ", b"redone "))
+                return expected(line, file.readline(), (b"ok ", b"undone ", b"redone ", b"swept"))
 
             yield obey
     else:
