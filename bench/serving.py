@@ -20,6 +20,9 @@ from lib.service import HOST, Service, free_port
 # The descriptors that unbound needs for its questions in flight. Each program gets as many, or as many as it may have.
 DESCRIPTORS = min(8_192, resource.getrlimit(resource.RLIMIT_NOFILE)[1])
 
+# The builds of the resolver: the one that is measured, and an earlier one.
+OURS = ("ours", "before")
+
 UNBOUND = """
 server:
   interface: 127.0.0.1
@@ -89,7 +92,7 @@ def cpu(pids):
 @contextlib.contextmanager
 def operator(who, place):
     """A function that gives a line to a program and returns the reply. Ours get all lines over one connection."""
-    if who == "ours":
+    if who in OURS:
         with socket.create_connection((HOST, place)) as connection, connection.makefile("rb") as file:
             def obey(line):
                 connection.sendall(line.encode() + b"\n")
@@ -116,11 +119,12 @@ def expected(line, told, starts):
 class Programs:
     """The programs that are measured, and those that measure."""
 
-    def __init__(self, folder, program):
-        self.folder, self.program = folder, program
+    def __init__(self, folder, program, before=None):
+        """`before` is an earlier build of the program, which is measured beside it."""
+        self.folder, self.builds = folder, {"ours": program, "before": before}
         self.ask_program, self.echo, self.late = (built(folder, name) for name in ("ask", "echo", "late"))
         self.unbound = shutil.which("unbound", path=os.environ.get("PATH", "") + ":/usr/sbin")
-        self.who = ["ours", "unbound", "echo"] if self.unbound else ["ours", "echo"]
+        self.who = [who for who, program in self.builds.items() if program] + (["unbound", "echo"] if self.unbound else ["echo"])
 
     def asking(self, port, sockets, each, names, prefix, seconds=60, most=0, pause=0):
         """A driver with `sockets` times `each` questions in flight, until its seconds are over or `most` were asked."""
@@ -143,10 +147,10 @@ class Programs:
     def serving(self, who, late, workers=1, options=(), more=""):
         """The port of a program that serves, its processes, and where it takes commands. `options` are for ours, `more` is for the
         configuration of unbound."""
-        if who == "ours":
+        if who in OURS:
             hint = f"{HOST}@{late}"
             given = ["--udp", str(workers), *options]
-            with Service([hint], *given, most_descriptors=DESCRIPTORS, program=self.program) as service:
+            with Service([hint], *given, most_descriptors=DESCRIPTORS, program=self.builds[who]) as service:
                 yield service.port, [service.process.pid], service.control_port
             return
         port = free_port()
@@ -218,9 +222,11 @@ def compare(bench, measures, count, others):
         print("unbound: not measured, it is not installed", file=sys.stderr)
     peers = [who for who in bench.who if who != "ours"]
     found = {name: [] for name, *_ in measures}
-    for _ in range(count):
+    for turn in range(count):
+        # Who goes first changes with each round.
+        order = bench.who if turn % 2 == 0 else bench.who[::-1]
         for name, _, part, measured, _ in measures:
-            found[name].append({who: measured(bench, who) for who in bench.who if part == "all" or who != "echo"})
+            found[name].append({who: measured(bench, who) for who in order if part == "all" or who != "echo"})
     print(f"{count} rounds on {os.cpu_count()} cores, load {os.getloadavg()[0]:.0f}; medians, and of ratios the least and greatest\n")
     print("| | ours | " + " | ".join(peers) + " | " + " | ".join(f"ours/{who}" for who in peers) + " | aim |")
     print("|---" * (3 + 2 * len(peers)) + "|")
