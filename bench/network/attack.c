@@ -27,7 +27,8 @@
 #include <sys/socket.h>
 #include <time.h>
 
-enum { EACH_SECOND = 1000, MOST_NAMES = 1 << 17, IN_FLIGHT = 1 << 16, ROOM = 4096, OWNERS = 64, PER_ZONE = 10, DAY = 86400 };
+// Each second has so many questions, of which some are asked at a time.
+enum { EACH_SECOND = 1000, AT_ONCE = 4, MOST_NAMES = 1 << 17, IN_FLIGHT = 1 << 16, ROOM = 4096, OWNERS = 64, PER_ZONE = 10, DAY = 86400 };
 #define PATIENCE 3.0
 
 // The address of each name.
@@ -155,7 +156,7 @@ static void deny(struct response *told, unsigned zone)
     if (zone)
         told->at = put16(told->at, 0xC000 | zone);
     else
-        *told->at++ = 0, told->start[3] = 3;
+        *told->at++ = 0, told->start[3] = told->start[12] ? 3 : 0;
     told->at = record(told->at, 6, DAY, 22);
     memset(told->at, 0, 22);
     put16(put16(told->at + 18, DAY >> 16), DAY & 0xFFFF);
@@ -329,9 +330,11 @@ static void tell(double time)
     for (int id = 0; id < IN_FLIGHT; id++)
         if (flight[id].sent != 0 && time - flight[id].sent > PATIENCE)
             flight[id].sent = 0, seen.lost++;
-    printf("{\"asked\": %ld, \"answered\": %ld, \"missed\": %ld, \"ideal\": %ld, \"asked_large\": %ld, \"missed_large\": %ld, \"ideal_large\": %ld, "
-           "\"failed\": %ld, \"lost\": %ld, \"hostile\": %ld, \"served\": %ld, \"others\": %ld, \"longest\": %.1f}\n",
-           seen.asked, seen.answered, seen.missed, seen.ideal, seen.asked_large, seen.missed_large, seen.ideal_large, seen.failed, seen.lost,
+    printf("{\"asked\": %ld, \"answered\": %ld, \"missed\": %ld, \"ideal\": %ld, "
+           "\"asked_large\": %ld, \"missed_large\": %ld, \"ideal_large\": %ld, \"failed\": %ld, \"lost\": %ld, "
+           "\"hostile\": %ld, \"served\": %ld, \"others\": %ld, \"longest\": %.1f}\n",
+           seen.asked, seen.answered, seen.missed, seen.ideal,
+           seen.asked_large, seen.missed_large, seen.ideal_large, seen.failed, seen.lost,
            seen.hostile, seen.served, seen.others, seen.longest * 1e3);
     fflush(stdout);
     memset(&seen, 0, sizeof seen);
@@ -374,7 +377,7 @@ int main(int count, char **words)
         // The last part has what is left, half a period at least.
         if (time >= next && time < began + seconds - period / 2)
             tell(time), next += period;
-        double left = began + (double)asked / EACH_SECOND - now();
+        double left = began + (asked + AT_ONCE - 1.0) / EACH_SECOND - now();
         struct timespec wait = {0, left > 0 ? (long)(left * 1e9) : 0};
         if (ppoll(socks, 3, &wait, NULL) <= 0)
             continue;
