@@ -12,7 +12,7 @@ from lib.programs import RESOLVER, TOP, read, run
 from lib.service import Service
 
 OPERATING = os.path.join(TOP, "docs/OPERATING.md")
-SCRIPTS = ("graph.py", "times.py")
+SCRIPTS = ("graph.py", "renumber.py", "times.py")
 # Files of specs/, and a word that each defines and no other file does.
 DEFINITIONS = [("crates/history/specs/Answers", "history_after"), ("crates/world_book/specs/Removals", "IsFreeAfter"), ("crates/shared_book/specs/Closing", "IsComplete")]
 MOST_OCTETS = 6_144
