@@ -35,6 +35,7 @@ pub use monotonic::{Elapsing, MonotonicClock};
 pub use name_servers::fitting::{MOST_MISFITS, fits};
 pub use name_servers::framed_reply::octets_wanting;
 pub use name_servers::heard::Heard;
+pub use name_servers::one_socket::OneSocket;
 pub use name_servers::place::place_of;
 pub use name_servers::range::AddressRange;
 pub use name_servers::ready_net::{ReadyConnection, ReadyNet, ReadySocket};

@@ -61,6 +61,13 @@ impl<'a, R> MonotonicClock<'a, R> {
             last: Duration::ZERO,
         }
     }
+
+    /// Its last moment: the milliseconds since the start, when it was read last.
+    pub fn last_millis(&self) -> u64
+        ensures { result ≡ millis_at self.now.last }
+    {
+        u64::try_from(self.last.as_millis()).unwrap_or(u64::MAX)
+    }
 }
 
 impl<'a, R: Elapsing> MonotonicClock<'a, R> {
@@ -81,7 +88,8 @@ impl<'a, R: Elapsing> MonotonicClock<'a, R> {
         ensures read { IsRead R.passed self.old self.new }
         ensures millis { result ≡ millis_at self.new.last }
     {
-        u64::try_from(self.moment().as_millis()).unwrap_or(u64::MAX)
+        let _ = self.moment();
+        self.last_millis()
     }
 }
 

@@ -16,6 +16,8 @@ pub mod timed;
 pub mod socket_exchange;
 // The network of name servers, where no call waits.
 pub mod ready_net;
+// The right to open one socket of it.
+pub mod one_socket;
 // The places that the service never asks: addresses that belong to no host, and its own.
 pub mod own;
 // A range of IP addresses.

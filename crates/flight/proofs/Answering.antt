@@ -5,7 +5,7 @@ use Rattle.dns_query.specs.declared.over.Over.{Over}
 use Rattle.dns_query.specs.declared.over.Over.TheVariants.{Udp, Tcp}
 use Rattle.dns_wire.specs.declared.server.query.Query.{Query}
 use Rattle.dns_wire.specs.declared.server.query.Asked.TheVariants.{Good}
-use Rattle.dns_wire.specs.Server.Asking.{AsksFor}
+use Rattle.dns_wire.specs.Server.Asking.{AsksFor, IsGood, good}
 use Rattle.iterate.specs.declared.answer.Answer.{Answer}
 use Rattle.iterate.specs.declared.answer.Answer.TheVariants.{Reply as Replies, Silent}
 use Rattle.front_workers.specs.Leads.{Calls, Ticks}
@@ -29,3 +29,7 @@ module _ {D C : Type 0} {calls : Calls D} {seen : D → ℕ} {hears : Hears} {ti
 pub header_fits : (over : Over) → 12 ≤ most_octets over
 header_fits Udp = omega arith
 header_fits Tcp = omega arith
+
+-- Octets that ask this query ask for an answer.
+pub is_good : {m : List ℕ} {query : Query} → AsksFor m (Good query) → IsGood m
+is_good (good {q = q} {after = after} standard question is of) = record { query = standard; q = q; after = after; question = question; answerable = is }

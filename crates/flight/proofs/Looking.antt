@@ -1,10 +1,11 @@
 -- How a question begins.
-use Rattle.std.proofs.Common.{◌≡◌, ℕ, List, [], ◌∷◌, Option, Some, MatchOption, refl, subst}
+use Rattle.std.proofs.Common.{◌≡◌, ℕ, List, [], ◌∷◌, Option, Some, None, MatchOption, ap, refl, subst}
 use Rattle.dns_text.specs.declared.record.Question.{Question}
 use Rattle.history.specs.declared.event.Ask.TheVariants.{Answer as Asked}
 use Rattle.history.specs.declared.event.Event.{Event}
 use Rattle.history.specs.declared.event.Event.TheVariants.{Look}
 use Rattle.iterate.specs.declared.answer.Answer.{Answer}
+use Rattle.iterate.specs.declared.answer.Answer.TheVariants.{Silent}
 use Rattle.iterate.specs.declared.want.Input.{Input}
 use Rattle.iterate.specs.declared.want.Input.TheVariants.{Begin}
 use Rattle.iterate.specs.declared.want.Step.{Step}
@@ -16,6 +17,7 @@ use Rattle.iterate.specs.Wanted.{id_drawn}
 use Rattle.rand_core.specs.Stream.{Stream}
 use Rattle.front_workers.specs.Leads.{Calls, Ticks, Draws}
 use Rattle.flight.specs.Asking.{HasLooked}
+use Rattle.flight.specs.FirstLook.{IsSilence}
 use Rattle.flight.specs.Flight.{Hears, Answered, Flies, begins, goes_on, Lands}
 use Rattle.flight.proofs.Flying.{suits}
 
@@ -49,6 +51,15 @@ module _ {D C : Type 0} {calls : Calls D} {seen : D → ℕ} {hears : Hears} {ti
       let log = exchange (Book (Look moment (Asked question))) came ∷ [] in
       subst (λ (a : Option Answer). MatchOption a (IsNoAnswer question came) (IsResolved port question log)) is (settles port moment log (record { adds = refl }) (suits looked.answered))
 
+  -- The look does not settle the question.
+  pub looked_unsettled : HasLooked calls seen hears ticks since question moment came n → (port : ℕ) (found : Option Answer) → found ≡ None
+      → ((port m : ℕ) (log : List Exchange) → Adds [] (exchange (Book (Look m (Asked question))) came) log → Suits (Book (Look m (Asked question))) came
+      → MatchOption found (IsNoAnswer question came) (IsResolved port question log))
+      → IsNoAnswer question came
+  looked_unsettled looked port found is settles =
+      let log = exchange (Book (Look moment (Asked question))) came ∷ [] in
+      subst (λ (a : Option Answer). MatchOption a (IsNoAnswer question came) (IsResolved port question log)) is (settles port moment log (record { adds = refl }) (suits looked.answered))
+
   -- A task may give the answer then.
   pub looked_lands : HasLooked calls seen hears ticks since question moment came n → (port : ℕ) (words : Stream) (answer : Answer)
       → IsResolved port question (exchange (Book (Look moment (Asked question))) came ∷ []) answer → Lands calls seen hears ticks since port question answer
@@ -72,3 +83,8 @@ module _ {D C : Type 0} {calls : Calls D} {seen : D → ℕ} {hears : Hears} {ti
           draws = draws;
         };
       }
+
+  -- A task may end in silence if the look shows it.
+  pub looked_silent : HasLooked calls seen hears ticks since question moment came n → (port : ℕ) (words : Stream) → IsSilence came → Lands calls seen hears ticks since port question Silent
+  looked_silent looked port words is =
+      looked_lands looked port words Silent (record { moment = moment; rest = []; begins = ap (λ (i : Input). exchange (Book (Look moment (Asked question))) i ∷ []) is })

@@ -1,15 +1,19 @@
 -- A client's question, for contracts inside the crate.
-use Rattle.std.specs.Prelude.{◌≡◌, ℕ, List}
+use Rattle.std.specs.Prelude.{◌≡◌, ℕ, List, Result, Ok, Err}
 use Rattle.dns_text.specs.declared.record.Question.{Question}
 use Rattle.dns_wire.specs.declared.server.query.Query.{Query}
 use Rattle.dns_wire.specs.declared.server.query.Asked.TheVariants.{Good}
 use Rattle.dns_wire.specs.Server.Asking.{AsksFor}
 use Rattle.iterate.specs.declared.task.State.{State}
 use Rattle.iterate.specs.declared.want.Input.{Input}
+use Rattle.iterate.specs.declared.want.Input.TheVariants.{Reply as Replied, Refused}
 use Rattle.iterate.specs.declared.want.Step.{Step}
 use Rattle.iterate.specs.declared.want.Want.TheVariants.{Book}
 use Rattle.history.specs.declared.event.Ask.TheVariants.{Answer as Asked}
+use Rattle.history.specs.declared.desk.DeskFault.{DeskFault}
+use Rattle.history.specs.declared.event.Event.{Event}
 use Rattle.history.specs.declared.event.Event.TheVariants.{Look}
+use Rattle.history.specs.declared.event.Reply.{Reply}
 use Rattle.front_workers.specs.Leads.{Calls, Ticks}
 use Rattle.flight.specs.declared.asking.Asking.{Asking}
 use Rattle.flight.specs.declared.outside.Listened.{Listened}
@@ -40,3 +44,12 @@ pub record HasHeard {D C : Type 0} (calls : Calls D) (seen : D → ℕ) (hears :
   pub query : Sent
   pub awaits : Awaits calls seen hears ticks since port question steps query n
   pub came : IsOutcome (hears query) heard
+
+-- what a question gets of a call of the desk
+abbrev pub input_of : Result Reply DeskFault → Input
+input_of (Ok reply) = Replied reply
+input_of (Err fault) = Refused fault
+
+-- The desk was called with an event, and this came of it.
+abbrev pub IsCalled : {D : Type 0} → Calls D → D → Event → Input → D → Type 0
+IsCalled calls desk event input desk' = (answer : Result Reply DeskFault) × calls desk event answer desk' × (input ≡ input_of answer)

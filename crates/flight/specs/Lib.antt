@@ -10,6 +10,7 @@ pub mod Bounds
 pub mod Places
 pub mod Leaving
 pub mod Clients
+pub mod FirstLook
 pub mod Queue
 pub mod Table
 pub mod Laws

@@ -2,6 +2,7 @@
 
 ghost use Rattle.std.specs.Prelude.{◌≡◌, ◌≤◌};
 ghost use Rattle.iterate.specs.declared.want.Want.{Want};
+ghost use Rattle.flight.specs.Asking.{IsCalled};
 ghost use Rattle.flight.specs.Flight.{Answered};
 
 use crate::line::InFlight;
@@ -29,6 +30,7 @@ pub(crate) fn ask<D: Numbered, L: InFlight>(desk: &mut D, seen: &mut u64, event:
     requires known { seen.old ≤ D.seen desk.old }
     ensures answered { Answered D.calls D.seen L.hears seen.old (Want.Book event) result seen.new }
     ensures known { seen.new ≡ D.seen desk.new }
+    ensures called { IsCalled D.calls desk.old event result desk.new }
 {
     let answer = desk.call(event);
     *seen = desk.seen();

@@ -1,22 +1,46 @@
 //! The beginning of a question: its first lookup, then its task.
 
-ghost use Rattle.std.specs.Prelude.{◌≡◌, ◌≤◌};
+ghost use Rattle.std.specs.Prelude.{◌≡◌, ◌↔◌, ◌≤◌, IsTrue};
 ghost use Rattle.dns_wire.specs.declared.server.query.Asked.TheVariants.{Good};
 ghost use Rattle.dns_wire.specs.Server.Asking.{AsksFor};
 ghost use Rattle.flight.specs.Asking.{origin_in, HasLooked, IsAskedBy};
 ghost use Rattle.flight.specs.Clients.{SettlesOrWaits};
 ghost use Rattle.flight.specs.Origin.{origin_of};
+ghost use Rattle.flight.specs.FirstLook.{HeedsFirstLook, HeedsInput, IsSilence};
 
 use crate::asking::{Asking, ask};
+use crate::cause::Cause;
 use crate::engine::Flight;
 use crate::line::InFlight;
 use crate::numbered::Numbered;
-use crate::outside::{Client, Outside, Unserved};
+use crate::outside::{Client, Outside};
 use crate::telling::tell;
 use command_text::Clock;
 use dns_wire::Query;
+use history::{Reply, Seen};
 use iterate::{Input, Task, first_look, resolved_law, settled};
+use local_zone::Local;
 use rand_core::Rng;
+
+/// Whether a local zone says that a question gets no reply.
+fn is_dropped(seen: &Seen) -> bool
+    ensures { IsTrue result ↔ (seen.now ≡ Seen.Local Local.Drop) }
+{
+    match seen {
+        Seen::Local(answer) => matches!(answer, Local::Drop),
+        _ => false,
+    }
+}
+
+/// Whether a lookup showed that.
+fn is_silence(input: &Input) -> bool
+    ensures { IsTrue result ↔ IsSilence input.now }
+{
+    match input {
+        Input::Reply(Reply::Seen(seen)) => is_dropped(seen),
+        _ => false,
+    }
+}
 
 impl<D: Numbered, L: InFlight, C: Clock, G: Rng, K: Client> Flight<D, L, C, G, K> {
     /// Begins a question anew, with a lookup and a task of its own. It grows no younger by it.
@@ -45,6 +69,7 @@ impl<D: Numbered, L: InFlight, C: Clock, G: Rng, K: Client> Flight<D, L, C, G, K
 
     /// Begins the question of a query by its first lookup. A cached or local answer settles it at once, without a task. The question
     /// counts as begun at `began`, in milliseconds.
+    #[tactic(auto, using(crate::proofs::Answering::is_good))]
     pub(crate) fn begin_query<O: Outside<D, L, C, K>>(
         &mut self,
         desk: &mut D,
@@ -57,23 +82,60 @@ impl<D: Numbered, L: InFlight, C: Clock, G: Rng, K: Client> Flight<D, L, C, G, K
     )
         requires own { K.sent client octets.now }
         requires good { AsksFor octets.now (Good query) }
-        ensures { SettlesOrWaits K.sent O.server_port O.counts O.outbox O.posts now client
+        ensures settles { SettlesOrWaits K.sent O.server_port O.counts O.outbox O.posts now client
             (λ origin. origin ≡ origin_of began query.question.owner (K.network client)) self.old outside.old self.new outside.new }
+        ensures heeds { HeedsFirstLook D.calls query.question
+            desk.old self.old (O.outbox outside.old) desk.new self.new (O.outbox outside.new) }
     {
-        resolved_law();
         if desk.seen() < client.since() {
-            outside.fail(client, octets, Unserved::Elsewhere);
+            let cause = Cause::behind(desk, &client);
+            outside.fail(client, octets, cause);
             drop(query);
             return;
         }
         let moment = self.clock.now();
         let Ok(look) = first_look(&query.question, moment) else {
-            outside.fail(client, octets, Unserved::NoMemory);
+            outside.fail(client, octets, Cause::no_memory());
             drop(query);
             return;
         };
         let mut seen = client.since();
         let came = ask::<D, L>(desk, &mut seen, look);
+        self.begin_looked(
+            desk, outside, now, client, octets, query, began, moment, came, seen,
+        );
+    }
+
+    /// Begins a question whose first lookup, at this moment, was replied to.
+    fn begin_looked<O: Outside<D, L, C, K>>(
+        &mut self,
+        desk: &mut D,
+        outside: &mut O,
+        now: u64,
+        client: K,
+        octets: &[u8],
+        query: Query,
+        began: u64,
+        moment: u64,
+        came: Input,
+        seen: u64,
+    )
+        requires own { K.sent client octets.now }
+        requires good { AsksFor octets.now (Good query) }
+        requires looked { HasLooked D.calls D.seen L.hears C.ticks (K.since client) query.question moment came seen }
+        requires known { seen ≤ D.seen desk.old }
+        ensures settles { SettlesOrWaits K.sent O.server_port O.counts O.outbox O.posts now client
+            (λ origin. origin ≡ origin_of began query.question.owner (K.network client)) self.old outside.old self.new outside.new }
+        ensures heeds { HeedsInput query.question came
+            desk.old self.old (O.outbox outside.old) desk.new self.new (O.outbox outside.new) }
+    {
+        resolved_law();
+        if is_silence(&came) {
+            outside.pass_over(client, octets);
+            drop(came);
+            drop(query);
+            return;
+        }
         match settled(self.alloc, &query.question, &came) {
             Ok(Some(answer)) => {
                 tell::<D, L, C, K, O>(self.alloc, outside, client, &query, octets, &answer);
@@ -88,7 +150,7 @@ impl<D: Numbered, L: InFlight, C: Clock, G: Rng, K: Client> Flight<D, L, C, G, K
                 );
             }
             Err(_) => {
-                outside.fail(client, octets, Unserved::NoMemory);
+                outside.fail(client, octets, Cause::no_memory());
                 drop(came);
                 drop(query);
             }
@@ -98,6 +160,7 @@ impl<D: Numbered, L: InFlight, C: Clock, G: Rng, K: Client> Flight<D, L, C, G, K
     /// Begins the task of a question that its first lookup, at this moment, did not settle. It is a function of its own
     /// because a task takes much of the stack.
     #[inline(never)]
+    #[tactic(auto, using(crate::proofs::Answering::is_good))]
     fn begin_task<O: Outside<D, L, C, K>>(
         &mut self,
         desk: &mut D,
@@ -120,11 +183,11 @@ impl<D: Numbered, L: InFlight, C: Clock, G: Rng, K: Client> Flight<D, L, C, G, K
     {
         let port = outside.server_port();
         let Ok(question) = query.question.clone() else {
-            outside.fail(client, octets, Unserved::NoMemory);
+            outside.fail(client, octets, Cause::no_memory());
             return;
         };
         let Ok(task) = Task::begun(self.alloc, question, port, moment) else {
-            outside.fail(client, octets, Unserved::NoMemory);
+            outside.fail(client, octets, Cause::no_memory());
             return;
         };
         let asking = Asking {

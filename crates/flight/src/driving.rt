@@ -11,12 +11,13 @@ ghost use Rattle.flight.specs.Waiting.{IsAccounted, WaitsFrom, outstanding};
 ghost use Rattle.iterate.specs.declared.want.Want.{Want};
 
 use crate::asking::{Asking, ask};
+use crate::cause::Cause;
 use crate::engine::Flight;
 use crate::job::Job;
 use crate::line::InFlight;
 use crate::numbered::Numbered;
-use crate::outside::{Client, Listened, Outside, Unserved};
-use crate::telling::{lack, refuse, tell};
+use crate::outside::{Client, Listened, Outside};
+use crate::telling::{refuse, tell};
 use command_text::Clock;
 use dns_text::Octets;
 use iterate::{Allowance, Input, Want, due_law};
@@ -85,7 +86,7 @@ impl<D: Numbered, L: InFlight, C: Clock, G: Rng, K: Client> Flight<D, L, C, G, K
             Listened::Nothing => Input::Failed,
             Listened::Broken => Input::Failed,
             Listened::NoMemory => {
-                lack::<D, L, C, K, O>(outside, asking, octets.as_slice());
+                refuse::<D, L, C, K, O>(outside, asking, octets.as_slice(), Cause::no_memory());
                 return;
             }
             Listened::Anew => {
@@ -94,15 +95,8 @@ impl<D: Numbered, L: InFlight, C: Clock, G: Rng, K: Client> Flight<D, L, C, G, K
             }
         };
         if desk.seen() < asking.seen || outside.server_port() != asking.port {
-            refuse::<D, L, C, K, O>(
-                outside,
-                desk,
-                &self.table,
-                now,
-                asking,
-                octets.as_slice(),
-                Unserved::Elsewhere,
-            );
+            let cause = Cause::elsewhere::<D, L, C, K, O>(desk, outside, &asking);
+            refuse::<D, L, C, K, O>(outside, asking, octets.as_slice(), cause);
             return;
         }
         self.drive(desk, outside, now, asking, octets.as_slice(), input);
@@ -132,7 +126,7 @@ impl<D: Numbered, L: InFlight, C: Clock, G: Rng, K: Client> Flight<D, L, C, G, K
         loop {
             let moment = self.clock.now();
             let Ok(want) = asking.task.step(moment, &mut self.ids, input) else {
-                lack::<D, L, C, K, O>(outside, asking, octets);
+                refuse::<D, L, C, K, O>(outside, asking, octets, Cause::no_memory());
                 return;
             };
             match want {
@@ -161,16 +155,8 @@ impl<D: Numbered, L: InFlight, C: Clock, G: Rng, K: Client> Flight<D, L, C, G, K
                 } => {
                     let room = match self.table.make_room(now, &asking, octets) {
                         Ok(room) => room,
-                        Err(why) => {
-                            refuse::<D, L, C, K, O>(
-                                outside,
-                                desk,
-                                &self.table,
-                                now,
-                                asking,
-                                octets,
-                                why,
-                            );
+                        Err(cause) => {
+                            refuse::<D, L, C, K, O>(outside, asking, octets, cause);
                             return;
                         }
                     };

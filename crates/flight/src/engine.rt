@@ -2,22 +2,26 @@
 
 ghost use Rattle.std.specs.Prelude.{◌≡◌, ◌⊎◌, ◌<◌, ◌≤◌, ◌+◌, [], ℕ, max, None, IfSome};
 ghost use Rattle.dns_wire.specs.declared.server.query.Asked.TheVariants.{Good};
+ghost use Rattle.dns_wire.specs.declared.server.query.Query.{Query};
+ghost use Rattle.dns_wire.specs.Server.Asking.{AsksFor};
 ghost use Rattle.front_workers.specs.Counts.{Rises};
 ghost use Rattle.flight.specs.Bounds.{AllGoOn, EachIsSmall, EndsLargest, Relieves, kept_all};
 ghost use Rattle.flight.specs.Clients.{LosesNone, SettlesOrWaits};
 ghost use Rattle.flight.specs.Origin.{IsOriginOf};
+ghost use Rattle.flight.specs.FirstLook.{HeedsFirstLook};
 ghost use Rattle.flight.specs.Waiting.{EarlyGoOn, IsPatient, IsPatientUntil, IsTimely, OthersGoOn, outstanding, since_at, time_left};
 
+use crate::cause::Cause;
 use crate::job::Job;
 use crate::kept::{MOST_ALL_KEPT, MOST_AT_REST};
 use crate::line::InFlight;
 use crate::numbered::Numbered;
-use crate::outside::{Client, Listened, Outside, Unserved};
+use crate::outside::{Client, Listened, Outside};
 use crate::reply::ReplyOctets;
 use crate::table::{PATIENCE, QUESTION_PATIENCE, Table};
 use crate::telling::{fault_of, give_up};
 use command_text::Clock;
-use dns_wire::{Asked, read_question};
+use dns_wire::{Asked, one_verdict, read_question};
 use rand_core::Rng;
 use std::alloc::Global;
 use std::marker::Model;
@@ -95,11 +99,16 @@ impl<D: Numbered, L: InFlight, C: Clock, G: Rng, K: Client> Flight<D, L, C, G, K
         octets: &[u8],
     )
         requires own { K.sent client octets.now }
-        ensures { SettlesOrWaits K.sent O.server_port O.counts O.outbox O.posts now client
+        ensures settles { SettlesOrWaits K.sent O.server_port O.counts O.outbox O.posts now client
             (IsOriginOf octets.now (max now self.old.latest) (K.network client)) self.old outside.old self.new outside.new }
+
+        // What the first lookup of its question settles is settled at once, and silence is kept.
+        ensures heeds { (query : Query) → AsksFor octets.now (Good query) → HeedsFirstLook D.calls query.question
+            desk.old self.old (O.outbox outside.old) desk.new self.new (O.outbox outside.new) }
     {
+        one_verdict();
         let Ok(asked) = read_question(self.alloc, octets) else {
-            outside.fail(client, octets, Unserved::NoMemory);
+            outside.fail(client, octets, Cause::no_memory());
             return;
         };
         match asked {
@@ -192,7 +201,7 @@ impl<D: Numbered, L: InFlight, C: Clock, G: Rng, K: Client> Flight<D, L, C, G, K
 
     /// Ends the question that keeps most.
     fn end_largest<O: Outside<D, L, C, K>>(&mut self, outside: &mut O)
-        requires { 0 < kept_all self.old }
+        requires { MOST_AT_REST < kept_all self.old }
         ensures largest { EndsLargest self.old self.new }
         ensures fewer { outstanding self.new + 1 ≡ outstanding self.old }
         ensures loses_none { (now : ℕ)
@@ -201,9 +210,10 @@ impl<D: Numbered, L: InFlight, C: Clock, G: Rng, K: Client> Flight<D, L, C, G, K
         ensures unexpired { (O.counts outside.new).expired ≡ (O.counts outside.old).expired }
     {
         let key = self.table.largest();
+        let cause = Cause::keeps_most(&self.table, key);
         let Some(job) = self.table.take(key) else {
             unreachable!()
         };
-        give_up::<D, L, C, K, O>(outside, job);
+        give_up::<D, L, C, K, O>(outside, job, cause);
     }
 }

@@ -14,6 +14,8 @@ mod counts;
 mod reply;
 // The clients of a worker, and its sockets.
 mod outside;
+// The cause of a SERVFAIL that is not the answer to the question.
+mod cause;
 // The zone of a question's name.
 mod zone;
 // A client's question and its task.
@@ -36,13 +38,14 @@ mod driving;
 // Laws of the definitions at a seat of a shared book.
 mod laws;
 
+pub use cause::{Cause, Unserved};
 pub use counts::Counts;
 pub use engine::Flight;
 pub use kept::{MOST_ALL_KEPT, MOST_AT_REST, MOST_KEPT, kept_law};
 pub use laws::{fall_law, later_law, rise_law};
 pub use line::InFlight;
 pub use numbered::Numbered;
-pub use outside::{Client, Listened, Outside, Unserved};
+pub use outside::{Client, Listened, Outside};
 pub use reply::ReplyOctets;
 pub use table::{PATIENCE, QUESTION_PATIENCE, limits_law};
 pub use zone::zone_octets;

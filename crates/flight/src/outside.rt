@@ -1,8 +1,7 @@
 //! The clients of a worker, and its sockets.
 
 ghost use Rattle.std.specs.Prelude.{◌≡◌, ◌≤◌, ℕ, List, None, Some, length, IfNone, IfSome, OnSome};
-ghost use Rattle.dns_wire.specs.declared.server.query.Asked.TheVariants.{Drop};
-ghost use Rattle.dns_wire.specs.Server.Asking.{AsksFor};
+ghost use Rattle.dns_wire.specs.Server.Asking.{IsGood};
 ghost use Rattle.dns_query.specs.declared.over.Over.{Over};
 ghost use Rattle.front_workers.specs.Serves.{fault_octets, most_octets};
 ghost use Rattle.flight.specs.declared.counts.Counts.{Counts};
@@ -11,6 +10,7 @@ ghost use Rattle.flight.specs.Counted.{CountsAbandoned, CountsExpired, CountsLis
 ghost use Rattle.flight.specs.Flight.{query_to};
 ghost use Rattle.flight.specs.Told.{octets_of, IsHeard, IsTold, IsUntold, Keeps};
 
+use crate::cause::Cause;
 use crate::line::InFlight;
 use crate::numbered::Numbered;
 use crate::reply::ReplyOctets;
@@ -61,21 +61,6 @@ pub enum Listened {
     NoMemory,
     /// Nothing was sent, for the exchange waited until others with an equal question ended. Its question is to begin anew.
     Anew,
-}
-
-/// The reason for a SERVFAIL that is not the answer to the question.
-#[derive(Clone, Copy, PartialEq, Eq)]
-pub enum Unserved {
-    /// There is no memory.
-    NoMemory,
-    /// No place is free for an exchange, or only places that other zones or other clients may take are.
-    TooMany,
-    /// The question may begin no further exchange: its time is up.
-    TooLong,
-    /// The question keeps too much in memory: more than one may, or most of all that wait, which keep more than they may.
-    TooLarge,
-    /// The desk or the port of name servers is not the one with which the question began.
-    Elsewhere,
 }
 
 /// The sockets of a worker: those by which replies leave, and those of exchanges.
@@ -156,11 +141,10 @@ pub trait Outside<D: Numbered, L: InFlight, C: Clock, K: Client> {
         requires short { length (octets_of reply) ≤ most_octets (K.over client) }
         ensures { Settles server_port counts outbox posts client (Some (octets_of reply)) self.old self.new };
 
-    /// Sends a client SERVFAIL (RFC 1035, section 4.1.1, RCODE 2), by the header alone.
-    fn fail(&mut self, client: K, octets: &[u8], why: Unserved)
+    /// Sends a client SERVFAIL (RFC 1035, section 4.1.1, RCODE 2), by the header alone. Octets with a fault of their own never get it.
+    fn fail(&mut self, client: K, octets: &[u8], cause: Cause)
         requires own { K.sent client octets.now }
-        requires header { 12 ≤ length octets.now }
-        requires owed { ¬ (AsksFor octets.now Drop) }
+        requires good { IsGood octets.now }
         ensures { Settles server_port counts outbox posts client (Some (fault_octets octets.now 2)) self.old self.new };
 
     /// Drops a client that is owed no reply.

@@ -1,6 +1,6 @@
 //! The questions that wait, and when each began to.
 
-ghost use Rattle.std.specs.Prelude.{◌≡◌, ◌≢◌, ◌⊎◌, ◌<◌, ◌≤◌, ◌+◌, ◌∷◌, ◌++◌, ◌↔◌, [], ℕ, map, max, None, Some};
+ghost use Rattle.std.specs.Prelude.{◌≡◌, ◌⊎◌, ◌<◌, ◌≤◌, ◌+◌, ◌∷◌, ◌++◌, ◌↔◌, [], ℕ, map, max, None, Some};
 ghost use Rattle.std.specs.Prelude.{IfErr, IfOk, IfSome, IsTrue, OnOk, OnSome};
 ghost use Rattle.slab.specs.Slab.{HasRoomFor, Updates, get, slab_len};
 ghost use Rattle.std.specs.VecDeque.{deque_capacity, deque_len};
@@ -11,14 +11,15 @@ ghost use Rattle.flight.specs.Queue.{IsFirstDue, IsQueue, is_queued};
 ghost use Rattle.flight.specs.Places.{HasPlace, IsAlone, MayBegin, asker_after};
 ghost use Rattle.flight.specs.Table.{AreInTime, CountsOneMore, FreesKey, OneMore};
 ghost use Rattle.flight.specs.Waiting.{UnderWay, since_in, time_left};
-ghost use Rattle.flight.specs.declared.outside.Unserved.TheVariants.{Elsewhere, TooLarge, TooLong, TooMany};
+ghost use Rattle.flight.specs.declared.cause.Unserved.TheVariants.{TooLarge, TooLong, TooMany};
 
 use crate::asking::Asking;
+use crate::cause::Cause;
 use crate::job::Job;
 use crate::kept::{MOST_ALL_KEPT, MOST_KEPT, kept_in};
 use crate::line::InFlight;
 use crate::numbered::Numbered;
-use crate::outside::{Client, Unserved};
+use crate::outside::Client;
 use command_text::Clock;
 use dns_text::Octets;
 use front_workers::PATIENCE_SECONDS;
@@ -176,16 +177,15 @@ impl<D: Numbered, L: InFlight, C: Clock, K: Client> Table<D, L, C, K> {
         now: u64,
         asking: &Asking<K>,
         octets: &[u8],
-    ) -> Result<Room, Unserved>
+    ) -> Result<Room, Cause>
         ensures room { OnOk result (HasRoomFor self.new.jobs 1) }
         ensures queue_room { OnOk result (deque_len self.new.waits < deque_capacity self.new.waits) }
         ensures may_begin { OnOk result (MayBegin (max now self.old.latest) (origin_in K.network asking.now) self.new.asker
             (kept_in asking.now.task.steps.items) self.old.jobs.slots self.old.limit) }
-        ensures refused { IfErr result (λ why. (why ≢ Elsewhere)
-            × (why ≡ TooMany → ¬ (HasPlace (max now self.old.latest) (origin_in K.network asking.now) self.new.asker
-            self.old.jobs.slots self.old.limit))
-            × (why ≡ TooLong → asking.now.began + LAST_BEGINNING < max now self.old.latest)
-            × (why ≡ TooLarge → KeepsTooMuch (kept_in asking.now.task.steps.items) self.old.jobs.slots)) }
+        ensures refused { IfErr result (λ cause. (cause.why ≡ TooMany
+            → ¬ (HasPlace (max now self.old.latest) (origin_in K.network asking.now) self.new.asker self.old.jobs.slots self.old.limit))
+            × (cause.why ≡ TooLong → asking.now.began + LAST_BEGINNING < max now self.old.latest)
+            × (cause.why ≡ TooLarge → KeepsTooMuch (kept_in asking.now.task.steps.items) self.old.jobs.slots)) }
         ensures takes { IfOk result (λ room. (room.octets ≡ octets.now) × (room.kept ≡ kept_in asking.now.task.steps.items)) }
         ensures jobs { self.new.jobs.slots ≡ self.old.jobs.slots }
         ensures waits { self.new.waits.items ≡ self.old.waits.items }
@@ -194,20 +194,20 @@ impl<D: Numbered, L: InFlight, C: Clock, K: Client> Table<D, L, C, K> {
     {
         self.note(now, asking);
         if self.since(now).saturating_sub(asking.began) > LAST_BEGINNING {
-            return Err(Unserved::TooLong);
+            return Err(Cause::too_long(self, now, asking));
         }
         if !self.has_place(now, asking) {
-            return Err(Unserved::TooMany);
+            return Err(Cause::too_many(self, now, asking));
         }
         let kept = kept_in(asking.task.steps());
         if !self.may_keep(kept) {
-            return Err(Unserved::TooLarge);
+            return Err(Cause::too_large(self, asking));
         }
         let Ok(copy) = Vec::from_slice(self.alloc, octets) else {
-            return Err(Unserved::NoMemory);
+            return Err(Cause::no_memory());
         };
         if self.waits.reserve(1).is_err() || self.jobs.reserve(1).is_err() {
-            return Err(Unserved::NoMemory);
+            return Err(Cause::no_memory());
         }
         Ok(Room {
             octets: Octets::new(copy),

@@ -1,29 +1,25 @@
 //! The reply to a client.
 
-ghost use Rattle.std.specs.Prelude.{◌≡◌, ◌≢◌, ◌⊎◌, ◌<◌, ◌+◌, List, Option, Some, length, max, ℕ};
+ghost use Rattle.std.specs.Prelude.{◌≡◌, ◌≢◌, List, Option, Some, length, ℕ};
 ghost use Rattle.dns_wire.specs.declared.server.query.Asked.TheVariants.{Fault, Good};
 ghost use Rattle.dns_wire.specs.Server.Asking.{AsksFor};
 ghost use Rattle.front_workers.specs.Serves.{fault_octets};
 ghost use Rattle.iterate.specs.declared.answer.Answer.TheVariants.{Silent};
 ghost use Rattle.iterate.specs.Told.{IsFit};
-ghost use Rattle.flight.specs.Asking.{origin_in, IsAskedBy};
-ghost use Rattle.flight.specs.Bounds.{KeepsTooMuch};
+ghost use Rattle.flight.specs.Asking.{IsAskedBy};
 ghost use Rattle.flight.specs.Clients.{Settles};
 ghost use Rattle.flight.specs.Flight.{Lands};
 ghost use Rattle.flight.specs.Leaving.{Ends};
 ghost use Rattle.flight.specs.Waiting.{IsAccounted};
-ghost use Rattle.flight.specs.Kept.{kept_in};
-ghost use Rattle.flight.specs.Places.{HasPlace};
 ghost use Rattle.flight.specs.Told.{IsGiven};
-ghost use Rattle.flight.specs.declared.outside.Unserved.TheVariants.{Elsewhere, TooLarge, TooLong, TooMany};
 
 use crate::asking::Asking;
+use crate::cause::Cause;
 use crate::job::Job;
 use crate::line::InFlight;
 use crate::numbered::Numbered;
-use crate::outside::{Client, Outside, Unserved};
+use crate::outside::{Client, Outside};
 use crate::reply::ReplyOctets;
-use crate::table::{LAST_BEGINNING, Table};
 use command_text::Clock;
 use dns_wire::{Query, Rcode, fault_reply};
 use front_workers::write_answer;
@@ -39,43 +35,24 @@ pub(crate) fn fault_of(octets: &[u8], rcode: Rcode) -> [u8; 12]
     fault_reply(octets, rcode).unwrap()
 }
 
-/// Sends a client SERVFAIL for want of memory.
-pub(crate) fn lack<D: Numbered, L: InFlight, C: Clock, K: Client, O: Outside<D, L, C, K>>(
-    outside: &mut O,
-    asking: Asking<K>,
-    octets: &[u8],
-)
-    requires asked { IsAskedBy K.sent asking.port octets.now asking.client asking.query asking.task }
-    ensures { Settles O.server_port O.counts O.outbox O.posts asking.client (Some (fault_octets octets.now 2)) outside.old outside.new }
-{
-    outside.fail(asking.client, octets, Unserved::NoMemory);
-}
-
-/// Sends a client SERVFAIL, for a cause that the table, the time, the desk or the outside shows. Only the want of memory shows nowhere.
+/// Sends a client SERVFAIL for a cause.
 pub(crate) fn refuse<D: Numbered, L: InFlight, C: Clock, K: Client, O: Outside<D, L, C, K>>(
     outside: &mut O,
-    desk: &D,
-    table: &Table<D, L, C, K>,
-    now: u64,
     asking: Asking<K>,
     octets: &[u8],
-    why: Unserved,
+    cause: Cause,
 )
     requires asked { IsAskedBy K.sent asking.port octets.now asking.client asking.query asking.task }
-    requires full { why ≡ TooMany → ¬ (HasPlace (max now table.now.latest) (origin_in K.network asking) table.now.asker
-        table.now.jobs.slots table.now.limit) }
-    requires late { why ≡ TooLong → asking.began + LAST_BEGINNING < max now table.now.latest }
-    requires large { why ≡ TooLarge → KeepsTooMuch (kept_in asking.task.steps.items) table.now.jobs.slots }
-    requires elsewhere { why ≡ Elsewhere → (D.seen desk.now < asking.seen) ⊎ (asking.port ≢ O.server_port outside.old) }
     ensures { Settles O.server_port O.counts O.outbox O.posts asking.client (Some (fault_octets octets.now 2)) outside.old outside.new }
 {
-    outside.fail(asking.client, octets, why);
+    outside.fail(asking.client, octets, cause);
 }
 
 /// Ends a question that waits, because it keeps too much in memory: its exchange ends, and its client gets SERVFAIL.
 pub(crate) fn give_up<D: Numbered, L: InFlight, C: Clock, K: Client, O: Outside<D, L, C, K>>(
     outside: &mut O,
     job: Job<D, L, C, K>,
+    cause: Cause,
 )
     ensures port { O.server_port outside.new ≡ O.server_port outside.old }
     ensures ends { Ends K.sent O.posts 0 1 (O.outbox outside.old) 0 (O.outbox outside.new) }
@@ -90,10 +67,11 @@ pub(crate) fn give_up<D: Numbered, L: InFlight, C: Clock, K: Client, O: Outside<
         ..
     } = job;
     outside.abandon(line);
-    outside.fail(asking.client, octets.as_slice(), Unserved::TooLarge);
+    outside.fail(asking.client, octets.as_slice(), cause);
 }
 
 /// Sends a client the answer to its question, which is no silence, or SERVFAIL if there is no memory to write it.
+#[tactic(auto, using(crate::proofs::Answering::is_good))]
 fn tell_reply<D: Numbered, L: InFlight, C: Clock, K: Client, O: Outside<D, L, C, K>>(
     alloc: Global,
     outside: &mut O,
@@ -115,7 +93,7 @@ fn tell_reply<D: Numbered, L: InFlight, C: Clock, K: Client, O: Outside<D, L, C,
     match write_answer(alloc, buffer, over, octets, query, answer) {
         Ok(Some(reply)) => outside.give(client, octets, ReplyOctets::Message(reply)),
         Ok(None) => outside.pass_over(client, octets),
-        Err(_) => outside.fail(client, octets, Unserved::NoMemory),
+        Err(_) => outside.fail(client, octets, Cause::no_memory()),
     }
 }
 

@@ -1,15 +1,16 @@
 -- How the counts of a worker go on.
-use Rattle.std.proofs.Common.{◌≡◌, ◌∙◌, ◌≤◌, ◌++◌, ℕ, ◌+◌, List, [], inl, inr, refl, subst, sym, arith}
+use Rattle.std.proofs.Common.{◌≡◌, ◌∙◌, ◌≤◌, ◌++◌, ℕ, ◌+◌, max, List, [], inl, inr, refl, subst, sym, arith}
 use Rattle.front_workers.specs.Counts.{Rises}
 use Rattle.front_workers.specs.Working.{HasFailed}
 use Rattle.flight.specs.declared.counts.Counts.{Counts}
 use Rattle.flight.specs.Bounds.{IsBounded}
 use Rattle.flight.specs.Counted.{NeverFall, IsFull}
-use Rattle.flight.specs.Waiting.{FlightState, IsAccounted, outstanding}
-use Rattle.flight_sockets.specs.Accounts.{WorkerState, Accounts, GoesOn}
+use Rattle.flight.specs.Origin.{Origin}
+use Rattle.flight.specs.Waiting.{FlightState, GoesOnOrBegins, IsAccounted, WaitsFrom, outstanding}
+use Rattle.flight_sockets.specs.Accounts.{WorkerState, Accounts, GoesOn, KeepsTime}
 use Rattle.flight_sockets.specs.Endings.{Endings}
 use Rattle.mio.specs.declared.event.event.Event.{Event}
-use Rattle.dns_sockets.specs.Moments.{ClockState}
+use Rattle.dns_sockets.specs.Moments.{ClockState, millis_at}
 use Rattle.flight_sockets.specs.Moves.{AllMoved, Datagram, Moves}
 use Rattle.flight_sockets.specs.Outgoing.{OutboxState, Posts}
 use Rattle.flight_sockets.proofs.Posting.{clients_then, endings_none, leaving_then, posts_none, posts_taken, posts_then}
@@ -49,6 +50,34 @@ accounted_on w w' w'' old mid new before after = record {
     | inr full ↦ inr (full_on mid new after.never_fall full)
   ];
 }
+
+-- Nothing begins while a clock may be read.
+pub time_on : (flight : FlightState) (old new : ClockState) → old.last ≤ new.last → KeepsTime old flight new flight
+time_on flight old new onward = record { onward = onward; latest = omega arith }
+
+-- Exchanges begin, one time after another.
+pub time_then : (a b c : FlightState) (old mid new : ClockState) → KeepsTime old a mid b → KeepsTime mid b new c → KeepsTime old a new c
+time_then a b c old mid new before after = record {
+  onward = omega (arith, before.onward, after.onward);
+  latest = omega (arith, before.latest, after.latest, after.onward);
+}
+
+-- The latest exchange is that before, or begins now.
+pub latest_begun : (now : ℕ) (of : Origin → Type 0) (old new : FlightState) → WaitsFrom now of old new → new.latest ≤ max now old.latest
+latest_begun now of old new waits = elim waits [
+  | inl same ↦ rw same (omega arith)
+  | inr begins ↦ omega (arith, begins.latest)
+]
+
+pub latest_on : (now : ℕ) (old new : FlightState) → GoesOnOrBegins now old new → new.latest ≤ max now old.latest
+latest_on now old new on = elim on.latest [
+  | inl same ↦ omega (arith, same)
+  | inr begun ↦ omega (arith, begun)
+]
+
+-- What begins at the clock's last moment, at most, is in time.
+pub time_at : (now : ℕ) (a b : FlightState) (clock : ClockState) → now ≤ millis_at clock.last → b.latest ≤ max now a.latest → KeepsTime clock a clock b
+time_at now a b clock read latest = record { onward = omega arith; latest = omega (arith, read, latest) }
 
 -- the visible state of a worker, by its parts
 abbrev pub worker_of : {S : Type 0} → ℕ → ℕ → ℕ → OutboxState S → Counts → ClockState → List Event → WorkerState S
@@ -90,6 +119,7 @@ module _ {S : Type 0} {takes sends : Moves S} where
     bounded = λ few. after.bounded (before.bounded few);
     limit = after.limit ∙ before.limit;
     failures = after.failures ∙ before.failures;
+    time = time_then a b c old.clock mid.clock new.clock before.time after.time;
   }
 
   -- A query that was taken begins.
@@ -134,30 +164,33 @@ module _ {S : Type 0} {takes sends : Moves S} where
 
   -- No query is taken, no exchange more is under way, and no turn fails.
   pub looked_on : (a b : FlightState) (old new : WorkerState S) → new.taken ≡ old.taken → IsAccounted 0 (outstanding a) old.counts (outstanding b) new.counts
-      → Endings takes sends 0 (outstanding a) old.outbox (outstanding b) new.outbox → outstanding b ≤ outstanding a → (IsBounded a → IsBounded b) → b.limit ≡ a.limit → new.failures ≡ old.failures → GoesOn takes sends a old b new
-  looked_on a b old new same accounted ends no_more bounded limit failures = record {
+      → Endings takes sends 0 (outstanding a) old.outbox (outstanding b) new.outbox → outstanding b ≤ outstanding a → (IsBounded a → IsBounded b) → b.limit ≡ a.limit → new.failures ≡ old.failures
+      → KeepsTime old.clock a new.clock b → GoesOn takes sends a old b new
+  looked_on a b old new same accounted ends no_more bounded limit failures time = record {
     accounts = went_on _ _ old new same accounted ends;
     within = λ few. omega (arith, few, no_more);
     bounded = bounded;
     limit = limit;
     failures = failures;
+    time = time;
   }
 
   -- Nothing goes on, but what waits may leave, or a datagram is refused.
   pub stayed : (flight : FlightState) (old new : WorkerState S) → Endings takes sends 0 (outstanding flight) old.outbox (outstanding flight) new.outbox
-      → new.taken ≡ old.taken → new.counts ≡ old.counts → new.failures ≡ old.failures → GoesOn takes sends flight old flight new
-  stayed flight old new ends taken counts failures = record {
+      → new.taken ≡ old.taken → new.counts ≡ old.counts → new.failures ≡ old.failures → old.clock.last ≤ new.clock.last → GoesOn takes sends flight old flight new
+  stayed flight old new ends taken counts failures onward = record {
     accounts = went_on _ _ old new taken (rw counts (same_counts (outstanding flight) old.counts)) ends;
     within = λ few. few;
     bounded = λ few. few;
     limit = refl;
     failures = failures;
+    time = time_on flight old.clock new.clock onward;
   }
 
   -- Datagrams are taken, and nothing else happens.
   pub received : (flight : FlightState) (old new : WorkerState S) (list : List Datagram) → AllMoved takes list old.outbox.socket new.outbox.socket → new.outbox.waiting ≡ old.outbox.waiting
-      → new.taken ≡ old.taken → new.counts ≡ old.counts → new.failures ≡ old.failures → GoesOn takes sends flight old flight new
-  received flight old new list went waiting taken counts failures =
+      → new.taken ≡ old.taken → new.counts ≡ old.counts → new.failures ≡ old.failures → old.clock.last ≤ new.clock.last → GoesOn takes sends flight old flight new
+  received flight old new list went waiting taken counts failures onward =
       let same : IsAccounted 0 (outstanding flight) old.counts (outstanding flight) new.counts = rw counts (same_counts (outstanding flight) old.counts) in
       record {
         accounts = record {
@@ -176,6 +209,7 @@ module _ {S : Type 0} {takes sends : Moves S} where
         bounded = λ few. few;
         limit = refl;
         failures = failures;
+        time = time_on flight old.clock new.clock onward;
       }
 
   -- A failure changes nothing of it.

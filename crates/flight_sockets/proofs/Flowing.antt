@@ -1,19 +1,19 @@
 -- How a worker that takes messages by connections goes on.
-use Rattle.std.proofs.Common.{◌≡◌, ◌∙◌, ◌≤◌, ◌+◌, ℕ, List, [], ◌∷◌, ap, inl, inr, refl, subst, sym, arith}
+use Rattle.std.proofs.Common.{◌≡◌, ◌∙◌, ◌≤◌, ℕ, List, [], ◌∷◌, ap, inl, inr, refl, subst, sym, arith}
 use Rattle.mio.specs.declared.event.event.Event.{Event}
 use Rattle.dns_sockets.specs.Moments.{ClockState}
 use Rattle.front_workers.specs.Counts.{Rises}
 use Rattle.front_workers.specs.Framing.{HasLength}
 use Rattle.flight.specs.declared.counts.Counts.{Counts}
 use Rattle.flight.specs.Bounds.{IsBounded}
-use Rattle.flight.specs.Counted.{IsFull, NeverFall}
 use Rattle.flight.specs.Leaving.{Ends}
 use Rattle.flight.specs.Waiting.{FlightState, IsAccounted, outstanding}
 use Rattle.flight_sockets.specs.declared.tcp.client.TcpClient.{TcpClient}
 use Rattle.flight_sockets.specs.Connections.{ConnectionsState, ServesOne, Tends}
 use Rattle.flight_sockets.specs.Passages.{Passes}
 use Rattle.flight_sockets.specs.Streaming.{AreAccounted, BeginsClient, IsMessageOf, MessageBegins, OwesTo, StreamGoesOn, StreamRuns, StreamWorker, begins, settles, stays, tends}
-use Rattle.flight_sockets.proofs.Accounting.{full_on, none_fell}
+use Rattle.flight_sockets.specs.Accounts.{KeepsTime}
+use Rattle.flight_sockets.proofs.Accounting.{full_on, none_fell, time_on, time_then}
 
 -- the visible state of a worker, by its parts
 abbrev pub stream_of : {S : Type 0} → ℕ → ℕ → ℕ → ConnectionsState S → Counts → ClockState → List Event → StreamWorker S
@@ -79,12 +79,13 @@ module _ {S : Type 0} {reads writes : Passes S} {drained : Type 0} where
     bounded = λ few. after.bounded (before.bounded few);
     limit = after.limit ∙ before.limit;
     failures = after.failures ∙ before.failures;
+    time = time_then a b c old.clock mid.clock new.clock before.time after.time;
   }
 
   -- Connections begin, go on and end.
   pub streams_tend : (flight : FlightState) (old new : StreamWorker S) → Tends reads writes old.connections new.connections → new.taken ≡ old.taken → new.counts ≡ old.counts → new.failures ≡ old.failures
-      → StreamGoesOn reads writes drained flight old flight new
-  streams_tend flight old new went taken counts failures = record {
+      → old.clock.last ≤ new.clock.last → StreamGoesOn reads writes drained flight old flight new
+  streams_tend flight old new went taken counts failures onward = record {
     runs = tends stays went taken;
     accounts = accounts_on _ _ _ _ old.counts new.counts taken (rw counts (record {
       never_fall = record { settled = omega arith; opened = omega arith; ended = omega arith; listened = omega arith; expired = omega arith };
@@ -94,25 +95,27 @@ module _ {S : Type 0} {reads writes : Passes S} {drained : Type 0} where
     bounded = λ few. few;
     limit = refl;
     failures = failures;
+    time = time_on flight old.clock new.clock onward;
   }
 
   -- Clients that wait are settled, or wait on.
   pub streams_settle : (a b : FlightState) (old new : StreamWorker S) → Ends IsMessageOf (OwesTo reads writes drained) 0 (outstanding a) old.connections (outstanding b) new.connections
       → IsAccounted 0 (outstanding a) old.counts (outstanding b) new.counts → outstanding b ≤ outstanding a → (IsBounded a → IsBounded b) → b.limit ≡ a.limit
-      → new.taken ≡ old.taken → new.failures ≡ old.failures → StreamGoesOn reads writes drained a old b new
-  streams_settle a b old new ends accounted no_more bounded limit taken failures = record {
+      → new.taken ≡ old.taken → new.failures ≡ old.failures → KeepsTime old.clock a new.clock b → StreamGoesOn reads writes drained a old b new
+  streams_settle a b old new ends accounted no_more bounded limit taken failures time = record {
     runs = settles stays ends taken;
     accounts = accounts_on _ _ _ _ old.counts new.counts taken accounted;
     within = λ few. omega (arith, few, no_more);
     bounded = bounded;
     limit = limit;
     failures = failures;
+    time = time;
   }
 
   -- A message came, and began.
-  pub streams_begin : (a b : FlightState) (old mid new : StreamWorker S) → mid.taken ≡ old.taken → mid.counts ≡ old.counts → mid.failures ≡ old.failures
+  pub streams_begin : (a b : FlightState) (old mid new : StreamWorker S) → mid.taken ≡ old.taken → mid.counts ≡ old.counts → mid.failures ≡ old.failures → mid.clock ≡ old.clock
       → (one : MessageBegins reads writes drained a old b new) → one.mid ≡ mid → StreamGoesOn reads writes drained a old b new
-  streams_begin a b old mid new taken counts failures one is =
+  streams_begin a b old mid new taken counts failures clock one is =
       let begun = rw is at one.begins in
       record {
         runs = begins stays one;
@@ -121,6 +124,7 @@ module _ {S : Type 0} {reads writes : Passes S} {drained : Type 0} where
         bounded = begun.bounded;
         limit = begun.limit;
         failures = begun.failures ∙ failures;
+        time = rw clock at begun.time;
       }
 
 -- All but the connections is as it was, and is so on.
@@ -132,6 +136,7 @@ pub streams_kept : {S : Type 0} {reads writes : Passes S} {drained : Type 0} (fl
     → new ≡ record old { connections = new.connections } → StreamGoesOn reads writes drained flight old flight new
 streams_kept flight old new went kept =
     streams_tend flight old new went (ap (λ (worker : StreamWorker _). worker.taken) kept) (ap (λ (worker : StreamWorker _). worker.counts) kept) (ap (λ (worker : StreamWorker _). worker.failures) kept)
+    (omega (arith, ap (λ (worker : StreamWorker _). worker.clock.last) kept))
 
 -- A message came by a connection, and the client that is made of it begins.
 pub message_begins : {S : Type 0} {reads writes : Passes S} {drained : Type 0} (client : TcpClient S) (key serial network : ℕ) (message : List ℕ) (a b : FlightState) (old mid new : StreamWorker S)

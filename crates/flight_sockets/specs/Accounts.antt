@@ -1,8 +1,8 @@
 -- The balance of a worker's clients and exchanges.
-use Rattle.std.specs.Prelude.{◌≡◌, ◌⊎◌, ◌≤◌, ℕ, ◌+◌, ◌-◌, ◌^◌, [], List}
+use Rattle.std.specs.Prelude.{◌≡◌, ◌⊎◌, ◌≤◌, ℕ, ◌+◌, ◌-◌, ◌^◌, max, [], List}
 use Rattle.std.specs.declared.time.Instant.{Instant}
 use Rattle.mio.specs.declared.event.event.Event.{Event}
-use Rattle.dns_sockets.specs.Moments.{ClockState}
+use Rattle.dns_sockets.specs.Moments.{ClockState, millis_at}
 use Rattle.flight.specs.declared.counts.Counts.{Counts}
 use Rattle.flight.specs.Bounds.{IsBounded}
 use Rattle.flight.specs.Counted.{NeverFall, IsFull, no_counts}
@@ -40,10 +40,16 @@ pub record Accounts {S : Type 0} (takes sends : Moves S) (waiting : ℕ) (old : 
   pub never_fall : NeverFall old.counts new.counts
   pub add_up : AllAddUp waiting old waiting' new ⊎ (IsFull new.counts ⊎ (2 ^ 64 - 1 ≤ new.taken))
 
--- A worker went on with its questions in flight: each is accounted for, the limit of exchanges is kept, what they keep stays within its bound, and no turn failed.
+-- A clock does not go back. No exchange begins later than its last moment, or than the latest one before.
+pub record KeepsTime (old : ClockState) (flight : FlightState) (new : ClockState) (flight' : FlightState) : Type 0 where
+  pub onward : old.last ≤ new.last
+  pub latest : flight'.latest ≤ max (millis_at new.last) flight.latest
+
+-- A worker went on with its questions in flight: each is accounted for, the limit of exchanges is kept, what they keep stays within its bound, no turn failed, and exchanges begin at moments that its clock read.
 pub record GoesOn {S : Type 0} (takes sends : Moves S) (flight : FlightState) (old : WorkerState S) (flight' : FlightState) (new : WorkerState S) : Type 0 where
   pub accounts : Accounts takes sends (outstanding flight) old (outstanding flight') new
   pub within : outstanding flight ≤ flight.limit → outstanding flight' ≤ flight.limit
   pub bounded : IsBounded flight → IsBounded flight'
   pub limit : flight'.limit ≡ flight.limit
   pub failures : new.failures ≡ old.failures
+  pub time : KeepsTime old.clock flight new.clock flight'

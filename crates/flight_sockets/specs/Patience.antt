@@ -9,6 +9,7 @@ use Rattle.flight.specs.Bounds.{kept_all}
 use Rattle.flight.specs.Waiting.{FlightState, IsPatient, IsTimely}
 use Rattle.flight_sockets.specs.Accounts.{WorkerState}
 use Rattle.flight_sockets.specs.Begun.{Runs}
+use Rattle.flight_sockets.specs.Looked.{LooksAtAll}
 use Rattle.flight_sockets.specs.Moves.{Moves}
 
 -- the nanoseconds until the time of an exchange is up that has so many milliseconds left, but no more than so many
@@ -25,7 +26,7 @@ pub data AreRead (passed : Instant → Option Duration → Type 0) (old : ClockS
 abbrev pub IsReadOn : (Instant → Option Duration → Type 0) → ClockState → ClockState → Type 0
 IsReadOn passed old new = (mid : ClockState) × AreRead passed old mid × IsRead passed mid new
 
--- In a turn the clock was read, and each exchange whose time was up by that reading had ended. So had each question whose time was up. Then those that waited kept no more than they may at rest.
+-- In a turn the clock was read, and each exchange that the poll had reported was listened to, and each whose time was up by that reading had ended. So had each question whose time was up. Then those that waited kept no more than they may at rest.
 pub record EndsOverdue {S : Type 0} (passed : Instant → Option Duration → Type 0) (takes sends : Moves S) (flight : FlightState) (old : WorkerState S) (flight' : FlightState) (new : WorkerState S) : Type 0 where
   pub between : FlightState
   pub mid : WorkerState S
@@ -34,4 +35,6 @@ pub record EndsOverdue {S : Type 0} (passed : Instant → Option Duration → Ty
   pub patient : IsPatient PATIENCE (millis_at mid.clock.last) between
   pub timely : IsTimely QUESTION_PATIENCE (millis_at mid.clock.last) between
   pub relieved : kept_all between ≤ MOST_AT_REST
+  pub looks : LooksAtAll new.reported (millis_at mid.clock.last) flight old.counts between mid.counts
+  pub listened : mid.counts.listened ≤ new.counts.listened
   pub after : Runs takes sends between mid flight' new

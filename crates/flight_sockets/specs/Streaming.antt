@@ -3,16 +3,20 @@ use Rattle.std.specs.Prelude.{◌≡◌, ◌⊎◌, ◌≤◌, ℕ, ◌+◌, ◌
 use Rattle.std.specs.List.{AllByRecursion}
 use Rattle.std.specs.declared.time.Instant.{Instant}
 use Rattle.mio.specs.declared.event.event.Event.{Event}
-use Rattle.dns_sockets.specs.Moments.{ClockState}
+use Rattle.dns_sockets.specs.Moments.{ClockState, millis_at}
 use Rattle.front_workers.specs.Counts.{Rises}
 use Rattle.front_workers.specs.Framing.{HasLength}
 use Rattle.flight.specs.declared.counts.Counts.{Counts}
-use Rattle.flight.specs.Bounds.{IsBounded}
+use Rattle.flight.specs.declared.kept.TheConstants.{MOST_AT_REST}
+use Rattle.flight.specs.declared.table.TheConstants.{PATIENCE, QUESTION_PATIENCE}
+use Rattle.flight.specs.Bounds.{IsBounded, kept_all}
 use Rattle.flight.specs.Counted.{IsFull, NeverFall, no_counts}
 use Rattle.flight.specs.Leaving.{Ends}
-use Rattle.flight.specs.Waiting.{FlightState, outstanding}
+use Rattle.flight.specs.Waiting.{FlightState, IsPatient, IsTimely, outstanding}
+use Rattle.flight_sockets.specs.Accounts.{KeepsTime}
 use Rattle.flight_sockets.specs.declared.tcp.client.TcpClient.{TcpClient}
 use Rattle.flight_sockets.specs.Connections.{ConnectionsState, Owes, ServesOne, Tends, no_connections}
+use Rattle.flight_sockets.specs.Looked.{LooksAtAll}
 use Rattle.flight_sockets.specs.Passages.{Passes}
 
 -- the visible state of a worker that takes messages by connections; each counter stops at 2^64 - 1
@@ -43,7 +47,7 @@ pub record AreAccounted (waiting taken : ℕ) (old : Counts) (waiting' taken' : 
   pub never_fall : NeverFall old new
   pub add_up : ((waiting' + new.settled + taken ≡ waiting + old.settled + taken') × (waiting' + new.ended + old.opened ≡ waiting + old.ended + new.opened)) ⊎ (IsFull new ⊎ (2 ^ 64 - 1 ≤ taken'))
 
--- A client comes, and is counted. It is settled or waits. Nothing is owed but its reply. The limits of what is in flight are kept.
+-- A client comes, and is counted. It is settled, or waits from the clock's last moment on. Nothing is owed but its reply. The limits of what is in flight are kept.
 pub record BeginsClient {S : Type 0} (reads writes : Passes S) (drained : Type 0) (client : TcpClient S) (flight : FlightState) (old : StreamWorker S) (flight' : FlightState) (new : StreamWorker S) : Type 0 where
   pub counted : Rises old.taken new.taken
   pub ends : Ends IsMessageOf (OwesTo reads writes drained) 1 (outstanding flight) old.connections (outstanding flight') new.connections
@@ -53,6 +57,7 @@ pub record BeginsClient {S : Type 0} (reads writes : Passes S) (drained : Type 0
   pub bounded : IsBounded flight → IsBounded flight'
   pub limit : flight'.limit ≡ flight.limit
   pub failures : new.failures ≡ old.failures
+  pub time : KeepsTime old.clock flight new.clock flight'
 
 -- A message comes whole by a connection. The client that is made of it is that connection's, and begins once.
 pub record MessageBegins {S : Type 0} (reads writes : Passes S) (drained : Type 0) (flight : FlightState) (old : StreamWorker S) (flight' : FlightState) (new : StreamWorker S) : Type 0 where
@@ -75,7 +80,7 @@ pub data StreamRuns {S : Type 0} (reads writes : Passes S) (drained : Type 0) (f
   begins : {between flight' : FlightState} {mid new : StreamWorker S} → StreamRuns reads writes drained flight old between mid → MessageBegins reads writes drained between mid flight' new
       → StreamRuns reads writes drained flight old flight' new
 
--- A worker went on: it ran, each client and each exchange is accounted for, the limit of exchanges is kept, what questions keep stays within its bound, and no turn failed.
+-- A worker went on: it ran, each client and each exchange is accounted for, the limit of exchanges is kept, what questions keep stays within its bound, no turn failed, and exchanges begin at moments that its clock read.
 pub record StreamGoesOn {S : Type 0} (reads writes : Passes S) (drained : Type 0) (flight : FlightState) (old : StreamWorker S) (flight' : FlightState) (new : StreamWorker S) : Type 0 where
   pub runs : StreamRuns reads writes drained flight old flight' new
   pub accounts : AreAccounted (outstanding flight) old.taken old.counts (outstanding flight') new.taken new.counts
@@ -83,3 +88,17 @@ pub record StreamGoesOn {S : Type 0} (reads writes : Passes S) (drained : Type 0
   pub bounded : IsBounded flight → IsBounded flight'
   pub limit : flight'.limit ≡ flight.limit
   pub failures : new.failures ≡ old.failures
+  pub time : KeepsTime old.clock flight new.clock flight'
+
+-- In a turn each exchange that the poll had reported was listened to, and each whose time was up by the clock had ended. So had each question whose time was up. Then those that waited kept no more than they may at rest.
+pub record StreamEndsOverdue {S : Type 0} (reads writes : Passes S) (drained : Type 0) (flight : FlightState) (old : StreamWorker S) (flight' : FlightState) (new : StreamWorker S) : Type 0 where
+  pub between : FlightState
+  pub mid : StreamWorker S
+  pub before : StreamRuns reads writes drained flight old between mid
+  pub onward : old.clock.last ≤ mid.clock.last
+  pub patient : IsPatient PATIENCE (millis_at mid.clock.last) between
+  pub timely : IsTimely QUESTION_PATIENCE (millis_at mid.clock.last) between
+  pub relieved : kept_all between ≤ MOST_AT_REST
+  pub looks : LooksAtAll new.reported (millis_at mid.clock.last) flight old.counts between mid.counts
+  pub listened : mid.counts.listened ≤ new.counts.listened
+  pub after : StreamRuns reads writes drained between mid flight' new

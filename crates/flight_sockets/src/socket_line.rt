@@ -17,7 +17,7 @@ use crate::flaw::Flaw;
 use crate::transport::Way;
 use dns_name::Name;
 use dns_query::Over;
-use dns_sockets::{ReadyNet, TcpLine, UdpLine, place_of};
+use dns_sockets::{OneSocket, ReadyNet, TcpLine, UdpLine, place_of};
 use dns_text::{Addr, Octets, Shared};
 use flight::{Counts, InFlight, Listened};
 use front_workers::is_dear;
@@ -100,10 +100,11 @@ impl<R: ReadyNet> InFlight for SocketLine<R> {
 }
 
 impl<R: ReadyNet> SocketLine<R> {
-    /// Sends a query, or begins to connect, and has the poll watch the socket. The service listens at `service`, and queries
-    /// neither itself nor an address that belongs to no host. An exchange that begins is counted here, where its socket is opened.
+    /// Sends a query, or begins to connect, and has the poll watch the socket. It can open no other one. The service listens at
+    /// `service`, and queries neither itself nor an address that belongs to no host. An exchange that begins is counted here, where its
+    /// socket is opened.
     pub fn open(
-        rt: &R,
+        right: OneSocket<'_, R>,
         alloc: Global,
         registry: &Registry,
         token: Token,
@@ -128,9 +129,9 @@ impl<R: ReadyNet> SocketLine<R> {
         let place = place_of(server);
         let octets = query.get().as_slice();
         let way = match over {
-            Over::Udp => Way::Udp(UdpLine::begin(rt, registry, token, service, place, octets)?),
+            Over::Udp => Way::Udp(UdpLine::begin(right, registry, token, service, place, octets)?),
             Over::Tcp => Way::Tcp(TcpLine::begin(
-                rt, alloc, registry, token, service, place, octets,
+                right, alloc, registry, token, service, place, octets,
             )?),
         };
         counts.open();

@@ -1,6 +1,6 @@
 //! The turns of a worker. In each it waits, goes on with its exchanges, and takes datagrams.
 
-ghost use Rattle.std.specs.Prelude.{◌≡◌, ◌≤◌, [], false, map, take, IfOk, OnErr, OnOk};
+ghost use Rattle.std.specs.Prelude.{◌≡◌, ◌≤◌, [], false, map, max, take, IfOk, OnErr, OnOk};
 ghost use Rattle.std.specs.Duration.{as_nanos};
 ghost use Rattle.front_workers.specs.Counts.{Rises};
 ghost use Rattle.mio.specs.Events.{items};
@@ -10,7 +10,7 @@ ghost use Rattle.flight.specs.declared.table.TheConstants.{PATIENCE, QUESTION_PA
 ghost use Rattle.flight.specs.Bounds.{AllGoOn, IsBounded, Relieves, kept_all};
 ghost use Rattle.flight.specs.Leaving.{Ends};
 ghost use Rattle.flight.specs.Waiting.{EarlyGoOn, FlightState, IsAccounted, IsPatient, IsTimely, JoinsNone, outstanding, time_left};
-ghost use Rattle.flight_sockets.specs.Accounts.{GoesOn, fresh_worker};
+ghost use Rattle.flight_sockets.specs.Accounts.{GoesOn, KeepsTime, fresh_worker};
 ghost use Rattle.flight_sockets.specs.Begun.{AllBegin, BatchBegins, IsBegun, Runs, TakesNone, arrived};
 ghost use Rattle.flight_sockets.specs.Looked.{AllLookedAt, LooksAtAll};
 ghost use Rattle.flight_sockets.specs.Patience.{AreRead, EndsOverdue, IsReadOn, patience_of};
@@ -121,6 +121,8 @@ impl<'a, R: ReadyNet + Log + Elapsing + Wait, S: ServiceSocket> Turns<'a, R, S> 
     /// Counts a query that was taken.
     fn count_taken(&mut self)
         ensures taken { Rises self.old.taken self.new.taken }
+        ensures clock { self.new.clock ≡ self.old.clock }
+        ensures reported { self.new.reported ≡ self.old.reported }
         ensures counts { self.new.counts ≡ self.old.counts }
         ensures outbox { self.new.outbox ≡ self.old.outbox }
         ensures failures { self.new.failures ≡ self.old.failures }
@@ -134,27 +136,29 @@ impl<'a, R: ReadyNet + Log + Elapsing + Wait, S: ServiceSocket> Turns<'a, R, S> 
         ensures taken { self.new.taken ≡ self.old.taken }
         ensures counts { self.new.counts ≡ self.old.counts }
         ensures outbox { self.new.outbox ≡ self.old.outbox }
+        ensures clock { self.new.clock ≡ self.old.clock }
     {
         self.failures = self.failures.saturating_add(1);
     }
 
-    /// Begins the question of a datagram, at this millisecond.
+    /// Begins the question of a datagram, at the last moment of the clock.
     fn begin<D: Numbered, C: Clock, G: Rng>(
         &mut self,
         desk: &mut D,
         questions: &mut Questions<D, C, G, R, S>,
         slot: &Slot<S>,
-        now: u64,
     )
         ensures begun { IsQuery slot.now.came → Rises self.old.taken self.new.taken }
         ensures goes_on { GoesOn S.takes S.sends questions.old self.old questions.new self.new }
         ensures just { IsBegun S.takes S.sends (D.seen desk.old) slot.now.came slot.now.room questions.old self.old questions.new self.new }
+        ensures reported { self.new.reported ≡ self.old.reported }
     {
         match slot.taken(desk) {
             Arrival::Passed => {}
             Arrival::TooLong(peer) => self.sockets.refuse(peer, &slot.room),
             Arrival::Query(client) => {
                 let octets = &slot.room[..client.count()];
+                let now = self.clock.last_millis();
                 self.count_taken();
                 self.sockets.tally.take();
                 questions.begin(desk, &mut self.sockets, now, client, octets);
@@ -169,14 +173,14 @@ impl<'a, R: ReadyNet + Log + Elapsing + Wait, S: ServiceSocket> Turns<'a, R, S> 
         desk: &mut D,
         questions: &mut Questions<D, C, G, R, S>,
         inbox: &Inbox<S>,
-        now: u64,
     )
         ensures goes_on { GoesOn S.takes S.sends questions.old self.old questions.new self.new }
         ensures begin { AllBegin S.takes S.sends (map (λ slot. arrived slot.came slot.room) (take inbox.now.filled inbox.now.slots.items))
             questions.old self.old questions.new self.new }
+        ensures reported { self.new.reported ≡ self.old.reported }
     {
         for slot in inbox.datagrams() {
-            self.begin(desk, questions, slot, now);
+            self.begin(desk, questions, slot);
         }
     }
 
@@ -187,7 +191,6 @@ impl<'a, R: ReadyNet + Log + Elapsing + Wait, S: ServiceSocket> Turns<'a, R, S> 
         desk: &mut D,
         questions: &mut Questions<D, C, G, R, S>,
         inbox: &mut Inbox<S>,
-        now: u64,
     ) -> io::Result<bool>
         ensures drained { IfOk result (λ more. more ≡ false → S.drained) }
         ensures failed { OnErr result S.failed }
@@ -195,12 +198,13 @@ impl<'a, R: ReadyNet + Log + Elapsing + Wait, S: ServiceSocket> Turns<'a, R, S> 
         ensures sent { self.new.outbox.waiting ≡ [] }
         ensures begun { BatchBegins S.takes S.sends (map (λ slot. arrived slot.came slot.room) (take inbox.new.filled inbox.new.slots.items))
             questions.old self.old questions.new self.new }
+        ensures reported { self.new.reported ≡ self.old.reported }
     {
         inbox.clear();
         let received = self.sockets.receive(inbox);
         let took = !inbox.datagrams().is_empty();
-        self.sockets.set_now(now);
-        self.begin_each(desk, questions, inbox, now);
+        self.sockets.set_now(&self.clock);
+        self.begin_each(desk, questions, inbox);
         self.sockets.flush();
         Ok(received? || took)
     }
@@ -217,14 +221,14 @@ impl<'a, R: ReadyNet + Log + Elapsing + Wait, S: ServiceSocket> Turns<'a, R, S> 
         ensures goes_on { GoesOn S.takes S.sends questions.old self.old questions.new self.new }
         ensures sent { self.old.outbox.waiting ≡ [] → self.new.outbox.waiting ≡ [] }
         ensures runs { Runs S.takes S.sends questions.old self.old questions.new self.new }
+        ensures reported { self.new.reported ≡ self.old.reported }
     {
         let begun = self.clock.millis();
-        let mut now = begun;
         for _ in 0..MOST_TAKEN / BATCH {
-            if !self.take_batch(desk, questions, inbox, now)? {
+            if !self.take_batch(desk, questions, inbox)? {
                 return Ok(false);
             }
-            now = self.clock.millis();
+            let now = self.clock.millis();
             if now.saturating_sub(begun) >= MOST_TAKING {
                 return Ok(true);
             }
@@ -246,9 +250,10 @@ impl<'a, R: ReadyNet + Log + Elapsing + Wait, S: ServiceSocket> Turns<'a, R, S> 
         ensures timely { IsTimely QUESTION_PATIENCE (millis_at self.new.clock.last) questions.new }
         ensures early { (left : FlightState) × EarlyGoOn PATIENCE (millis_at self.new.clock.last) questions.old left
             × JoinsNone left questions.new }
+        ensures reported { self.new.reported ≡ self.old.reported }
     {
         let now = self.clock.millis();
-        self.sockets.set_now(now);
+        self.sockets.set_now(&self.clock);
         questions.expire(desk, &mut self.sockets, now);
         begin_anew(&mut self.sockets, desk, questions, now);
     }
@@ -262,6 +267,7 @@ impl<'a, R: ReadyNet + Log + Elapsing + Wait, S: ServiceSocket> Turns<'a, R, S> 
         ensures relieved { kept_all questions.new ≤ MOST_AT_REST }
         ensures relieves { Relieves MOST_AT_REST questions.old questions.new }
         ensures others { AllGoOn questions.old questions.new }
+        ensures reported { self.new.reported ≡ self.old.reported }
     {
         questions.relieve(&mut self.sockets);
     }
@@ -282,6 +288,7 @@ impl<'a, R: ReadyNet + Log + Elapsing + Wait, S: ServiceSocket> Turns<'a, R, S> 
         ensures timely { IsTimely QUESTION_PATIENCE (millis_at self.new.clock.last) questions.new }
         ensures looks { LooksAtAll self.old.reported (millis_at self.new.clock.last)
             questions.old self.old.counts questions.new self.new.counts }
+        ensures reported { self.new.reported ≡ self.old.reported }
     {
         look_all(
             &self.events,
@@ -377,12 +384,13 @@ pub(crate) fn look_all<
     ensures in_time { sockets.new.counts.expired ≡ sockets.old.counts.expired }
     ensures read { AreRead R.passed clock.old clock.new }
     ensures looked { AllLookedAt (items events.now) questions.old sockets.old.counts questions.new sockets.new.counts }
+    ensures time { KeepsTime clock.old questions.old clock.new questions.new }
 {
     for event in events.iter() {
         let token = event.token();
         if token != SERVICE {
             let now = clock.millis();
-            sockets.set_now(now);
+            sockets.set_now(clock);
             questions.look(desk, sockets, now, token.0);
         }
     }
@@ -412,6 +420,7 @@ pub(crate) fn begin_anew<
     ensures limit { questions.new.limit ≡ questions.old.limit }
     ensures patient { IsPatient PATIENCE now questions.new }
     ensures timely { IsTimely QUESTION_PATIENCE now questions.new }
+    ensures latest { questions.new.latest ≤ max now questions.old.latest }
 {
     for _ in 0..MOST_ANEW {
         let Some(key) = sockets.next_permitted() else {

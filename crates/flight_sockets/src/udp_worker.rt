@@ -6,7 +6,7 @@ ghost use Rattle.front_workers.specs.declared.work_end.WorkEnd.TheVariants.{Ende
 ghost use Rattle.front_workers.specs.Working.{HasFailed};
 ghost use Rattle.flight.specs.Bounds.{IsBounded};
 ghost use Rattle.flight.specs.Waiting.{FlightState};
-ghost use Rattle.flight_sockets.specs.Accounts.{Accounts, fresh_worker};
+ghost use Rattle.flight_sockets.specs.Accounts.{Accounts, KeepsTime, fresh_worker};
 ghost use Rattle.flight_sockets.specs.Begun.{Runs, none_in_flight};
 
 use crate::asking::Asking;
@@ -95,8 +95,9 @@ pub fn fly_udp<
     // datagram left for each query that got a reply, one for each datagram that is too long and was refused, and no other.
     ensures accounts { (waiting : ℕ) × (waiting ≤ limit) × Accounts S.takes S.sends 0 worker.old waiting worker.new }
     // Each datagram that was taken began once, as a client of its own, and no other client came. What the questions that wait keep
-    // is within its bound.
-    ensures runs { (flight : FlightState) × Runs S.takes S.sends (none_in_flight limit) worker.old flight worker.new × IsBounded flight }
+    // is within its bound. No exchange began later than the clock says.
+    ensures runs { (flight : FlightState) × Runs S.takes S.sends (none_in_flight limit) worker.old flight worker.new × IsBounded flight
+        × KeepsTime worker.old.clock (none_in_flight limit) worker.new.clock flight }
     // No reply waits at the end.
     ensures unsent { worker.old.outbox.waiting ≡ [] → worker.new.outbox.waiting ≡ [] }
     ensures ended { result ≡ Ended → F.stopped }

@@ -3,6 +3,7 @@
 ghost use Rattle.std.specs.Prelude.{◌≡◌, ◌⊎◌, ◌≤◌, [], ◌∷◌, false, length, map, take, true, vec_len};
 ghost use Rattle.std.specs.Prelude.{IfNone, IfOk, IfSome, IsSomeAnd, OnErr, OnSome};
 ghost use Rattle.std.specs.Option.{option_copied};
+ghost use Rattle.dns_sockets.specs.Moments.{millis_at};
 ghost use Rattle.dns_sockets.specs.Own.{MayAskServer};
 ghost use Rattle.dns_sockets.specs.Withheld.{IsWithheld};
 ghost use Rattle.front_workers.specs.declared.limits.TheConstants.{MOST_MESSAGE};
@@ -43,10 +44,10 @@ use crate::zone_shares::ZoneShares;
 use command_text::Clock;
 use dns_name::Name;
 use dns_query::Over;
-use dns_sockets::{AddressRange, ReadyNet, glance, is_withheld};
+use dns_sockets::{AddressRange, MonotonicClock, OneSocket, ReadyNet, glance, is_withheld};
 use dns_text::{Addr, NoMemory, Octets, Shared};
 use dns_wire::{HEADER_OCTETS, Rcode, fault_reply};
-use flight::{Client, Counts, InFlight, Listened, Numbered, Outside, ReplyOctets, Unserved};
+use flight::{Cause, Client, Counts, InFlight, Listened, Numbered, Outside, ReplyOctets, Unserved};
 use front_workers::{DEVICE_FAULT, MOST_MESSAGE, wants_reply};
 use history::{Event, Servers};
 use iterate::{Allowance, Hunt};
@@ -152,15 +153,15 @@ impl<'a, R: Log, B: Drop> WorkerSockets<'a, R, B> {
         })
     }
 
-    /// Sets the moment of the exchanges that begin and end from now on, in milliseconds. If servers may have to be tried anew, it forgets
-    /// which were silent.
-    pub fn set_now(&mut self, now: u64)
-        ensures now { self.new.moment ≡ now }
+    /// Sets the moment of the exchanges that begin and end from now on: that at which the clock was read last. If servers may have to
+    /// be tried anew, it forgets which were silent.
+    pub fn set_now<T>(&mut self, clock: &MonotonicClock<'_, T>)
+        ensures now { self.new.moment ≡ millis_at clock.now.last }
         ensures port { self.new.server_port ≡ self.old.server_port }
         ensures counts { self.new.counts ≡ self.old.counts }
         ensures kept { self.new.outbox ≡ self.old.outbox }
     {
-        self.moment = now;
+        self.moment = clock.last_millis();
         let renewals = self.renewals.load(Ordering::SeqCst);
         if renewals != self.renewed {
             self.renewed = renewals;
@@ -332,7 +333,7 @@ impl<'a, R: ReadyNet + Log, B: Drop> WorkerSockets<'a, R, B> {
         self.tally.ask(over);
         let asked = query.share();
         match SocketLine::open(
-            self.rt,
+            OneSocket::new(self.rt),
             self.alloc,
             self.poll.registry(),
             Token(key),
@@ -558,8 +559,8 @@ impl<'a, D: Numbered, C: Clock, R: ReadyNet + Log + Wait, K: Client, B: ReplySen
         self.counts.settle();
     }
 
-    fn fail(&mut self, client: K, octets: &[u8], why: Unserved) {
-        self.log(why);
+    fn fail(&mut self, client: K, octets: &[u8], cause: Cause) {
+        self.log(cause.why());
         self.send_to(client, report_of(octets, Rcode::SERVER_FAILURE));
         self.counts.settle();
     }

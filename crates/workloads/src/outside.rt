@@ -10,7 +10,7 @@ use command_text::Clock;
 use dns_name::Name;
 use dns_query::Over;
 use dns_text::{Addr, Octets, Shared};
-use flight::{Client, Counts, InFlight, Listened, Numbered, Outside, ReplyOctets, Unserved};
+use flight::{Cause, Client, Counts, InFlight, Listened, Numbered, Outside, ReplyOctets, Unserved};
 use history::Event;
 use iterate::{Allowance, Hunt};
 use std::alloc::Global;
@@ -215,8 +215,8 @@ impl<D: Numbered> Outside<D, Wire, SetClock, Asker> for Network {
         }
     }
 
-    fn fail(&mut self, client: Asker, _: &[u8], why: Unserved) {
-        let why = match why {
+    fn fail(&mut self, client: Asker, _: &[u8], cause: Cause) {
+        let why = match cause.why() {
             Unserved::NoMemory => 1,
             Unserved::TooMany => 2,
             Unserved::Elsewhere => 3,

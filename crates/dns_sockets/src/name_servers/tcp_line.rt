@@ -11,6 +11,7 @@ ghost use Rattle.dns_sockets.specs.Wanting.{IsWholeFrame};
 
 use crate::name_servers::framed_query::FramedQuery;
 use crate::name_servers::framed_reply::FramedReply;
+use crate::name_servers::one_socket::OneSocket;
 use crate::name_servers::own::{check_host, check_other};
 use crate::name_servers::ready_net::{ReadyConnection, ReadyNet};
 use mio::{Registry, Token};
@@ -43,11 +44,11 @@ impl<S> Model for TcpLine<S> {
 }
 
 impl<S: ReadyConnection> TcpLine<S> {
-    /// Begins to connect, watched by the poll. It fails if the query is longer than a message may be, if no memory or no
-    /// descriptor is left, if the system knows no way to the place, if the address belongs to no host, or if the service, which listens
-    /// at `service`, would ask itself.
+    /// Begins to connect, watched by the poll. It can open no other connection. It fails if the query is longer than a message may be,
+    /// if no memory or no descriptor is left, if the system knows no way to the place, if the address belongs to no host, or if the
+    /// service, which listens at `service`, would ask itself.
     pub fn begin<R: ReadyNet<Connection = S>>(
-        rt: &R,
+        right: OneSocket<'_, R>,
         alloc: Global,
         registry: &Registry,
         token: Token,
@@ -67,7 +68,7 @@ impl<S: ReadyConnection> TcpLine<S> {
     {
         check_host(place)?;
         let query = FramedQuery::new(alloc, query)?;
-        let stream = rt.begin_connection(registry, token, place)?;
+        let stream = right.begin_connection(registry, token, place)?;
         check_other(service, stream.place()?, place)?;
         Ok(TcpLine {
             stream,

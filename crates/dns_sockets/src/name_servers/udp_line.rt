@@ -10,6 +10,7 @@ ghost use Rattle.dns_sockets.specs.Own.{IsNoLine, MayAsk};
 
 use crate::name_servers::fitting::{MOST_MISFITS, fits};
 use crate::name_servers::heard::Heard;
+use crate::name_servers::one_socket::OneSocket;
 use crate::name_servers::own::{check_host, check_other, may_be_own};
 use crate::name_servers::ready_net::{ReadyNet, ReadySocket};
 use crate::waiting::would_wait;
@@ -38,10 +39,11 @@ impl<S> Model for UdpLine<S> {
 }
 
 impl<S: ReadySocket> UdpLine<S> {
-    /// Sends one query, in one datagram, by a new socket. It fails if no descriptor is left, if the system knows no way to the
-    /// place or cannot send, if the address belongs to no host, or if the service, which listens at `service`, would ask itself.
+    /// Sends one query, in one datagram, by a new socket. It can open no other one. It fails if no descriptor is left, if the system
+    /// knows no way to the place or cannot send, if the address belongs to no host, or if the service, which listens at `service`, would
+    /// ask itself.
     pub fn begin<R: ReadyNet<Datagrams = S>>(
-        rt: &R,
+        right: OneSocket<'_, R>,
         registry: &Registry,
         token: Token,
         service: SocketAddr,
@@ -55,7 +57,7 @@ impl<S: ReadySocket> UdpLine<S> {
         ensures failed { OnErr result (IsNoLine R.failed S.opened S.is_at S.failed service place) }
     {
         check_host(place)?;
-        let mut socket = rt.open_socket(registry, token, place, may_be_own(service, place))?;
+        let mut socket = right.open_socket(registry, token, place, may_be_own(service, place))?;
         check_other(service, socket.place()?, place)?;
         socket.send_datagram(query)?;
         Ok(UdpLine { socket, misfits: 0 })

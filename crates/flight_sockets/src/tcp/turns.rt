@@ -1,13 +1,15 @@
 //! The turns of a worker that takes messages by connections. In each it waits, goes on with its exchanges, and serves connections.
 
-ghost use Rattle.std.specs.Prelude.{◌≡◌, IfOk};
+ghost use Rattle.std.specs.Prelude.{◌≡◌, ◌≤◌, IfOk, OnOk};
 ghost use Rattle.front_workers.specs.Counts.{Rises};
 ghost use Rattle.dns_sockets.specs.Moments.{millis_at};
 ghost use Rattle.flight.specs.declared.table.TheConstants.{PATIENCE, QUESTION_PATIENCE};
-ghost use Rattle.flight.specs.Bounds.{AllGoOn};
-ghost use Rattle.flight.specs.Waiting.{IsPatient, IsTimely};
+ghost use Rattle.flight.specs.declared.kept.TheConstants.{MOST_AT_REST};
+ghost use Rattle.flight.specs.Bounds.{AllGoOn, Relieves, kept_all};
+ghost use Rattle.flight.specs.Waiting.{EarlyGoOn, FlightState, IsPatient, IsTimely, JoinsNone};
 ghost use Rattle.flight_sockets.specs.Connections.{Tends};
-ghost use Rattle.flight_sockets.specs.Streaming.{BeginsClient, StreamGoesOn, fresh_worker};
+ghost use Rattle.flight_sockets.specs.Looked.{AllLookedAt, LooksAtAll};
+ghost use Rattle.flight_sockets.specs.Streaming.{BeginsClient, StreamEndsOverdue, StreamGoesOn, fresh_worker};
 
 use crate::asking::Asking;
 use crate::listener::SERVICE;
@@ -135,6 +137,7 @@ impl<'a, R: ReadyNet + Log + Elapsing + Wait, S: ClientStream, L: ClientListener
         ensures taken { self.new.taken ≡ self.old.taken }
         ensures counts { self.new.counts ≡ self.old.counts }
         ensures connections { self.new.connections ≡ self.old.connections }
+        ensures clock { self.new.clock ≡ self.old.clock }
     {
         self.failures = self.failures.saturating_add(1);
     }
@@ -142,14 +145,16 @@ impl<'a, R: ReadyNet + Log + Elapsing + Wait, S: ClientStream, L: ClientListener
     /// Reads the clock, in milliseconds. What happens from now on happens at this moment.
     fn set_now(&mut self) -> u64
         ensures now { result ≡ millis_at self.new.clock.last }
+        ensures onward { self.old.clock.last ≤ self.new.clock.last }
         ensures kept { self.new.connections ≡ self.old.connections }
         ensures counts { self.new.counts ≡ self.old.counts }
         ensures taken { self.new.taken ≡ self.old.taken }
         ensures failures { self.new.failures ≡ self.old.failures }
+        ensures reported { self.new.reported ≡ self.old.reported }
     {
         let now = self.clock.millis();
         let sockets = &mut self.sockets;
-        sockets.set_now(now);
+        sockets.set_now(&self.clock);
         sockets.outbox.set_now(now);
         now
     }
@@ -179,18 +184,19 @@ impl<'a, R: ReadyNet + Log + Elapsing + Wait, S: ClientStream, L: ClientListener
         sockets.outbox.next_queued()
     }
 
-    /// Begins the question of a message that came by the connection under a key.
+    /// Begins the question of a message that came by the connection under a key, at the last moment of the clock.
     fn begin<D: Numbered, C: Clock, G: Rng>(
         &mut self,
         desk: &mut D,
         questions: &mut Questions<D, C, G, R, S>,
         client: TcpClient<S>,
         octets: &[u8],
-        now: u64,
     )
         requires { octets.now ≡ client.message.value }
         ensures ends { BeginsClient S.reads S.writes S.drained client questions.old self.old questions.new self.new }
+        ensures reported { self.new.reported ≡ self.old.reported }
     {
+        let now = self.clock.last_millis();
         self.taken = self.taken.saturating_add(1);
         self.sockets.tally.take();
         if octets.len() > MOST_DATAGRAM && is_dear(octets) && wants_reply(octets) {
@@ -207,9 +213,9 @@ impl<'a, R: ReadyNet + Log + Elapsing + Wait, S: ClientStream, L: ClientListener
         desk: &mut D,
         questions: &mut Questions<D, C, G, R, S>,
         key: usize,
-        now: u64,
     ) -> bool
-        ensures { StreamGoesOn S.reads S.writes S.drained questions.old self.old questions.new self.new }
+        ensures goes_on { StreamGoesOn S.reads S.writes S.drained questions.old self.old questions.new self.new }
+        ensures reported { self.new.reported ≡ self.old.reported }
     {
         let sockets = &mut self.sockets;
         match sockets.outbox.take_message(key) {
@@ -217,7 +223,7 @@ impl<'a, R: ReadyNet + Log + Elapsing + Wait, S: ClientStream, L: ClientListener
             Taken::More => true,
             Taken::Message(serial, network, message) => {
                 let client = TcpClient::new(key, serial, network, &message, desk);
-                self.begin(desk, questions, client, message.as_slice(), now);
+                self.begin(desk, questions, client, message.as_slice());
                 true
             }
         }
@@ -229,13 +235,13 @@ impl<'a, R: ReadyNet + Log + Elapsing + Wait, S: ClientStream, L: ClientListener
         desk: &mut D,
         questions: &mut Questions<D, C, G, R, S>,
         key: usize,
-        now: u64,
     )
-        ensures { StreamGoesOn S.reads S.writes S.drained questions.old self.old questions.new self.new }
+        ensures goes_on { StreamGoesOn S.reads S.writes S.drained questions.old self.old questions.new self.new }
+        ensures reported { self.new.reported ≡ self.old.reported }
     {
         self.write_on(key);
         for _ in 0..MOST_READS {
-            if !self.take_message(desk, questions, key, now) {
+            if !self.take_message(desk, questions, key) {
                 return;
             }
         }
@@ -248,14 +254,15 @@ impl<'a, R: ReadyNet + Log + Elapsing + Wait, S: ClientStream, L: ClientListener
         desk: &mut D,
         questions: &mut Questions<D, C, G, R, S>,
     )
-        ensures { StreamGoesOn S.reads S.writes S.drained questions.old self.old questions.new self.new }
+        ensures goes_on { StreamGoesOn S.reads S.writes S.drained questions.old self.old questions.new self.new }
+        ensures reported { self.new.reported ≡ self.old.reported }
     {
         for _ in 0..self.sockets.outbox.queued().min(MOST_SERVED) {
             let Some(key) = self.next_queued() else {
                 return;
             };
-            let now = self.set_now();
-            self.serve(desk, questions, key, now);
+            let _ = self.set_now();
+            self.serve(desk, questions, key);
         }
     }
 
@@ -315,7 +322,9 @@ impl<'a, R: ReadyNet + Log + Elapsing + Wait, S: ClientStream, L: ClientListener
         desk: &mut D,
         questions: &mut Questions<D, C, G, R, S>,
     )
-        ensures { StreamGoesOn S.reads S.writes S.drained questions.old self.old questions.new self.new }
+        ensures goes_on { StreamGoesOn S.reads S.writes S.drained questions.old self.old questions.new self.new }
+        ensures looked { AllLookedAt self.old.reported questions.old self.old.counts questions.new self.new.counts }
+        ensures reported { self.new.reported ≡ self.old.reported }
     {
         look_all(
             &self.events,
@@ -335,6 +344,9 @@ impl<'a, R: ReadyNet + Log + Elapsing + Wait, S: ClientStream, L: ClientListener
         ensures goes_on { StreamGoesOn S.reads S.writes S.drained questions.old self.old questions.new self.new }
         ensures patient { IsPatient PATIENCE (millis_at self.new.clock.last) questions.new }
         ensures timely { IsTimely QUESTION_PATIENCE (millis_at self.new.clock.last) questions.new }
+        ensures early { (left : FlightState) × EarlyGoOn PATIENCE (millis_at self.new.clock.last) questions.old left
+            × JoinsNone left questions.new }
+        ensures reported { self.new.reported ≡ self.old.reported }
     {
         let now = self.set_now();
         questions.expire(desk, &mut self.sockets, now);
@@ -345,7 +357,10 @@ impl<'a, R: ReadyNet + Log + Elapsing + Wait, S: ClientStream, L: ClientListener
     fn relieve<D: Numbered, C: Clock, G: Rng>(&mut self, questions: &mut Questions<D, C, G, R, S>)
         ensures goes_on { StreamGoesOn S.reads S.writes S.drained questions.old self.old questions.new self.new }
         ensures clock { self.new.clock ≡ self.old.clock }
+        ensures relieved { kept_all questions.new ≤ MOST_AT_REST }
+        ensures relieves { Relieves MOST_AT_REST questions.old questions.new }
         ensures others { AllGoOn questions.old questions.new }
+        ensures reported { self.new.reported ≡ self.old.reported }
     {
         questions.relieve(&mut self.sockets);
     }
@@ -360,6 +375,9 @@ impl<'a, R: ReadyNet + Log + Elapsing + Wait, S: ClientStream, L: ClientListener
         ensures goes_on { StreamGoesOn S.reads S.writes S.drained questions.old self.old questions.new self.new }
         ensures patient { IsPatient PATIENCE (millis_at self.new.clock.last) questions.new }
         ensures timely { IsTimely QUESTION_PATIENCE (millis_at self.new.clock.last) questions.new }
+        ensures looks { LooksAtAll self.old.reported (millis_at self.new.clock.last)
+            questions.old self.old.counts questions.new self.new.counts }
+        ensures reported { self.new.reported ≡ self.old.reported }
     {
         self.look(desk, questions);
         self.expire(desk, questions);
@@ -381,6 +399,8 @@ impl<'a, R: ReadyNet + Log + Elapsing + Wait, S: ClientStream, L: ClientListener
         ensures taken { self.new.taken ≡ self.old.taken }
         ensures counts { self.new.counts ≡ self.old.counts }
         ensures failures { self.new.failures ≡ self.old.failures }
+        ensures onward { self.old.clock.last ≤ self.new.clock.last }
+        ensures reported { self.new.reported ≡ self.old.reported }
     {
         self.note();
         let now = self.set_now();
@@ -397,6 +417,7 @@ impl<'a, R: ReadyNet + Log + Elapsing + Wait, S: ClientStream, L: ClientListener
         ensures counts { self.new.counts ≡ self.old.counts }
         ensures connections { self.new.connections ≡ self.old.connections }
         ensures failures { self.new.failures ≡ self.old.failures }
+        ensures onward { self.old.clock.last ≤ self.new.clock.last }
     {
         let now = self.clock.millis();
         let accepts = self.may_accept && now >= self.rests_until;
@@ -418,6 +439,7 @@ impl<'a, R: ReadyNet + Log + Elapsing + Wait, S: ClientStream, L: ClientListener
         questions: &mut Questions<D, C, G, R, S>,
     ) -> io::Result<()>
         ensures goes_on { StreamGoesOn S.reads S.writes S.drained questions.old self.old questions.new self.new }
+        ensures overdue { OnOk result (StreamEndsOverdue S.reads S.writes S.drained questions.old self.old questions.new self.new) }
     {
         self.wait(questions)?;
         self.go_on(desk, questions);

@@ -6,6 +6,7 @@ ghost use Rattle.front_workers.specs.declared.work_end.WorkEnd.TheVariants.{Ende
 ghost use Rattle.front_workers.specs.Working.{HasFailed};
 ghost use Rattle.flight.specs.Bounds.{IsBounded};
 ghost use Rattle.flight.specs.Waiting.{FlightState, outstanding};
+ghost use Rattle.flight_sockets.specs.Accounts.{KeepsTime};
 ghost use Rattle.flight_sockets.specs.Begun.{none_in_flight};
 ghost use Rattle.flight_sockets.specs.Streaming.{AreAccounted, StreamRuns, fresh_worker};
 
@@ -96,10 +97,11 @@ pub fn fly_tcp<
     // Each message that came whole by a connection began once, as a client of that connection, and no other client came. One reply came to
     // be owed to its connection for each client that got one, unless the connection had ended, and no other. What a connection was sent is
     // the first of what it is owed, in order. Each message was settled once, and each exchange that began ended once, except those that
-    // wait at the end.
+    // wait at the end. No exchange begins later than the last moment of the worker's clock.
     ensures runs { (flight : FlightState) × StreamRuns S.reads S.writes S.drained (none_in_flight limit) worker.old flight worker.new
         × (outstanding flight ≤ limit) × IsBounded flight
-        × AreAccounted 0 worker.old.taken worker.old.counts (outstanding flight) worker.new.taken worker.new.counts }
+        × AreAccounted 0 worker.old.taken worker.old.counts (outstanding flight) worker.new.taken worker.new.counts
+        × KeepsTime worker.old.clock (none_in_flight limit) worker.new.clock flight }
     ensures ended { result ≡ Ended → F.stopped }
     ensures failing { result ≡ Failing → HasFailed MOST_FAILURES worker.old.failures worker.new.failures }
 {

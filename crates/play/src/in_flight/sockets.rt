@@ -11,7 +11,7 @@ use crate::said::Said;
 use dns_name::{Name, NoMemory};
 use dns_query::Over;
 use dns_text::{Addr, Octets, Shared};
-use flight::{Client, Counts, InFlight, Listened, Numbered, Outside, ReplyOctets, Unserved};
+use flight::{Cause, Client, Counts, InFlight, Listened, Numbered, Outside, ReplyOctets, Unserved};
 use history::Event;
 use iterate::{Allowance, Hunt};
 use std::alloc::Global;
@@ -241,8 +241,8 @@ impl<D: Numbered> Outside<D, Wire, LineClock, Peer> for Sockets {
         self.settle(b"reply ", client.number, reply.as_slice(), b"");
     }
 
-    fn fail(&mut self, client: Peer, _: &[u8], why: Unserved) {
-        let why = match why {
+    fn fail(&mut self, client: Peer, _: &[u8], cause: Cause) {
+        let why = match cause.why() {
             Unserved::NoMemory => b"no_memory".as_slice(),
             Unserved::TooMany => b"too_many".as_slice(),
             Unserved::TooLong => b"too_long".as_slice(),

@@ -1,3 +1,4 @@
+use Rattle.std.proofs.Common.{Ok, Err, refl}
 use Rattle.flight.specs.Flight.{replied, refused}
 use Rattle.flight.proofs.asking.ask.Goals as goal
 
@@ -6,3 +7,9 @@ returns-in-Ok-clause-answered g c = replied c.requires.known c.in-Ok.ensures c.s
 
 pub returns-in-Err-clause-answered : goal.returns-in-Err-clause-answered
 returns-in-Err-clause-answered g c = refused c.requires.known c.in-Err.ensures c.seen.ensures
+
+pub returns-in-Ok-clause-called : goal.returns-in-Ok-clause-called
+returns-in-Ok-clause-called g c = (Ok c.in-Ok.reply, c.in-Ok.ensures, refl)
+
+pub returns-in-Err-clause-called : goal.returns-in-Err-clause-called
+returns-in-Err-clause-called g c = (Err c.in-Err.fault, c.in-Err.ensures, refl)

@@ -1,5 +1,5 @@
 use Rattle.std.proofs.Common.{◌∙◌, arith, refl}
-use Rattle.flight_sockets.proofs.Accounting.{accounted_on, same_counts}
+use Rattle.flight_sockets.proofs.Accounting.{accounted_on, latest_on, same_counts}
 use Rattle.flight.proofs.Leaving.{ends_behind, ends_then, none_ends}
 use Rattle.flight_sockets.proofs.Relieving.{patient_more, timely_more}
 use Rattle.flight_sockets.proofs.turns.begin_anew.Goals as goal
@@ -14,6 +14,7 @@ loop-init g c = record {
   limit = refl;
   patient = c.requires.patient;
   timely = c.requires.timely;
+  latest = omega arith;
 }
 
 pub loop-preserved : goal.loop-preserved
@@ -29,4 +30,5 @@ loop-preserved g c =
       limit = loses.limit ∙ before.limit;
       patient = patient_more c.args.now c.loop.questions c.look.new.self loses.begins before.patient;
       timely = timely_more 10000 c.args.now c.loop.questions c.look.new.self loses.origins before.timely;
+      latest = omega (arith, before.latest, latest_on c.args.now c.loop.questions c.look.new.self loses.begins);
     }

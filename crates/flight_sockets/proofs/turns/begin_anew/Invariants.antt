@@ -1,4 +1,4 @@
-use Rattle.std.proofs.Common.{◌≡◌, ◌≤◌}
+use Rattle.std.proofs.Common.{◌≡◌, ◌≤◌, max}
 use Rattle.flight.specs.Bounds.{IsBounded}
 use Rattle.flight.specs.Waiting.{IsAccounted, IsPatient, IsTimely, JoinsNone, outstanding}
 use Rattle.flight.specs.Leaving.{Ends}
@@ -15,4 +15,5 @@ invariant-loop g l = record {
   limit : l.questions.limit ≡ l.initial.questions.limit;
   patient : IsPatient 2000 l.now l.questions;
   timely : IsTimely 10000 l.now l.questions;
+  latest : l.questions.latest ≤ max l.now l.initial.questions.latest;
 }

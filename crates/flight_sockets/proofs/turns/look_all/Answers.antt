@@ -1,14 +1,15 @@
 use Rattle.std.proofs.Common.{◌∙◌, ap, arith, refl, rules}
 use Rattle.flight.specs.declared.counts.Counts.{Counts}
-use Rattle.flight_sockets.proofs.Accounting.{accounted_on, same_counts}
+use Rattle.flight_sockets.proofs.Accounting.{accounted_on, latest_on, same_counts, time_at, time_on, time_then}
 use Rattle.flight.proofs.Leaving.{ends_behind, ends_then, none_ends}
 use Rattle.flight_sockets.specs.Patience.{once_more, unread}
+use Rattle.flight_sockets.proofs.Reading.{onward_by}
 use Rattle.flight_sockets.proofs.Watching.{seen_on}
 use Rattle.flight_sockets.proofs.turns.look_all.Goals as goal
 
 pub loop-event-init : goal.loop-event-init
 loop-event-init g c =
-    record { so_far = same_counts _ _; ends = none_ends 0 _ _ refl (omega arith); no_more = omega arith; in_time = refl; bounded = λ few. few; limit = refl; read = unread; looked = (refl, refl) }
+    record { so_far = same_counts _ _; ends = none_ends 0 _ _ refl (omega arith); no_more = omega arith; in_time = refl; bounded = λ few. few; limit = refl; read = unread; looked = (refl, refl); time = time_on _ _ _ (omega arith) }
 
 pub loop-event-preserved-then-ne : goal.loop-event-preserved-then-ne
 loop-event-preserved-then-ne g c =
@@ -23,6 +24,8 @@ loop-event-preserved-then-ne g c =
       limit = loses.limit ∙ before.limit;
       read = once_more before.read c.millis-now.ensures.read;
       looked = seen_on (λ event. event.now) _ _ _ _ _ _ _ _ before.looked (record { listens = λ _. rw c.token-token.ensures at (rw c.set_now.ensures.counts at c.look.ensures.listens); others = rw c.token-token.ensures at c.look.ensures.others; unexpired = c.look.ensures.unexpired ∙ ap (λ (counts : Counts). counts.expired) c.set_now.ensures.counts });
+      time = time_then _ _ _ _ _ _ before.time (time_then _ _ _ _ _ _ (time_on c.loop-event.questions c.loop-event.clock c.millis-now.new.self (onward_by _ _ c.millis-now.ensures.read))
+          (time_at c.millis-now.result c.loop-event.questions c.look.new.self c.millis-now.new.self (omega (arith, c.millis-now.ensures.millis)) (latest_on c.millis-now.result c.loop-event.questions c.look.new.self loses.begins)));
     }
 
 pub loop-event-preserved : goal.loop-event-preserved
@@ -37,4 +40,5 @@ loop-event-preserved g c =
       limit = before.limit;
       read = before.read;
       looked = seen_on (λ event. event.now) _ _ _ _ _ _ _ _ before.looked (record { listens = λ differs. absurd (search rules); others = λ other since differs here. here; unexpired = refl });
+      time = before.time;
     }

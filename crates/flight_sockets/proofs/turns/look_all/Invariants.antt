@@ -2,6 +2,7 @@ use Rattle.std.proofs.Common.{◌≡◌, ◌≤◌, map}
 use Rattle.flight.specs.Bounds.{IsBounded}
 use Rattle.flight.specs.Waiting.{IsAccounted, outstanding}
 use Rattle.flight.specs.Leaving.{Ends}
+use Rattle.flight_sockets.specs.Accounts.{KeepsTime}
 use Rattle.flight_sockets.specs.Looked.{AllLookedAt}
 use Rattle.flight_sockets.specs.Patience.{AreRead}
 use Rattle.flight_sockets.proofs.turns.look_all.Given as goal
@@ -17,4 +18,5 @@ invariant-loop-event g l = record {
   limit : l.questions.limit ≡ l.initial.questions.limit;
   read : AreRead g.R.Elapsing.passed l.initial.clock l.clock;
   looked : AllLookedAt (map (λ event. event.now) l.yielded) l.initial.questions l.initial.sockets.counts l.questions l.sockets.counts;
+  time : KeepsTime l.initial.clock l.initial.questions l.clock l.questions;
 }

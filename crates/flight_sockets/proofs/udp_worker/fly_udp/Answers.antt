@@ -1,6 +1,8 @@
-use Rattle.std.proofs.Common.{rules, ◌∙◌, arith}
-use Rattle.flight_sockets.proofs.Accounting.{followed, failed, none_yet, not_failed, failed_more}
-use Rattle.flight_sockets.specs.Begun.{goes_on, stays}
+use Rattle.std.proofs.Common.{rules, ◌≡◌, ◌∙◌, ap, arith, subst, sym}
+use Rattle.flight.specs.Waiting.{FlightState}
+use Rattle.flight_sockets.specs.Accounts.{KeepsTime, WorkerState}
+use Rattle.flight_sockets.proofs.Accounting.{followed, failed, none_yet, not_failed, failed_more, time_on, time_then}
+use Rattle.flight_sockets.specs.Begun.{goes_on, none_in_flight, stays}
 use Rattle.flight_sockets.proofs.Beginning.{rests, runs_then}
 use Rattle.flight_sockets.proofs.udp_worker.fly_udp.Goals as goal
 
@@ -11,6 +13,7 @@ loop-preserved-in-Ok g c =
     record {
       so_far = followed _ _ _ _ _ _ before.so_far c.turn-turned.ensures.goes_on.accounts;
       ran = runs_then before.ran c.turn-turned.ensures.runs;
+      time = time_then _ _ _ _ _ _ before.time c.turn-turned.ensures.goes_on.time;
       within = omega (arith, within, before.limit);
       bounded = c.turn-turned.ensures.goes_on.bounded before.bounded;
       limit = c.turn-turned.ensures.goes_on.limit ∙ before.limit;
@@ -33,7 +36,7 @@ returns-then-failed-eq-MOST_FAILURES-clause-failing g c =
 pub returns-then-failed-eq-MOST_FAILURES-clause-runs :
     goal.returns-then-failed-eq-MOST_FAILURES-clause-runs
 returns-then-failed-eq-MOST_FAILURES-clause-runs g c =
-    (_, goes_on (runs_then c.loop.invariant.ran c.turn-turned.ensures.runs) (rests _ _ _ c.count_failure.ensures.outbox c.count_failure.ensures.taken), c.turn-turned.ensures.goes_on.bounded c.loop.invariant.bounded)
+    (_, goes_on (runs_then c.loop.invariant.ran c.turn-turned.ensures.runs) (rests _ _ _ c.count_failure.ensures.outbox c.count_failure.ensures.taken), c.turn-turned.ensures.goes_on.bounded c.loop.invariant.bounded, rw c.count_failure.ensures.clock (time_then _ _ _ _ _ _ c.loop.invariant.time c.turn-turned.ensures.goes_on.time))
 
 pub loop-preserved : goal.loop-preserved
 loop-preserved g c =
@@ -43,6 +46,7 @@ loop-preserved g c =
     record {
       so_far = failed _ _ _ _ _ turned c.count_failure.ensures.taken c.count_failure.ensures.counts c.count_failure.ensures.outbox;
       ran = goes_on (runs_then before.ran c.turn-turned.ensures.runs) (rests _ _ _ c.count_failure.ensures.outbox c.count_failure.ensures.taken);
+      time = rw c.count_failure.ensures.clock (time_then _ _ _ _ _ _ before.time c.turn-turned.ensures.goes_on.time);
       within = omega (arith, within, before.limit);
       bounded = c.turn-turned.ensures.goes_on.bounded before.bounded;
       limit = c.turn-turned.ensures.goes_on.limit ∙ before.limit;
@@ -53,9 +57,15 @@ loop-preserved g c =
 
 pub loop-init : goal.loop-init
 loop-init g c =
+    let same : c.worker.inside.turns ≡ c.args.worker.now = search rules in
+    let none = none_in_flight c.args.limit in
+    let start = c.args.worker.now.clock in
+    let clock = c.worker.inside.turns.clock in
+    let on = time_on none start clock (omega (arith, ap (λ (worker : WorkerState _). worker.clock.last) same)) in
     record {
       so_far = none_yet _ _ _ (search rules) (search rules);
       ran = search (rules, stays);
+      time = subst (λ (flight : FlightState). KeepsTime start none clock flight) (sym c.new-questions.ensures) on;
       within = search rules;
       bounded = search rules;
       limit = search rules;

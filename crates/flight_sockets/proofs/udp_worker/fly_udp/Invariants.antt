@@ -2,7 +2,7 @@ use Rattle.std.proofs.Common.{◌≡◌, ◌≤◌, ◌<◌, []}
 use Rattle.front_workers.specs.Working.{HasFailed}
 use Rattle.flight.specs.Bounds.{IsBounded}
 use Rattle.flight.specs.Waiting.{outstanding}
-use Rattle.flight_sockets.specs.Accounts.{Accounts}
+use Rattle.flight_sockets.specs.Accounts.{Accounts, KeepsTime}
 use Rattle.flight_sockets.specs.Begun.{Runs, none_in_flight}
 use Rattle.flight_sockets.proofs.udp_worker.fly_udp.Given as goal
 
@@ -11,6 +11,7 @@ abbrev pub invariant-loop : goal.invariant-loop
 invariant-loop g l = record {
   so_far : Accounts g.S.ServiceSocket.takes g.S.ServiceSocket.sends 0 l.fn.worker (outstanding l.questions) l.worker-inside.turns;
   ran : Runs g.S.ServiceSocket.takes g.S.ServiceSocket.sends (none_in_flight l.fn.limit) l.fn.worker l.questions l.worker-inside.turns;
+  time : KeepsTime l.fn.worker.clock (none_in_flight l.fn.limit) l.worker-inside.turns.clock l.questions;
   within : outstanding l.questions ≤ l.fn.limit;
   bounded : IsBounded l.questions;
   limit : l.questions.limit ≡ l.fn.limit;

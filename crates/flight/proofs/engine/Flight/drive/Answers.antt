@@ -87,8 +87,8 @@ returns-in_default g c =
     let before = c.loop-want.invariant in
     let table = c.loop-want.self-inside.table in
     let state : FlightState = record { exchanges = table.jobs.slots; begun = map (λ wait. wait.since) table.waits.items; latest = table.latest; limit = table.limit } in
-    own_client before.client_kept (settled_there c.args.now c.args.self.now state c.args.outside.now c.loop-want.outside c.lack.new.outside c.args.octets.now before.asked.own before.keeps before.counts_kept
-    (same_state c.args.self.now state before.exchanges_kept before.begun_kept before.latest_kept before.limit_kept) c.lack.ensures)
+    own_client before.client_kept (settled_there c.args.now c.args.self.now state c.args.outside.now c.loop-want.outside c.refuse.new.outside c.args.octets.now before.asked.own before.keeps before.counts_kept
+    (same_state c.args.self.now state before.exchanges_kept before.begun_kept before.latest_kept before.limit_kept) c.refuse.ensures)
 
 pub returns-in-Err : goal.returns-in-Err
 returns-in-Err g c =
@@ -96,8 +96,8 @@ returns-in-Err g c =
     let room = c.make_room.ensures in
     let table = c.make_room.new.self in
     let state : FlightState = record { exchanges = table.jobs.slots; begun = map (λ wait. wait.since) table.waits.items; latest = table.latest; limit = table.limit } in
-    own_client before.client_kept (settled_there c.args.now c.args.self.now state c.args.outside.now c.loop-want.outside c.refuse.new.outside c.args.octets.now before.asked.own before.keeps before.counts_kept
-    (same_state c.args.self.now state (room.jobs ∙ before.exchanges_kept) (ap (map (λ wait. wait.since)) room.waits ∙ before.begun_kept) (room.latest ∙ before.latest_kept) (room.limit ∙ before.limit_kept)) c.refuse.ensures)
+    own_client before.client_kept (settled_there c.args.now c.args.self.now state c.args.outside.now c.loop-want.outside c.refuse-in-Err.new.outside c.args.octets.now before.asked.own before.keeps before.counts_kept
+    (same_state c.args.self.now state (room.jobs ∙ before.exchanges_kept) (ap (map (λ wait. wait.since)) room.waits ∙ before.begun_kept) (room.latest ∙ before.latest_kept) (room.limit ∙ before.limit_kept)) c.refuse-in-Err.ensures)
 
 pub returns-in-Some : goal.returns-in-Some
 returns-in-Some g c =

@@ -13,6 +13,12 @@ unreachable-requires g c =
     let none = none_kept table.jobs.slots c.largest-key.result c.largest-key.ensures (sym c.in_default.ensures.job) in
     omega (arith, c.requires, none, ap kept_all c.self.view_is)
 
+pub keeps_most-cause-requires-clause-much : goal.keeps_most-cause-requires-clause-much
+keeps_most-cause-requires-clause-much g c = omega (arith, c.requires, ap kept_all c.self.view_is)
+
+pub keeps_most-cause-requires-clause-most : goal.keeps_most-cause-requires-clause-most
+keeps_most-cause-requires-clause-most g c = c.largest-key.ensures
+
 pub returns : goal.returns
 returns g c =
     let was = c.self.view_is in

@@ -14,7 +14,7 @@ drive-requires-clause-flies g c =
     ]
 
 pub returns-in-NoMemory : goal.returns-in-NoMemory
-returns-in-NoMemory g c = settled_now _ _ _ _ _ _ c.requires.asked.own refl c.lack.ensures
+returns-in-NoMemory g c = settled_now _ _ _ _ _ _ c.requires.asked.own refl c.refuse.ensures
 
 pub returns-then-seen-asking : goal.returns-then-seen-asking
-returns-then-seen-asking g c = settled_now _ _ _ _ _ _ c.requires.asked.own refl c.refuse.ensures
+returns-then-seen-asking g c = settled_now _ _ _ _ _ _ c.requires.asked.own refl c.refuse-then-seen-asking.ensures

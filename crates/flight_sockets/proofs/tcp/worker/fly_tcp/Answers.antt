@@ -1,16 +1,25 @@
-use Rattle.std.proofs.Common.{◌∙◌, ℕ, arith, refl, rules, subst, sym}
+use Rattle.std.proofs.Common.{◌≡◌, ◌∙◌, ℕ, ap, arith, rules, subst, sym}
+use Rattle.flight.specs.Waiting.{FlightState}
 use Rattle.front_workers.specs.Working.{HasFailed}
-use Rattle.flight_sockets.specs.Streaming.{stays, tends}
-use Rattle.flight_sockets.proofs.Accounting.{failed_more, not_failed}
+use Rattle.flight_sockets.specs.Accounts.{KeepsTime}
+use Rattle.flight_sockets.specs.Begun.{none_in_flight}
+use Rattle.flight_sockets.specs.Streaming.{StreamWorker, stays, tends}
+use Rattle.flight_sockets.proofs.Accounting.{failed_more, not_failed, time_on, time_then}
 use Rattle.flight_sockets.proofs.Flowing.{accounts_then, runs_on}
 use Rattle.flight_sockets.proofs.Serving.{tends_none}
 use Rattle.flight_sockets.proofs.tcp.worker.fly_tcp.Goals as goal
 
 pub loop-init : goal.loop-init
 loop-init g c =
+    let same : c.worker.inside.turns ≡ c.args.worker.now = search rules in
+    let none = none_in_flight c.args.limit in
+    let start = c.args.worker.now.clock in
+    let clock = c.worker.inside.turns.clock in
+    let on = time_on none start clock (omega (arith, ap (λ (worker : StreamWorker _). worker.clock.last) same)) in
     record {
       so_far = search rules;
       ran = search (rules, stays);
+      time = subst (λ (flight : FlightState). KeepsTime start none clock flight) (sym c.new-questions.ensures) on;
       within = search rules;
       bounded = search rules;
       limit = search rules;
@@ -26,6 +35,7 @@ loop-preserved-in-Ok g c =
     record {
       so_far = accounts_then _ _ _ _ _ _ _ _ _ before.so_far goes_on.accounts;
       ran = runs_on before.ran goes_on.runs;
+      time = time_then _ _ _ _ _ _ before.time goes_on.time;
       within = omega (arith, within, before.limit);
       bounded = goes_on.bounded before.bounded;
       limit = goes_on.limit ∙ before.limit;
@@ -41,6 +51,7 @@ loop-preserved-then-lacks_descriptors g c =
     record {
       so_far = accounts_then _ _ _ _ _ _ _ _ _ before.so_far goes_on.accounts;
       ran = runs_on before.ran goes_on.runs;
+      time = time_then _ _ _ _ _ _ before.time goes_on.time;
       within = omega (arith, within, before.limit);
       bounded = goes_on.bounded before.bounded;
       limit = goes_on.limit ∙ before.limit;
@@ -60,6 +71,7 @@ returns-then-failed-eq-MOST_FAILURES-clause-runs g c =
       omega (arith, within, before.limit),
       goes_on.bounded before.bounded,
       rw (counted.taken, counted.counts) accounts,
+      rw counted.clock (time_then _ _ _ _ _ _ before.time goes_on.time),
     )
 
 pub returns-then-failed-eq-MOST_FAILURES-clause-failing : goal.returns-then-failed-eq-MOST_FAILURES-clause-failing
@@ -76,6 +88,7 @@ loop-preserved g c =
     record {
       so_far = rw (counted.taken, counted.counts) accounts;
       ran = tends (runs_on before.ran goes_on.runs) (tends_none counted.connections) counted.taken;
+      time = rw counted.clock (time_then _ _ _ _ _ _ before.time goes_on.time);
       within = omega (arith, within, before.limit);
       bounded = goes_on.bounded before.bounded;
       limit = goes_on.limit ∙ before.limit;

@@ -1,4 +1,4 @@
-use Rattle.std.proofs.Common.{refl}
+use Rattle.std.proofs.Common.{◌∙◌, arith, refl}
 use Rattle.flight_sockets.specs.Begun.{arrived}
 use Rattle.flight_sockets.proofs.Accounting.{gone_on, stayed}
 use Rattle.flight_sockets.proofs.Beginning.{begun_on}
@@ -6,7 +6,7 @@ use Rattle.flight_sockets.proofs.Posting.{endings_none, posts_none}
 use Rattle.flight_sockets.proofs.turns.Turns.begin_each.Goals as goal
 
 pub loop-slot-init : goal.loop-slot-init
-loop-slot-init g c = record { so_far = stayed _ _ _ (endings_none (posts_none refl) refl) refl refl refl; begin = (refl, refl) }
+loop-slot-init g c = record { so_far = stayed _ _ _ (endings_none (posts_none refl) refl) refl refl refl (omega arith); begin = (refl, refl); reported = refl }
 
 pub loop-slot-preserved : goal.loop-slot-preserved
 loop-slot-preserved g c =
@@ -14,4 +14,5 @@ loop-slot-preserved g c =
     record {
       so_far = gone_on _ _ _ _ _ _ before.so_far c.begin.ensures.goes_on;
       begin = begun_on (λ slot. arrived slot.came slot.room) _ c.loop-slot.slot-index c.slot-item.result _ _ _ _ _ _ _ c.loop-slot-test.true c.slot-item.is before.begin c.begin.ensures.just;
+      reported = c.begin.ensures.reported ∙ before.reported;
     }

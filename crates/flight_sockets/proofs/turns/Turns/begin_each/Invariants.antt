@@ -1,4 +1,4 @@
-use Rattle.std.proofs.Common.{map, take}
+use Rattle.std.proofs.Common.{◌≡◌, map, take}
 use Rattle.flight_sockets.specs.Accounts.{GoesOn}
 use Rattle.flight_sockets.specs.Begun.{AllBegin, arrived}
 use Rattle.flight_sockets.proofs.turns.Turns.begin_each.Given as goal
@@ -8,4 +8,5 @@ abbrev pub invariant-loop-slot : goal.invariant-loop-slot
 invariant-loop-slot g l = record {
   so_far : GoesOn g.S.ServiceSocket.takes g.S.ServiceSocket.sends l.initial.questions l.initial.self l.questions l.self;
   begin : AllBegin g.S.ServiceSocket.takes g.S.ServiceSocket.sends (map (λ slot. arrived slot.came slot.room) (take l.slot-index l.slot-items)) l.initial.questions l.initial.self l.questions l.self;
+  reported : l.self.reported ≡ l.initial.self.reported;
 }

@@ -1,8 +1,10 @@
-use Rattle.std.proofs.Common.{ℕ, arith, refl, subst}
+use Rattle.std.proofs.Common.{◌≤◌, ℕ, arith, refl, subst}
+use Rattle.dns_sockets.specs.Moments.{millis_at}
 use Rattle.flight.specs.Waiting.{EarlyGoOn}
-use Rattle.flight_sockets.proofs.Accounting.{gone_on, looked_on, stayed, worker_of}
+use Rattle.flight_sockets.proofs.Accounting.{gone_on, latest_on, looked_on, stayed, time_at, worker_of}
 use Rattle.flight_sockets.proofs.Beginning.{rests, takes_none_then}
 use Rattle.flight_sockets.proofs.Posting.{endings_none, endings_of, posts_none}
+use Rattle.flight_sockets.proofs.Reading.{onward_by}
 use Rattle.flight_sockets.proofs.turns.Turns.expire.Goals as goal
 
 pub returns-clause-goes_on : goal.returns-clause-goes_on
@@ -14,12 +16,15 @@ returns-clause-goes_on g c =
     let left = c.expire.new.self in
     let done = c.begin_anew.new.questions in
     let clock = c.millis-now.new.self in
+    let now_is : c.millis-now.result ≤ millis_at clock.last = omega (arith, c.millis-now.ensures.millis) in
     let before = worker_of c.set_now.new.self.server_port inside.taken inside.failures c.set_now.new.self.outbox c.set_now.new.self.counts clock inside.events.inner.items in
     let after = worker_of c.expire.new.outside.server_port inside.taken inside.failures c.expire.new.outside.outbox c.expire.new.outside.counts clock inside.events.inner.items in
     let last = worker_of c.begin_anew.new.sockets.server_port inside.taken inside.failures c.begin_anew.new.sockets.outbox c.begin_anew.new.sockets.counts clock inside.events.inner.items in
-    rw (← c.self.view_is) (gone_on between between done _ before last (stayed between _ before (endings_none (posts_none c.set_now.ensures.kept) refl) refl c.set_now.ensures.counts refl)
-    (gone_on between left done before after last (looked_on between left before after refl ends.accounted (endings_of ends.ends) ends.no_more ends.bounded ends.limit refl)
-    (looked_on left done after last refl anew.accounted (endings_of anew.ends) anew.no_more anew.bounded anew.limit refl)))
+    rw (← c.self.view_is) (gone_on between between done _ before last (stayed between _ before (endings_none (posts_none c.set_now.ensures.kept) refl) refl c.set_now.ensures.counts refl (onward_by inside.clock clock c.millis-now.ensures.read))
+    (gone_on between left done before after last (looked_on between left before after refl ends.accounted (endings_of ends.ends) ends.no_more ends.bounded ends.limit refl
+    (time_at c.millis-now.result between left clock now_is (latest_on c.millis-now.result between left ends.begins)))
+    (looked_on left done after last refl anew.accounted (endings_of anew.ends) anew.no_more anew.bounded anew.limit refl
+    (time_at c.millis-now.result left done clock now_is anew.latest))))
 
 pub returns-clause-no_more : goal.returns-clause-no_more
 returns-clause-no_more g c = omega (arith, c.begin_anew.ensures.no_more, c.expire.ensures.loses_none.no_more)

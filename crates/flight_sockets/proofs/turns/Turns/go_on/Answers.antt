@@ -16,9 +16,9 @@ returns-clause-goes_on g c =
     let done = c.relieve.new.questions in
     let looked = worker_of c.look_all.new.sockets.server_port inside.taken inside.failures c.look_all.new.sockets.outbox c.look_all.new.sockets.counts c.look_all.new.clock inside.events.inner.items in
     let relieved = rw (← c.self-2.view_is) at c.relieve.ensures.goes_on in
-    rw (← c.self.view_is) (gone_on _ between done _ looked _ (looked_on _ between _ looked refl looks.accounted (endings_of looks.ends) looks.no_more looks.bounded looks.limit refl)
+    rw (← c.self.view_is) (gone_on _ between done _ looked _ (looked_on _ between _ looked refl looks.accounted (endings_of looks.ends) looks.no_more looks.bounded looks.limit refl looks.time)
     (gone_on between left done looked _ _ c.expire.ensures.goes_on
-    (gone_on left done done _ _ _ relieved (stayed done _ _ (endings_none c.flush.ensures.posts refl) refl c.flush.ensures.counts refl))))
+    (gone_on left done done _ _ _ relieved (stayed done _ _ (endings_none c.flush.ensures.posts refl) refl c.flush.ensures.counts refl (omega arith)))))
 
 pub returns-clause-takes_none : goal.returns-clause-takes_none
 returns-clause-takes_none g c =

@@ -1,5 +1,5 @@
-use Rattle.std.proofs.Common.{refl}
-use Rattle.flight_sockets.proofs.Accounting.{looked_on, worker_of}
+use Rattle.std.proofs.Common.{arith, refl}
+use Rattle.flight_sockets.proofs.Accounting.{latest_on, looked_on, time_at, worker_of}
 use Rattle.flight_sockets.proofs.Posting.{endings_of}
 use Rattle.flight_sockets.proofs.turns.Turns.relieve.Goals as goal
 
@@ -9,7 +9,8 @@ returns-clause-goes_on g c =
     let loses = c.relieve.ensures.loses_none 0 in
     let before = worker_of inside.sockets.server_port inside.taken inside.failures inside.sockets.outbox inside.sockets.counts inside.clock inside.events.inner.items in
     let after = worker_of c.relieve.new.outside.server_port inside.taken inside.failures c.relieve.new.outside.outbox c.relieve.new.outside.counts inside.clock inside.events.inner.items in
-    rw (← c.self.view_is) (looked_on c.args.questions.now c.relieve.new.self before after refl loses.accounted (endings_of loses.ends) loses.no_more loses.bounded loses.limit refl)
+    rw (← c.self.view_is) (looked_on c.args.questions.now c.relieve.new.self before after refl loses.accounted (endings_of loses.ends) loses.no_more loses.bounded loses.limit refl
+    (time_at 0 c.args.questions.now c.relieve.new.self inside.clock (omega arith) (latest_on 0 c.args.questions.now c.relieve.new.self loses.begins)))
 
 pub returns-clause-no_more : goal.returns-clause-no_more
 returns-clause-no_more g c = (c.relieve.ensures.loses_none 0).no_more

@@ -1,4 +1,4 @@
-use Rattle.std.proofs.Common.{refl}
+use Rattle.std.proofs.Common.{arith, refl}
 use Rattle.flight_sockets.proofs.Accounting.{gone_on, received, stayed, worker_of}
 use Rattle.flight_sockets.proofs.Beginning.{batch_begins}
 use Rattle.flight_sockets.proofs.Posting.{endings_none, posts_none}
@@ -12,9 +12,9 @@ returns-clause-goes_on g c =
     let got = worker_of with.server_port inside.taken inside.failures with.outbox with.counts inside.clock inside.events.inner.items in
     let ready = worker_of c.set_now.new.self.server_port inside.taken inside.failures c.set_now.new.self.outbox c.set_now.new.self.counts inside.clock inside.events.inner.items in
     let begun = rw (← c.self-2.view_is) at c.begin_each.ensures.goes_on in
-    rw (← c.self.view_is) (gone_on _ _ _ _ got _ (received _ _ got _ took.took took.waiting refl took.counts refl)
-    (gone_on _ _ _ got ready _ (stayed _ got ready (endings_none (posts_none c.set_now.ensures.kept) refl) refl c.set_now.ensures.counts refl)
-    (gone_on _ _ _ ready _ _ begun (stayed _ _ _ (endings_none c.flush.ensures.posts refl) refl c.flush.ensures.counts refl))))
+    rw (← c.self.view_is) (gone_on _ _ _ _ got _ (received _ _ got _ took.took took.waiting refl took.counts refl (omega arith))
+    (gone_on _ _ _ got ready _ (stayed _ got ready (endings_none (posts_none c.set_now.ensures.kept) refl) refl c.set_now.ensures.counts refl (omega arith))
+    (gone_on _ _ _ ready _ _ begun (stayed _ _ _ (endings_none c.flush.ensures.posts refl) refl c.flush.ensures.counts refl (omega arith)))))
 
 pub returns-in_err-received-clause-goes_on : goal.returns-in_err-received-clause-goes_on
 returns-in_err-received-clause-goes_on g c =
@@ -24,9 +24,9 @@ returns-in_err-received-clause-goes_on g c =
     let got = worker_of with.server_port inside.taken inside.failures with.outbox with.counts inside.clock inside.events.inner.items in
     let ready = worker_of c.set_now.new.self.server_port inside.taken inside.failures c.set_now.new.self.outbox c.set_now.new.self.counts inside.clock inside.events.inner.items in
     let begun = rw (← c.self-2.view_is) at c.begin_each.ensures.goes_on in
-    rw (← c.self.view_is) (gone_on _ _ _ _ got _ (received _ _ got _ took.took took.waiting refl took.counts refl)
-    (gone_on _ _ _ got ready _ (stayed _ got ready (endings_none (posts_none c.set_now.ensures.kept) refl) refl c.set_now.ensures.counts refl)
-    (gone_on _ _ _ ready _ _ begun (stayed _ _ _ (endings_none c.flush.ensures.posts refl) refl c.flush.ensures.counts refl))))
+    rw (← c.self.view_is) (gone_on _ _ _ _ got _ (received _ _ got _ took.took took.waiting refl took.counts refl (omega arith))
+    (gone_on _ _ _ got ready _ (stayed _ got ready (endings_none (posts_none c.set_now.ensures.kept) refl) refl c.set_now.ensures.counts refl (omega arith))
+    (gone_on _ _ _ ready _ _ begun (stayed _ _ _ (endings_none c.flush.ensures.posts refl) refl c.flush.ensures.counts refl (omega arith)))))
 
 pub returns-in_err-received-clause-begun : goal.returns-in_err-received-clause-begun
 returns-in_err-received-clause-begun g c =

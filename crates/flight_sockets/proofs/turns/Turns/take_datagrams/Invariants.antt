@@ -9,4 +9,5 @@ invariant-loop g l = record {
   so_far : GoesOn g.S.ServiceSocket.takes g.S.ServiceSocket.sends l.fn.questions l.fn.self l.questions l.self;
   ran : Runs g.S.ServiceSocket.takes g.S.ServiceSocket.sends l.fn.questions l.fn.self l.questions l.self;
   sent : l.fn.self.outbox.waiting ≡ [] → l.self.outbox.waiting ≡ [];
+  reported : l.self.reported ≡ l.fn.self.reported;
 }

@@ -4,7 +4,7 @@ use Rattle.flight_sockets.specs.Begun.{goes_on, stays}
 use Rattle.flight_sockets.proofs.Accounting.{gone_on, stayed}
 use Rattle.flight_sockets.proofs.Beginning.{rests, runs_then}
 use Rattle.flight_sockets.proofs.Posting.{endings_none, posts_none}
-use Rattle.flight_sockets.proofs.Reading.{read_after}
+use Rattle.flight_sockets.proofs.Reading.{onward_on, read_after}
 use Rattle.flight_sockets.proofs.turns.Turns.turn.Goals as goal
 
 -- A fact holds if the result is no error.
@@ -15,7 +15,7 @@ on_ok (Err _) is = tt
 pub returns-in_err-wait-clause-goes_on : goal.returns-in_err-wait-clause-goes_on
 returns-in_err-wait-clause-goes_on g c =
     let waited = c.wait.ensures in
-    stayed _ _ _ (endings_none (posts_none waited.outbox) refl) waited.taken waited.counts waited.failures
+    stayed _ _ _ (endings_none (posts_none waited.outbox) refl) waited.taken waited.counts waited.failures (onward_on waited.read)
 
 pub returns-in_err-wait-clause-runs : goal.returns-in_err-wait-clause-runs
 returns-in_err-wait-clause-runs g c = goes_on stays (rests _ _ _ c.wait.ensures.outbox c.wait.ensures.taken)
@@ -23,7 +23,7 @@ returns-in_err-wait-clause-runs g c = goes_on stays (rests _ _ _ c.wait.ensures.
 pub returns-clause-goes_on : goal.returns-clause-goes_on
 returns-clause-goes_on g c =
     let waited = c.wait.ensures in
-    gone_on _ _ _ _ _ _ (stayed _ _ _ (endings_none (posts_none waited.outbox) refl) waited.taken waited.counts waited.failures)
+    gone_on _ _ _ _ _ _ (stayed _ _ _ (endings_none (posts_none waited.outbox) refl) waited.taken waited.counts waited.failures (onward_on waited.read))
     (gone_on _ _ _ _ _ _ c.go_on.ensures.goes_on c.take_datagrams.ensures.goes_on)
 
 pub returns-clause-runs : goal.returns-clause-runs
@@ -40,5 +40,7 @@ returns-clause-overdue g c = on_ok c.take_datagrams.result
       patient = c.go_on.ensures.patient;
       timely = c.go_on.ensures.timely;
       relieved = c.go_on.ensures.looks.relieved;
+      looks = rw (← c.wait.ensures.counts, c.take_datagrams.ensures.reported, c.go_on.ensures.reported) c.go_on.ensures.looks;
+      listened = c.take_datagrams.ensures.goes_on.accounts.never_fall.listened;
       after = c.take_datagrams.ensures.runs;
     })

@@ -2,6 +2,9 @@ use Rattle.std.proofs.Common.{rules}
 use Rattle.flight.proofs.Answering.{header_fits}
 use Rattle.flight_sockets.proofs.worker_sockets.WorkerSocketsOutsideSocketLine.fail.Goals as goal
 
+pub report_of-requires : goal.report_of-requires
+report_of-requires g c = c.requires.good.query.header
+
 pub send_to-requires : goal.send_to-requires
 send_to-requires g c = record { short = rw c.report_of.ensures.short (header_fits (g.K.Client.over c.args.client)) }
 

@@ -1,6 +1,7 @@
 use Rattle.std.proofs.Common.{[], ◌∷◌, Some, refl, arith, rules}
 use Rattle.front_workers.specs.Serves.{fault_octets}
 use Rattle.flight.proofs.Settling.{accounted_settled}
+use Rattle.flight_sockets.proofs.Accounting.{latest_begun, time_at, time_on}
 use Rattle.flight_sockets.proofs.Flowing.{accounts_one}
 use Rattle.flight_sockets.proofs.tcp.turns.TcpTurns.begin.Goals as goal
 use Rattle.flight_sockets.proofs.tcp.turns.TcpTurns.begin.Goals.{then-octets-gt-MOST_DATAGRAM+then-is_dear+then-wants_reply, else-octets-gt-MOST_DATAGRAM}
@@ -18,18 +19,23 @@ returns g c =
           bounded = λ few. few;
           limit = refl;
           failures = refl;
+          time = time_on _ _ _ (omega arith);
         };
+        reported = refl;
       }))
       | else-octets-gt-MOST_DATAGRAM w ↦ rw (w.questions-is, w.self-inside-is) (rw (← c.self.view_is) (record {
         ends = record {
           counted = search rules;
-          ends = w.begin.ensures.ends;
-          own = w.begin.ensures.own;
-          accounts = accounts_one _ _ _ _ _ _ (search rules) w.begin.ensures.accounted;
-          within = w.begin.ensures.within;
-          bounded = w.begin.ensures.bounded;
-          limit = w.begin.ensures.limit;
+          ends = w.begin.ensures.settles.ends;
+          own = w.begin.ensures.settles.own;
+          accounts = accounts_one _ _ _ _ _ _ (search rules) w.begin.ensures.settles.accounted;
+          within = w.begin.ensures.settles.within;
+          bounded = w.begin.ensures.settles.bounded;
+          limit = w.begin.ensures.settles.limit;
           failures = refl;
+          time = time_at c.last_millis-now.result c.args.questions.now w.begin.new.self c.self.inside.clock (omega (arith, c.last_millis-now.ensures))
+              (latest_begun c.last_millis-now.result _ c.args.questions.now w.begin.new.self w.begin.ensures.settles.waits);
         };
+        reported = refl;
       }))
     ]

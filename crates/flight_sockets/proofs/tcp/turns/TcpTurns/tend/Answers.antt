@@ -1,4 +1,4 @@
-use Rattle.std.proofs.Common.{◌∙◌, ap}
+use Rattle.std.proofs.Common.{◌∙◌, ap, arith}
 use Rattle.flight_sockets.specs.Streaming.{StreamWorker}
 use Rattle.flight_sockets.proofs.Serving.{tends_none, tends_then}
 use Rattle.flight_sockets.proofs.tcp.turns.TcpTurns.tend.Goals as goal
@@ -21,3 +21,18 @@ pub returns-clause-failures : goal.returns-clause-failures
 returns-clause-failures g c =
     ap (λ (worker : StreamWorker _). worker.failures) c.accept_each.ensures.kept ∙ ap (λ (worker : StreamWorker _). worker.failures) c.end_overdue.ensures.kept ∙ c.set_now-now.ensures.failures
     ∙ ap (λ (worker : StreamWorker _). worker.failures) c.note.ensures
+
+pub returns-clause-onward : goal.returns-clause-onward
+returns-clause-onward g c =
+    omega (
+      arith,
+      c.set_now-now.ensures.onward,
+      ap (λ (worker : StreamWorker _). worker.clock.last) c.note.ensures,
+      ap (λ (worker : StreamWorker _). worker.clock.last) c.end_overdue.ensures.kept,
+      ap (λ (worker : StreamWorker _). worker.clock.last) c.accept_each.ensures.kept,
+    )
+
+pub returns-clause-reported : goal.returns-clause-reported
+returns-clause-reported g c =
+    ap (λ (worker : StreamWorker _). worker.reported) c.accept_each.ensures.kept ∙ ap (λ (worker : StreamWorker _). worker.reported) c.end_overdue.ensures.kept ∙ c.set_now-now.ensures.reported
+    ∙ ap (λ (worker : StreamWorker _). worker.reported) c.note.ensures
