@@ -46,7 +46,7 @@ pub use data::{push_data, read_data};
 pub use fault::TextFault;
 pub use items::{Items, Octets};
 pub use kind::{Form, form_of, is_excluded, push_type, read_type, write_type};
-pub use laws::{one_meaning, text_law, written_law};
+pub use laws::{limits_law, one_meaning, text_law, types_law, written_law};
 pub use number::read_number;
 pub use record::{Data, Question, Record, equality_law};
 pub use record_text::{push_record, read_record, write_record};

@@ -30,6 +30,15 @@ abbrev pub is_admission : Event → Bool
 is_admission (Admit moment find) = true
 is_admission _ = false
 
+-- whether an event is but a moment and a ticket, so that its copy takes no memory
+abbrev pub is_plain : Event → Bool
+is_plain (Sweep moment) = true
+is_plain (Undo moment) = true
+is_plain (Redo moment) = true
+is_plain (UndoOf moment ticket) = true
+is_plain (RedoOf moment ticket) = true
+is_plain _ = false
+
 -- whether an event empties the cells of this name, whichever commands are in force
 abbrev pub forgets : Labels → Event → Bool
 forgets name (Forget moment owner) = name_eq owner name

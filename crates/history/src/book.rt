@@ -1,6 +1,6 @@
 //! The promise that every book keeps, however it keeps it.
 
-ghost use Rattle.std.specs.Prelude.{◌≡◌, ◌<◌, ◌≤◌, ℕ, true, false, List, length, count_by, IfOk, OnErr, IsErrOf};
+ghost use Rattle.std.specs.Prelude.{◌≡◌, ◌<◌, ◌≤◌, ℕ, true, false, List, length, count_by, IfOk, OnErr, IsErrOf, ◌⊎◌, IfErr};
 ghost use Rattle.history.specs.declared.event.Event.{Event};
 ghost use Rattle.history.specs.declared.event.Settings.{Settings};
 ghost use Rattle.history.specs.Event.{is_admission};
@@ -70,6 +70,9 @@ pub trait Book: Drop {
     /// A bound of what is left to free of what no reply can show any more.
     ghost unswept: { Self → ℕ };
 
+    /// The book takes this event without memory. Which events these are, each book says.
+    ghost is_free: { Self → Event → Type 0 };
+
     /// Takes an event.
     fn step(&mut self, event: Event) -> Result<Reply, StepFault>
         // The reply is that of the replay, and each fault has its reason.
@@ -81,7 +84,11 @@ pub trait Book: Drop {
         // It is full only if as many cells are stored as there may be.
         ensures full { (n : ℕ) → IsErrOf result (StepFault.Full n) → stored self.old ≡ n }
         ensures same_store { OnErr result (stored self.new ≡ stored self.old) }
-        ensures settings { settings self.new ≡ settings self.old };
+        ensures settings { settings self.new ≡ settings self.old }
+
+        // An event that needs no memory is refused only by the clock and the count of events.
+        ensures free { is_free self.old event →
+            IfErr result (λ fault. (fault ≡ StepFault.BadMoment) ⊎ (fault ≡ StepFault.CountEnded)) };
 
     /// Takes an event as `step` does, and returns no reply. A book that follows another one needs none, since the other has replied. So
     /// it may leave out what only replies need, and what has expired until `sweep_some` removes it.
@@ -91,6 +98,8 @@ pub trait Book: Drop {
         ensures full { (n : ℕ) → IsErrOf result (StepFault.Full n) → stored self.old ≡ n }
         ensures same_store { OnErr result (stored self.new ≡ stored self.old) }
         ensures settings { settings self.new ≡ settings self.old }
+        ensures free { is_free self.old event →
+            IfErr result (λ fault. (fault ≡ StepFault.BadMoment) ⊎ (fault ≡ StepFault.CountEnded)) }
     {
         match self.step(event) {
             Ok(reply) => {

@@ -9,7 +9,7 @@ use dns_text::Question;
 use std::alloc::Global;
 
 /// The digest of a key of the zone below: data of the zone that delegates (RFC 4034, section 5).
-const DS: u16 = 43;
+pub(crate) const DS: u16 = 43;
 
 /// The name above this one. The root is its own.
 fn name_above(alloc: Global, name: &Name) -> Result<Name, NoMemory>

@@ -11,5 +11,5 @@ mod negative;
 mod laws;
 
 pub use alias::MOST_RESPONSE_ALIASES;
-pub use laws::{denial_law, last_law};
+pub use laws::{denial_law, last_law, limits_law};
 pub use negative::negative_of;

@@ -215,6 +215,8 @@ impl<B: Book> Book for WatchedBook<B> {
 
     ghost unswept = { λ watched. B.unswept watched.book };
 
+    ghost is_free = { λ watched event. B.is_free watched.book event };
+
     ghost has_journal = { λ watched history is. B.has_journal watched.book history is };
 
     ghost stores_few = { λ watched history is. B.stores_few watched.book history is };

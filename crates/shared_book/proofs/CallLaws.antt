@@ -1,5 +1,5 @@
 -- What a call of what lies under the lock says of its answer.
-use Rattle.std.proofs.Common.{◌≡◌, ℕ, ◌+◌, ◌<◌, ◌≤◌, List, length, refl, sym, ◌∙◌, ap, subst, arith, inl, inr}
+use Rattle.std.proofs.Common.{◌≡◌, ℕ, ◌+◌, ◌≤◌, List, length, sym, ◌∙◌, ap, subst, arith}
 use Rattle.std.specs.Prelude.{Result, Ok, Err, IfOk, IfErr, IsErrOf}
 use Rattle.history.specs.declared.event.Event.{Event}
 use Rattle.history.specs.declared.event.Reply.{Reply}
@@ -7,7 +7,7 @@ use Rattle.history.specs.declared.event.Settings.{Settings}
 use Rattle.history.specs.declared.book.StepFault.{StepFault}
 use Rattle.history.specs.declared.book.StepFault.TheVariants.{BadMoment, CountEnded, Full, NoMemory}
 use Rattle.history.specs.declared.limits.TheConstants.{MOST_EVENTS}
-use Rattle.history.specs.Answers.{Answers, IsTimely}
+use Rattle.history.specs.Answers.{Answers}
 use Rattle.history.specs.Desk.{IsStep as IsBookStep}
 use Rattle.history.specs.History.{past_of}
 use Rattle.history.specs.Reply.{reply_of}
@@ -15,8 +15,8 @@ use Rattle.shared_book.specs.declared.fault.CallFault.{CallFault}
 use Rattle.shared_book.specs.declared.fault.CallFault.TheVariants.{Step, Behind}
 use Rattle.shared_book.specs.declared.receipt.Receipt.{Receipt}
 use Rattle.shared_book.specs.Pass.{PassState, after_call}
-use Rattle.shared_book.specs.Kept.{KeptState, IsKept, IsStep, IsCalled}
-use Rattle.shared_book.specs.Calling.{IsReason, IsCallReply, IsFaultOf, IsCall, IsLocked, IsShared, IsReceiptOf, IsJustified, SeatCall, fault_at_desk}
+use Rattle.shared_book.specs.Kept.{KeptState, IsKept, IsStep, IsCalled, IsFreeCall}
+use Rattle.shared_book.specs.Calling.{IsReason, IsCallReply, IsFaultOf, IsCall, IsLocked, IsShared, IsReceiptOf, IsJustified, SeatCall}
 use Rattle.shared_book.proofs.RecordLaws.{all_events, as_many}
 
 -- a fault that a history explains has its reason
@@ -25,6 +25,10 @@ reason settings made_with h event BadMoment same answers = answers
 reason settings made_with h event CountEnded same answers = answers.0
 reason settings made_with h event (Full n) same answers = (answers.1, answers.2 ∙ ap (λ (s : Settings). s.cells) same)
 reason settings made_with h event NoMemory same answers = tt
+
+-- a call is told no more than the step of its book
+pub same_fault : {A C : Type 0} (fault : StepFault) → IsErrOf {T = A} (Err (Step fault)) (Step NoMemory) → IsErrOf {T = C} (Err fault) NoMemory
+same_fault fault is = (cc)
 
 module _ {B : Type 0} (stands_for : B → List Event → Type 0) (made_with : B → Settings) (stored : B → ℕ) where
   -- the step of the book in a step under the lock
@@ -52,10 +56,11 @@ module _ {B : Type 0} (stands_for : B → List Event → Type 0) (made_with : B 
   ended before after pass pass' event (Err (Behind at)) kept call is = (cc)
 
   -- such a call as a caller knows of it, who does not know what lay there
-  pub locked : (settings : Settings) (before after : KeptState B) (pass pass' : PassState) (event : Event) (answer : Result Reply CallFault) → IsKept stands_for made_with before
-      → made_with before.book ≡ settings → IsCall stands_for made_with stored before pass event answer after pass' → IsLocked stands_for made_with stored settings pass event answer pass'
-  locked settings before after pass pass' event answer kept same call =
-      record { before = before; after = after; kept = kept; same_settings = same; call = call; ended = ended before after pass pass' event answer kept call }
+  pub locked : (is_free : B → Event → Type 0) (settings : Settings) (before after : KeptState B) (pass pass' : PassState) (event : Event) (answer : Result Reply CallFault) → IsKept stands_for made_with before
+      → made_with before.book ≡ settings → IsCall stands_for made_with stored before pass event answer after pass'
+      → (IsFreeCall is_free before event → ¬ (IsErrOf answer (Step NoMemory))) → IsLocked stands_for made_with stored is_free settings pass event answer pass'
+  locked is_free settings before after pass pass' event answer kept same call free =
+      record { before = before; after = after; kept = kept; same_settings = same; call = call; ended = ended before after pass pass' event answer kept call; free = free }
 
   replied_by : (settings : Settings) (before after : KeptState B) (pass pass' : PassState) (event : Event) (reply : Reply) → IsKept stands_for made_with before
       → made_with before.book ≡ settings → IsCall stands_for made_with stored before pass event (Ok reply) after pass' → IsCallReply settings pass event reply pass'
@@ -94,13 +99,13 @@ module _ {B : Type 0} (stands_for : B → List Event → Type 0) (made_with : B 
   refused settings before after pass pass' event (Err (Behind at)) kept same call = record { reason = omega (arith, call.0, call.1); same = call.3 }
 
   -- a caller who gets no receipt knows as much as from its receipt
-  pub seat_reply : (settings : Settings) (pass pass' : PassState) (event : Event) (reply : Reply) (receipt : Receipt) → receipt.reply ≡ reply
-      → IsReceiptOf pass event receipt pass' → IsJustified settings receipt.number event receipt.reply → IsShared stands_for made_with stored settings pass event (Ok receipt.reply) pass'
-      → SeatCall stands_for made_with stored settings pass event (Ok reply) pass'
-  seat_reply settings pass pass' event reply receipt is got justified shared = (
+  pub seat_reply : (is_free : B → Event → Type 0) (settings : Settings) (pass pass' : PassState) (event : Event) (reply : Reply) (receipt : Receipt) → receipt.reply ≡ reply
+      → IsReceiptOf pass event receipt pass' → IsJustified settings receipt.number event receipt.reply → IsShared stands_for made_with stored is_free settings pass event (Ok receipt.reply) pass'
+      → SeatCall stands_for made_with stored is_free settings pass event (Ok reply) pass'
+  seat_reply is_free settings pass pass' event reply receipt is got justified shared = (
     receipt,
     is,
     got,
     subst (λ (r : Reply). IsJustified settings receipt.number event r) is justified,
-    subst (λ (r : Reply). IsShared stands_for made_with stored settings pass event (Ok r) pass') is shared,
+    subst (λ (r : Reply). IsShared stands_for made_with stored is_free settings pass event (Ok r) pass') is shared,
   )

@@ -1,19 +1,18 @@
 -- The receipts with which a book was closed are of one history.
-use Rattle.std.proofs.Common.{◌≡◌, ℕ, zero, suc, ◌+◌, ◌-◌, ◌<◌, ◌≤◌, Bool, true, false, cond, leb, None, List, [], ◌∷◌, ◌++◌, length, get_or, refl, sym, ◌∙◌, ap, subst, arith, append_assoc, length-append}
+use Rattle.std.proofs.Common.{◌≡◌, ℕ, zero, suc, ◌+◌, ◌-◌, ◌<◌, ◌≤◌, Bool, true, false, cond, leb, List, [], ◌∷◌, ◌++◌, length, refl, sym, ◌∙◌, ap, subst, arith, append_assoc, length-append}
 use Rattle.std.proofs.lemmas.Bool.{le-leb}
 use Rattle.std.specs.Prelude.{All, AllPairs, Contains}
 use Rattle.std.proofs.lemmas.List.{length-map}
 use Rattle.std.proofs.lemmas.List.Elements.{All-cons, All-nil, All-weaker, All-contains}
 use Rattle.std.proofs.lemmas.List.Kept.{AllPairs-cons}
-use Rattle.std.proofs.lemmas.List.Sorted.{IsPermutation-sym, All-permutation, Contains-permutation, length_permutation}
+use Rattle.std.proofs.lemmas.List.Sorted.{IsPermutation-sym, All-permutation, Contains-permutation}
 use Rattle.history.specs.declared.event.Event.{Event}
 use Rattle.history.specs.declared.event.Settings.{Settings}
 use Rattle.shared_book.specs.declared.receipt.Receipt.{Receipt}
 use Rattle.shared_book.specs.Pass.{PassState}
 use Rattle.shared_book.specs.Record.{events_of, IsLegalAfter}
-use Rattle.shared_book.specs.Kept.{KeptState, IsKept}
-use Rattle.shared_book.specs.Closing.{ClosesAs, numbered_from}
-use Rattle.shared_book.specs.OneHistory.{IsPlaced, AreOfCaller, AreOfOneHistory, ClosedIsOneHistory}
+use Rattle.shared_book.specs.Closing.{numbered_from}
+use Rattle.shared_book.specs.OneHistory.{IsPlaced, AreOfCaller, ClosedIsOneHistory}
 
 placed_after : (settings : Settings) (h : List Event) (entries : List Receipt) → IsLegalAfter settings h entries → All (IsPlaced settings (h ++ events_of entries)) entries
 placed_after settings h [] legal = All-nil _

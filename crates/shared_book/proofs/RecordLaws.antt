@@ -1,6 +1,6 @@
 -- A window that grows by one call, or moves on by one.
-use Rattle.std.proofs.Common.{◌≡◌, ◌+◌, ◌-◌, ◌<◌, ◌≤◌, ℕ, List, [], ◌∷◌, ◌++◌, length, min, refl, sym, ◌∙◌, ap, subst, arith, inl, inr, append_assoc, length-append}
-use Rattle.std.specs.Prelude.{Result, Ok, Err, OnOk, IsErrOf, count_by, slice_get, IfSome}
+use Rattle.std.proofs.Common.{◌≡◌, ◌+◌, ◌-◌, ◌<◌, ◌≤◌, ℕ, List, [], ◌∷◌, ◌++◌, length, refl, sym, ◌∙◌, ap, subst, arith, inl, inr, append_assoc, length-append}
+use Rattle.std.specs.Prelude.{◌⊎◌, true, Result, Ok, Err, OnOk, IsErrOf, slice_get, IfSome}
 use Rattle.std.proofs.lemmas.List.{map-append, length-map}
 use Rattle.std.proofs.lemmas.List.Sums.{count_by-le-length}
 use Rattle.dns_name.specs.ListLaws.{all-append}
@@ -9,7 +9,7 @@ use Rattle.history.specs.declared.event.Settings.{Settings}
 use Rattle.history.specs.declared.book.StepFault.{StepFault}
 use Rattle.history.specs.declared.book.StepFault.TheVariants.{BadMoment, CountEnded, Full, NoMemory}
 use Rattle.history.specs.declared.limits.TheConstants.{MOMENT_END, MOST_EVENTS, LAGGING_CELLS}
-use Rattle.history.specs.Event.{moment_of, is_admission, lagging_of}
+use Rattle.history.specs.Event.{moment_of, is_admission, is_plain, lagging_of}
 use Rattle.history.specs.History.{past_of}
 use Rattle.history.specs.Reply.{reply_of}
 use Rattle.history.specs.declared.event.Reply.{Reply}
@@ -17,7 +17,7 @@ use Rattle.history.specs.Answers.{Answers, Follows, IsTimely}
 use Rattle.shared_book.specs.declared.receipt.Receipt.{Receipt}
 use Rattle.shared_book.specs.Record.{events_of, IsLegalAfter}
 use Rattle.shared_book.specs.Pass.{PassState}
-use Rattle.shared_book.specs.Kept.{KeptState, IsKept, IsTaken, IsStep, MovesOn, HasStayed, HasMovedOn, AreTimely}
+use Rattle.shared_book.specs.Kept.{KeptState, IsKept, IsTaken, IsStep, MovesOn, AreTimely}
 
 pub events_push : (entries : List Receipt) (e : Receipt) → events_of (entries ++ e ∷ []) ≡ events_of entries ++ e.event ∷ []
 events_push entries e = map-append (λ (r : Receipt). r.event) entries (e ∷ [])
@@ -39,6 +39,15 @@ pub always_ok : {A E P : Type 0} (r : Result A E) → P → OnOk r P
 always_ok (Ok a) p = p
 always_ok (Err e) p = tt
 
+-- a fault of the clock or the count is no want of memory
+pub untimely : {T : Type 0} (fault : StepFault) → (fault ≡ BadMoment) ⊎ (fault ≡ CountEnded) → ¬ (IsErrOf {T = T} (Err fault) NoMemory)
+untimely fault (inl late) is = (cc)
+untimely fault (inr ended) is = (cc)
+
+-- want of memory is the same fault, whatever there would be without it
+pub same_lack : {A C : Type 0} (fault : StepFault) → IsErrOf {T = A} (Err fault) NoMemory → IsErrOf {T = C} (Err fault) NoMemory
+same_lack fault is = (cc)
+
 -- a book that is never full refuses a timely event only for want of memory
 pub only_memory : (A : Type 0) (settings : Settings) (h : List Event) (event : Event) (fault : StepFault) → settings.cells ≡ LAGGING_CELLS → IsTimely (length h) event
     → Follows {A = A} settings h event (Err fault) → fault ≡ NoMemory
@@ -55,6 +64,10 @@ oldest_of (x ∷ xs) some = (x, xs, refl)
 -- its event is that of the call at the front
 pub event_of_oldest : (window : List Receipt) (event : Event) (oldest : Receipt) (rest : List Receipt) → window ≡ oldest ∷ rest → IfSome (slice_get window 0) (λ o. event ≡ o.event) → event ≡ oldest.event
 event_of_oldest window event oldest rest is front = subst (λ (ws : List Receipt). IfSome (slice_get ws 0) (λ o. event ≡ o.event)) is front
+
+-- what holds of the call at the front if its event is plain
+pub front_plain : (window : List Receipt) (oldest : Receipt) (rest : List Receipt) (P : Type 0) → window ≡ oldest ∷ rest → IfSome (slice_get window 0) (λ o. is_plain o.event ≡ true → P) → is_plain oldest.event ≡ true → P
+front_plain window oldest rest P is front = subst (λ (ws : List Receipt). IfSome (slice_get ws 0) (λ o. is_plain o.event ≡ true → P)) is front
 
 module _ {B : Type 0} (stands_for : B → List Event → Type 0) (settings : B → Settings) where
   -- two books to which nothing has happened

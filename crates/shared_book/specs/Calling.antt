@@ -1,5 +1,5 @@
 -- What a call gives back.
-use Rattle.std.specs.Prelude.{◌≡◌, ◌⊎◌, ℕ, ◌+◌, ◌<◌, ◌≤◌, IsTrue, List, length, Result, Ok, Err, IsErrOf}
+use Rattle.std.specs.Prelude.{◌≡◌, ◌⊎◌, ℕ, ◌+◌, ◌<◌, ◌≤◌, ◌^◌, true, IsTrue, List, length, Result, Ok, Err, IsErrOf}
 use Rattle.history.specs.declared.event.Event.{Event}
 use Rattle.history.specs.declared.event.Reply.{Reply}
 use Rattle.history.specs.declared.event.Settings.{Settings}
@@ -8,7 +8,7 @@ use Rattle.history.specs.declared.book.StepFault.TheVariants.{BadMoment, CountEn
 use Rattle.history.specs.declared.desk.DeskFault.{DeskFault}
 use Rattle.history.specs.declared.desk.DeskFault.TheVariants.{Step, Behind}
 use Rattle.history.specs.declared.limits.TheConstants.{MOMENT_END, MOST_EVENTS}
-use Rattle.history.specs.Event.{moment_of, is_admission}
+use Rattle.history.specs.Event.{moment_of, is_admission, is_plain}
 use Rattle.history.specs.Answers.{IsTimely}
 use Rattle.history.specs.History.{past_of}
 use Rattle.history.specs.Reply.{reply_of}
@@ -16,7 +16,7 @@ use Rattle.shared_book.specs.declared.fault.CallFault.{CallFault}
 use Rattle.shared_book.specs.declared.fault.CallFault.TheVariants.{Behind as CallBehind, Step as CallStep}
 use Rattle.shared_book.specs.declared.receipt.Receipt.{Receipt}
 use Rattle.shared_book.specs.Pass.{PassState, after_call}
-use Rattle.shared_book.specs.Kept.{KeptState, IsKept, IsStep}
+use Rattle.shared_book.specs.Kept.{KeptState, IsKept, IsStep, IsFreeCall}
 
 -- The receipt of a call with this pass, which then has seen it.
 pub record IsReceiptOf (pass : PassState) (event : Event) (receipt : Receipt) (pass' : PassState) : Type 0 where
@@ -64,19 +64,20 @@ IsCall stands_for made_with stored before pass event (Err (CallStep fault)) afte
 IsCall stands_for made_with stored before pass event (Err (CallBehind at)) after pass' =
     (before.total < pass.seen) × (at ≡ before.total) × (after ≡ before) × (pass' ≡ pass)
 
--- A call at a shared book that was made with these settings: it is a call of what lay under the lock. So the count had ended, or as many cells were stored, or so many calls were made there, where the answer says so.
-pub record IsLocked {B : Type 0} (stands_for : B → List Event → Type 0) (made_with : B → Settings) (stored : B → ℕ) (settings : Settings) (pass : PassState) (event : Event) (answer : Result Reply CallFault) (pass' : PassState) : Type 0 where
+-- A call at a shared book that was made with these settings: it is a call of what lay under the lock. So the count had ended, or as many cells were stored, or so many calls were made there, where the answer says so. And a call that takes no memory there is not told that there is none.
+pub record IsLocked {B : Type 0} (stands_for : B → List Event → Type 0) (made_with : B → Settings) (stored : B → ℕ) (is_free : B → Event → Type 0) (settings : Settings) (pass : PassState) (event : Event) (answer : Result Reply CallFault) (pass' : PassState) : Type 0 where
   pub before : KeptState B
   pub after : KeptState B
   pub kept : IsKept stands_for made_with before
   pub same_settings : made_with before.book ≡ settings
   pub call : IsCall stands_for made_with stored before pass event answer after pass'
   pub ended : IsErrOf answer (CallStep CountEnded) → MOST_EVENTS ≤ before.total
+  pub free : IsFreeCall is_free before event → ¬ (IsErrOf answer (CallStep NoMemory))
 
--- A call whose event is first shared and copied, which may find no memory.
-abbrev pub IsShared : {B : Type 0} → (B → List Event → Type 0) → (B → Settings) → (B → ℕ) → Settings → PassState → Event → Result Reply CallFault → PassState → Type 0
-IsShared stands_for made_with stored settings pass event answer pass' =
-    (answer ≡ Err (CallStep NoMemory)) ⊎ IsLocked stands_for made_with stored settings pass event answer pass'
+-- A call whose event is first shared and copied, which may find no memory if the event is more than a moment and a ticket.
+abbrev pub IsShared : {B : Type 0} → (B → List Event → Type 0) → (B → Settings) → (B → ℕ) → (B → Event → Type 0) → Settings → PassState → Event → Result Reply CallFault → PassState → Type 0
+IsShared stands_for made_with stored is_free settings pass event answer pass' =
+    (¬ (is_plain event ≡ true) × (answer ≡ Err (CallStep NoMemory))) ⊎ IsLocked stands_for made_with stored is_free settings pass event answer pass'
 
 -- the answer that a receipt has
 abbrev pub answer_of : Result Receipt CallFault → Result Reply CallFault
@@ -89,11 +90,15 @@ fault_at_desk (CallStep fault) = Step fault
 fault_at_desk (CallBehind at) = Behind at
 
 -- One call at a seat of a shared book that was made with these settings: the pass before, the event, the answer, the pass after.
-abbrev pub SeatCall : {B : Type 0} → (B → List Event → Type 0) → (B → Settings) → (B → ℕ) → Settings → PassState → Event → Result Reply DeskFault → PassState → Type 0
-SeatCall stands_for made_with stored settings pass event (Ok reply) pass' =
+abbrev pub SeatCall : {B : Type 0} → (B → List Event → Type 0) → (B → Settings) → (B → ℕ) → (B → Event → Type 0) → Settings → PassState → Event → Result Reply DeskFault → PassState → Type 0
+SeatCall stands_for made_with stored is_free settings pass event (Ok reply) pass' =
     (receipt : Receipt) × (receipt.reply ≡ reply) × IsReceiptOf pass event receipt pass' × IsJustified settings receipt.number event reply
-    × IsShared stands_for made_with stored settings pass event (Ok reply) pass'
-SeatCall stands_for made_with stored settings pass event (Err (Step fault)) pass' =
-    (pass' ≡ pass) × IsReason settings event fault × IsShared stands_for made_with stored settings pass event (Err (CallStep fault)) pass'
-SeatCall stands_for made_with stored settings pass event (Err (Behind at)) pass' =
-    (pass' ≡ pass) × (at < pass.seen) × IsShared stands_for made_with stored settings pass event (Err (CallBehind at)) pass'
+    × IsShared stands_for made_with stored is_free settings pass event (Ok reply) pass'
+SeatCall stands_for made_with stored is_free settings pass event (Err (Step fault)) pass' =
+    (pass' ≡ pass) × IsReason settings event fault × IsShared stands_for made_with stored is_free settings pass event (Err (CallStep fault)) pass'
+SeatCall stands_for made_with stored is_free settings pass event (Err (Behind at)) pass' =
+    (pass' ≡ pass) × (at < pass.seen) × IsShared stands_for made_with stored is_free settings pass event (Err (CallBehind at)) pass'
+
+-- A pass was not split because it has one part, or because as many callers were numbered under the lock as there may be.
+abbrev pub IsUnsplit : {B : Type 0} → (B → List Event → Type 0) → (B → Settings) → PassState → Type 0
+IsUnsplit {B} stands_for made_with pass = (pass.parts ≡ 1) ⊎ ((kept : KeptState B) × IsKept stands_for made_with kept × (2 ^ 62 ≤ kept.callers))

@@ -8,7 +8,7 @@ use Rattle.history.specs.declared.event.Settings.{Settings}
 use Rattle.history.specs.declared.book.StepFault.{StepFault}
 use Rattle.history.specs.declared.limits.TheConstants.{MOMENT_END}
 use Rattle.history.specs.Desk.{IsStep as IsBookStep}
-use Rattle.history.specs.Event.{moment_of, lagging_of}
+use Rattle.history.specs.Event.{moment_of, is_plain, lagging_of}
 use Rattle.shared_book.specs.declared.receipt.Receipt.{Receipt}
 use Rattle.shared_book.specs.Pass.{PassState, after_call}
 use Rattle.shared_book.specs.Record.{receipt_for, events_of, IsLegalAfter}
@@ -124,6 +124,24 @@ pub record IsStep {B : Type 0} (stands_for : B → List Event → Type 0) (setti
   pub moves : MovesOn stands_for settings before between
   pub room : OnOk answer (length between.window < between.limit)
   pub taken : IsTaken stands_for settings stored between pass event answer after pass'
+
+-- The oldest call leaves the window without memory: its event is copied without any, and the opening book takes it without any.
+pub record LeavesFree {B : Type 0} (is_free : B → Event → Type 0) (before : KeptState B) : Type 0 where
+  pub oldest : Receipt
+  pub later : List Receipt
+  pub window : before.window ≡ oldest ∷ later
+  pub plain : is_plain oldest.event ≡ true
+  pub free : is_free before.opening oldest.event
+
+-- Room for one call more takes no memory: the window is not full, or its oldest call leaves it without any.
+abbrev pub HasFreeRoom : {B : Type 0} → (B → Event → Type 0) → KeptState B → Type 0
+HasFreeRoom is_free before = (length before.window < before.limit) ⊎ LeavesFree is_free before
+
+-- A call of this event takes no memory: the event is copied without any, the book takes it without any, and room for the call takes none.
+pub record IsFreeCall {B : Type 0} (is_free : B → Event → Type 0) (before : KeptState B) (event : Event) : Type 0 where
+  pub plain : is_plain event ≡ true
+  pub free : is_free before.book event
+  pub room : HasFreeRoom is_free before
 
 -- such a state is stored as the tuple of its fields
 abbrev pub kept_code : {B : Type 0} → Coded B → Coded Receipt → Coded (KeptState B)

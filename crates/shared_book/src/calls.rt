@@ -1,15 +1,15 @@
 //! The calls to a book under the lock, by callers with a pass.
 
-ghost use Rattle.std.specs.Prelude.{◌≡◌, ◌+◌, ◌<◌, ◌≤◌, ◌^◌, ◌↔◌, ◌⊎◌, IfOk, OnOk, OnErr, IsErr};
+ghost use Rattle.std.specs.Prelude.{◌≡◌, ◌+◌, ◌<◌, ◌≤◌, ◌^◌, ◌↔◌, ◌⊎◌, IfOk, OnOk, OnErr, IsErr, IsErrOf};
 ghost use Rattle.shared_book.specs.Pass.{IsSplit, IsJoined, calls_of, parts_of};
-ghost use Rattle.shared_book.specs.Kept.{IsKept};
+ghost use Rattle.shared_book.specs.Kept.{IsFreeCall, IsKept};
 ghost use Rattle.shared_book.specs.Calling.{IsCall};
 
 use crate::fault::{CallFault, SplitFault};
 use crate::kept::Kept;
 use crate::ledger::CallLedger;
 use crate::pass::Pass;
-use history::{Book, Event, Reply};
+use history::{Book, Event, Reply, StepFault};
 use std::sync::ledger::Share;
 
 impl<B: Book, L: CallLedger> Kept<B, L> {
@@ -24,6 +24,7 @@ impl<B: Book, L: CallLedger> Kept<B, L> {
         ensures kept { IsKept B.stands_for B.settings self.old }
         ensures made_with { B.settings self.old.book ≡ L.settings }
         ensures call { IsCall B.stands_for B.settings B.stored self.old pass.old event result self.new pass.new }
+        ensures free { IsFreeCall B.is_free self.old event → ¬ (IsErrOf result (CallFault.Step StepFault.NoMemory)) }
     {
         if self.total < pass.seen() {
             drop(event);
@@ -38,6 +39,7 @@ impl<B: Book, L: CallLedger> Kept<B, L> {
 
     /// Half of a pass's parts, in a pass with a caller number of its own.
     pub(crate) fn split(&mut self, pass: &mut Pass<L>) -> Result<Pass<L>, SplitFault>
+        ensures kept { IsKept B.stands_for B.settings self.old }
         ensures refused { IsErr result ↔ ((pass.old.parts ≡ 1) ⊎ (2 ^ 62 ≤ self.old.callers)) }
         ensures split { IfOk result (λ new. IsSplit pass.old new pass.new) }
         ensures caller { IfOk result (λ new. new.caller ≡ self.old.callers) }

@@ -1,12 +1,13 @@
 //! The state under the lock: both books, the window between them, and the total of all calls.
 
-ghost use Rattle.std.specs.Prelude.{◌≡◌, ◌<◌, ◌≤◌, ◌^◌, ◌↔◌, true, false, List, [], length, IfOk, IfErr, OnOk, IsErrOf};
+ghost use Rattle.std.specs.Prelude.{◌≡◌, ◌<◌, ◌≤◌, ◌^◌, ◌↔◌, true, false, List, [], length, IfOk, IfErr, OnOk, IsErrOf, ◌⊎◌, IsOk};
 ghost use Rattle.history.specs.declared.event.Event.{Event};
 ghost use Rattle.history.specs.Answers.{IsTimely};
-ghost use Rattle.history.specs.Event.{lagging_of};
+ghost use Rattle.history.specs.Event.{is_plain, lagging_of};
 ghost use Rattle.shared_book.specs.declared.kept.TheConstants.{MOST_RECORDED};
 ghost use Rattle.shared_book.specs.Pass.{PassState, first_pass};
-ghost use Rattle.shared_book.specs.Kept.{first_kept, IsFreed, IsKept, MovesOn, IsTaken, IsTurn, IsStep};
+ghost use Rattle.shared_book.specs.Kept.{first_kept, IsFreed, IsKept, MovesOn, IsTaken, IsTurn, IsStep, IsSameRecord};
+ghost use Rattle.shared_book.specs.Kept.{HasFreeRoom, IsFreeCall};
 
 use crate::copies::copies;
 use crate::ledger::{Blank, CallLedger};
@@ -185,7 +186,8 @@ impl<B: Book, L: CallLedger> Kept<B, L> {
     /// Takes an event, and records the call. First, if the window is full, its oldest call leaves it for the opening book. So a fault
     /// may leave the opening book one call further on.
     pub fn step(&mut self, pass: &mut Pass<L>, event: Shared<Event>) -> Result<Reply, StepFault>
-        ensures { IsStep B.stands_for B.settings B.stored self.old pass.old event result self.new pass.new }
+        ensures step { IsStep B.stands_for B.settings B.stored self.old pass.old event result self.new pass.new }
+        ensures free { IsFreeCall B.is_free self.old event → ¬ (IsErrOf result StepFault.NoMemory) }
     {
         match self.timely(event.get()) {
             Ok(()) => {}
@@ -208,7 +210,8 @@ impl<B: Book, L: CallLedger> Kept<B, L> {
         copy: Event,
     ) -> Result<Reply, StepFault>
         requires { copy ≡ event }
-        ensures { IsStep B.stands_for B.settings B.stored self.old pass.old event result self.new pass.new }
+        ensures step { IsStep B.stands_for B.settings B.stored self.old pass.old event result self.new pass.new }
+        ensures free { IsFreeCall B.is_free self.old event → ¬ (IsErrOf result StepFault.NoMemory) }
     {
         match self.timely(&event) {
             Ok(()) => self.take(pass, event, copy),
@@ -224,7 +227,8 @@ impl<B: Book, L: CallLedger> Kept<B, L> {
     fn take(&mut self, pass: &mut Pass<L>, event: Event, copy: Event) -> Result<Reply, StepFault>
         requires timely { IsTimely self.old.total event }
         requires same { copy ≡ event }
-        ensures { IsStep B.stands_for B.settings B.stored self.old pass.old event result self.new pass.new }
+        ensures step { IsStep B.stands_for B.settings B.stored self.old pass.old event result self.new pass.new }
+        ensures free { IsFreeCall B.is_free self.old event → ¬ (IsErrOf result StepFault.NoMemory) }
     {
         match self.make_room() {
             Ok(()) => self.append(pass, event, copy),
@@ -241,6 +245,7 @@ impl<B: Book, L: CallLedger> Kept<B, L> {
         ensures kept { IsKept B.stands_for B.settings self.old }
         ensures moves { MovesOn B.stands_for B.settings self.old self.new }
         ensures room { OnOk result (length self.new.window < self.new.limit) }
+        ensures free { HasFreeRoom B.is_free self.old → IsOk result }
     {
         if !self.window.is_full() {
             return Ok(());
@@ -256,7 +261,8 @@ impl<B: Book, L: CallLedger> Kept<B, L> {
         requires timely { IsTimely self.old.total event }
         requires same { copy ≡ event }
         requires room { length self.old.window < self.old.limit }
-        ensures { IsTaken B.stands_for B.settings B.stored self.old pass.old event result self.new pass.new }
+        ensures taken { IsTaken B.stands_for B.settings B.stored self.old pass.old event result self.new pass.new }
+        ensures free { is_plain event ≡ true → B.is_free self.old.book event → ¬ (IsErrOf result StepFault.NoMemory) }
     {
         let told = match tell(self.alloc, &mut self.book, copy) {
             Ok(told) => told,
@@ -283,6 +289,7 @@ impl<B: Book, L: CallLedger> Kept<B, L> {
         ensures ok { OnOk result (IsTimely self.now.total event.now) }
         ensures err { IfErr result (λ fault. (pass : PassState) →
             IsStep B.stands_for B.settings B.stored self.now pass event.now (Err fault) self.now pass) }
+        ensures untimely { IfErr result (λ fault. (fault ≡ StepFault.BadMoment) ⊎ (fault ≡ StepFault.CountEnded)) }
         ensures no_memory { OnOk result ((pass : PassState) →
             IsStep B.stands_for B.settings B.stored self.now pass event.now (Err StepFault.NoMemory) self.now pass) }
     {

@@ -1,6 +1,6 @@
 //! The laws of closing, by the definitions alone.
 
-ghost use Rattle.std.specs.Prelude.{List, Option};
+ghost use Rattle.std.specs.Prelude.{List, Option, ◌≡◌};
 ghost use Rattle.shared_book.specs.declared.receipt.Receipt.{Receipt};
 ghost use Rattle.shared_book.specs.declared.fault.CloseFault.{CloseFault};
 ghost use Rattle.shared_book.specs.Pass.{PassState};
@@ -8,6 +8,7 @@ ghost use Rattle.shared_book.specs.Kept.{KeptState};
 ghost use Rattle.shared_book.specs.Closing.{ClosesAs, AgreeButMemory};
 ghost use Rattle.shared_book.specs.OneHistory.{ClosedIsOneHistory};
 
+use crate::kept::MOST_RECORDED;
 use history::Book;
 
 /// Only want of memory lets two closings of one book differ. So each fault comes exactly if its condition holds.
@@ -21,4 +22,9 @@ pub fn one_verdict<B: Book>()
 #[tactic(auto, using(crate::proofs::OneHistory::one_history))]
 pub fn one_history<B: Book>()
     ensures { ClosedIsOneHistory B.stands_for B.settings }
+{}
+
+/// The call log has at most 1,000,000 calls.
+pub fn limits_law()
+    ensures { MOST_RECORDED ≡ 1000000 }
 {}

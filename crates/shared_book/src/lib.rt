@@ -11,7 +11,7 @@ mod ledger;
 mod pass;
 // The window: the last calls, oldest first.
 mod window;
-// Two copies of an event.
+// Copies of an event.
 mod copies;
 // A reply or a view with its copy for the window.
 mod told;
@@ -35,7 +35,7 @@ mod seat;
 pub use close::NotClosed;
 pub use fault::{CallFault, CloseFault, SplitFault};
 pub use kept::{Kept, MOST_RECORDED};
-pub use laws::{one_history, one_verdict};
+pub use laws::{limits_law, one_history, one_verdict};
 pub use ledger::{Blank, CallLedger};
 pub use pass::Pass;
 pub use receipt::Receipt;

@@ -1,10 +1,11 @@
 //! A reply and its copy for the window. A reply cannot be copied without memory, so that of a lookup is made twice, beforehand.
 
-ghost use Rattle.std.specs.Prelude.{◌≡◌, List, length, IfOk};
+ghost use Rattle.std.specs.Prelude.{◌≡◌, List, length, true, IfOk, IsOk, IsErrOf};
 ghost use Rattle.std.specs.Option.{option_map};
 ghost use Rattle.history.specs.declared.event.Event.{Event};
 ghost use Rattle.history.specs.declared.event.Settings.{Settings};
 ghost use Rattle.history.specs.Answers.{IsTimely};
+ghost use Rattle.history.specs.Event.{is_plain};
 ghost use Rattle.history.specs.Desk.{IsStep as IsBookStep};
 ghost use Rattle.history.specs.History.{past_of};
 ghost use Rattle.history.specs.Reply.{reply_of, seen_of};
@@ -40,9 +41,10 @@ fn see_ahead<B: Book>(alloc: Global, book: &B, ask: &Ask, moment: u64) -> Result
 /// What an event is about to see, if it is a lookup.
 fn look_ahead<B: Book>(alloc: Global, book: &B, event: &Event) -> Result<Option<Ahead>, NoMemory>
     requires { (h : List Event) × B.stands_for book.now h }
-    ensures { (h : List Event) → B.stands_for book.now h →
+    ensures seen { (h : List Event) → B.stands_for book.now h →
         IfOk result (λ ahead. option_map (λ a. a.seen) ahead
         ≡ seen_ahead (B.settings book.now) (past_of (B.settings book.now).journal h) event.now) }
+    ensures plain { is_plain event.now ≡ true → IsOk result }
 {
     match event {
         Event::Look { moment, ask } => Ok(Some(see_ahead(alloc, book, ask, *moment)?)),
@@ -54,7 +56,8 @@ fn look_ahead<B: Book>(alloc: Global, book: &B, event: &Event) -> Result<Option<
 pub(crate) fn tell<B: Book>(alloc: Global, book: &mut B, event: Event) -> Result<Told, StepFault>
     requires some { (h : List Event) × B.stands_for book.old h }
     requires timely { (h : List Event) → B.stands_for book.old h → IsTimely (length h) event }
-    ensures { IsBookStep B.stands_for B.settings B.stored book.old event (answer_told result) book.new }
+    ensures step { IsBookStep B.stands_for B.settings B.stored book.old event (answer_told result) book.new }
+    ensures free { is_plain event ≡ true → B.is_free book.old event → ¬ (IsErrOf result StepFault.NoMemory) }
 {
     let ahead = match look_ahead(alloc, book, &event) {
         Ok(ahead) => ahead,
@@ -70,10 +73,12 @@ pub(crate) fn tell<B: Book>(alloc: Global, book: &mut B, event: Event) -> Result
 }
 
 /// Takes a lookup whose reply is known. So the book need not make it.
+#[tactic(auto, using(crate::proofs::RecordLaws::untimely))]
 fn tell_seen<B: Book>(book: &mut B, event: Event, ahead: Ahead) -> Result<Told, StepFault>
     requires { (h : List Event) → B.stands_for book.old h →
         reply_of (B.settings book.old) (past_of (B.settings book.old).journal h) event ≡ Reply.Seen ahead.seen }
-    ensures { IsBookStep B.stands_for B.settings B.stored book.old event (answer_told result) book.new }
+    ensures step { IsBookStep B.stands_for B.settings B.stored book.old event (answer_told result) book.new }
+    ensures free { B.is_free book.old event → ¬ (IsErrOf result StepFault.NoMemory) }
 {
     match book.follow(event) {
         Ok(()) => Ok(Told {
@@ -88,8 +93,10 @@ fn tell_seen<B: Book>(book: &mut B, event: Event, ahead: Ahead) -> Result<Told, 
 }
 
 /// Takes a sweep. Nobody needs its reply from the book, so the book may leave out what it frees later, a turn at a time.
+#[tactic(auto, using(crate::proofs::RecordLaws::untimely))]
 fn tell_swept<B: Book>(book: &mut B, moment: u64) -> Result<Told, StepFault>
-    ensures { IsBookStep B.stands_for B.settings B.stored book.old (Event.Sweep moment) (answer_told result) book.new }
+    ensures step { IsBookStep B.stands_for B.settings B.stored book.old (Event.Sweep moment) (answer_told result) book.new }
+    ensures free { B.is_free book.old (Event.Sweep moment) → ¬ (IsErrOf result StepFault.NoMemory) }
 {
     match book.follow(Event::Sweep { moment }) {
         Ok(()) => Ok(Told {
@@ -104,7 +111,8 @@ fn tell_swept<B: Book>(book: &mut B, moment: u64) -> Result<Told, StepFault>
 fn tell_silent<B: Book>(book: &mut B, event: Event) -> Result<Told, StepFault>
     requires some { (h : List Event) × B.stands_for book.old h
         × ShowsNothing (reply_of (B.settings book.old) (past_of (B.settings book.old).journal h) event) }
-    ensures { IsBookStep B.stands_for B.settings B.stored book.old event (answer_told result) book.new }
+    ensures step { IsBookStep B.stands_for B.settings B.stored book.old event (answer_told result) book.new }
+    ensures free { B.is_free book.old event → ¬ (IsErrOf result StepFault.NoMemory) }
 {
     match event {
         Event::Sweep { moment } => tell_swept(book, moment),
@@ -113,10 +121,12 @@ fn tell_silent<B: Book>(book: &mut B, event: Event) -> Result<Told, StepFault>
 }
 
 /// Takes an event that is no lookup, by a step of the book.
+#[tactic(auto, using(crate::proofs::RecordLaws::untimely))]
 fn tell_step<B: Book>(book: &mut B, event: Event) -> Result<Told, StepFault>
     requires some { (h : List Event) × B.stands_for book.old h
         × ShowsNothing (reply_of (B.settings book.old) (past_of (B.settings book.old).journal h) event) }
-    ensures { IsBookStep B.stands_for B.settings B.stored book.old event (answer_told result) book.new }
+    ensures step { IsBookStep B.stands_for B.settings B.stored book.old event (answer_told result) book.new }
+    ensures free { B.is_free book.old event → ¬ (IsErrOf result StepFault.NoMemory) }
 {
     match book.step(event) {
         Ok(reply) => {

@@ -1,6 +1,6 @@
 //! An opening book: it lags behind a book, and takes the calls that leave the window.
 
-ghost use Rattle.std.specs.Prelude.{◌≡◌, ◌<◌, ◌≤◌, ◌+◌, ◌++◌, ◌∷◌, [], true, false, List, length, OnOk, OnErr};
+ghost use Rattle.std.specs.Prelude.{◌≡◌, ◌<◌, ◌≤◌, ◌+◌, ◌++◌, ◌∷◌, [], true, false, List, length, OnOk, OnErr, IsOk};
 ghost use Rattle.history.specs.declared.event.Event.{Event};
 ghost use Rattle.history.specs.declared.limits.TheConstants.{LAGGING_CELLS};
 ghost use Rattle.history.specs.Answers.{IsTimely};
@@ -18,6 +18,7 @@ pub(crate) fn take_in<B: Book>(opening: &mut B, event: Event) -> Result<(), NoMe
     ensures ok { OnOk result ((h : List Event) → B.stands_for opening.old h → B.stands_for opening.new (h ++ event ∷ [])) }
     ensures err { OnErr result ((h : List Event) → B.stands_for opening.old h → B.stands_for opening.new h) }
     ensures settings { B.settings opening.new ≡ B.settings opening.old }
+    ensures free { B.is_free opening.old event → IsOk result }
 {
     match opening.follow(event) {
         Ok(()) => Ok(()),

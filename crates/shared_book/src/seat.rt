@@ -67,12 +67,16 @@ impl<'a, B: Book, L: CallLedger, R: Wait> Seat<'a, B, L, R> {
 }
 
 impl<'a, B: Book, L: CallLedger, R: Wait> Desk for Seat<'a, B, L, R> {
-    ghost calls = { λ before event answer after. SeatCall B.stands_for B.settings B.stored L.settings before.pass event answer after.pass };
+    ghost calls = { λ before event answer after.
+        SeatCall B.stands_for B.settings B.stored B.is_free L.settings before.pass event answer after.pass };
 
     fn call(&mut self, event: Event) -> Result<Reply, DeskFault> {
-        let Ok(copy) = event.copy() else {
-            drop(event);
-            return Err(DeskFault::Step(StepFault::NoMemory));
+        let copy = match event.copy() {
+            Ok(copy) => copy,
+            Err(_) => {
+                drop(event);
+                return Err(DeskFault::Step(StepFault::NoMemory));
+            }
         };
         match self.book.step(self.rt, &mut self.pass, event, copy) {
             Ok(reply) => {

@@ -4,12 +4,12 @@ ghost use Rattle.std.specs.Prelude.{◌≡◌, ◌≤◌, ◌↔◌, [], Some, N
 ghost use Rattle.history.specs.Event.{lagging_of};
 ghost use Rattle.shared_book.specs.declared.kept.TheConstants.{MOST_RECORDED};
 ghost use Rattle.shared_book.specs.Pass.{first_pass, IsSplit, IsJoined};
-ghost use Rattle.shared_book.specs.Calling.{IsReceiptOf, IsJustified, IsCallReply, IsFaultOf, IsLocked, IsShared, answer_of};
+ghost use Rattle.shared_book.specs.Calling.{IsReceiptOf, IsJustified, IsCallReply, IsFaultOf, IsLocked, IsShared, IsUnsplit, answer_of};
 ghost use Rattle.shared_book.specs.Closing.{IsClosed};
 ghost use Rattle.shared_book.specs.Kept.{IsKept, IsTurnThere};
 
 use crate::close::NotClosed;
-use crate::copies::copies;
+use crate::copies::three_copies;
 use crate::fault::{CallFault, SplitFault};
 use crate::kept::Kept;
 use crate::ledger::{Blank, CallLedger};
@@ -74,6 +74,7 @@ impl<B: Book, L: CallLedger> SharedBook<B, L> {
         ensures split { IfOk result (λ new. IsSplit pass.old new pass.new) }
         ensures err { OnErr result (pass.new ≡ pass.old) }
         ensures one_part { pass.old.parts ≡ 1 → IsErr result }
+        ensures refused { IsErr result → IsUnsplit B.stands_for B.settings pass.old }
     {
         self.kept.lock(rt).split(pass)
     }
@@ -96,14 +97,11 @@ impl<B: Book, L: CallLedger> SharedBook<B, L> {
         ensures receipt { IfOk result (λ r. IsReceiptOf pass.old event r pass.new) }
         ensures justified { IfOk result (λ r. IsJustified L.settings r.number event r.reply) }
         ensures err { IfErr result (λ fault. IsFaultOf L.settings pass.old event fault pass.new) }
-        ensures shared { IsShared B.stands_for B.settings B.stored L.settings pass.old event (answer_of result) pass.new }
+        ensures shared { IsShared B.stands_for B.settings B.stored B.is_free L.settings pass.old event (answer_of result) pass.new }
     {
-        let Ok(own) = event.get().copy() else {
-            return Err(CallFault::Step(StepFault::NoMemory));
-        };
-        let Ok((kept, copy)) = copies(event.get()) else {
-            drop(own);
-            return Err(CallFault::Step(StepFault::NoMemory));
+        let (own, kept, copy) = match three_copies(event.get()) {
+            Ok(copies) => copies,
+            Err(_) => return Err(CallFault::Step(StepFault::NoMemory)),
         };
         match self.step(rt, pass, kept, copy) {
             Ok(reply) => Ok(Receipt {
@@ -158,7 +156,7 @@ impl<B: Book, L: CallLedger> SharedBook<B, L> {
         requires same { copy ≡ event }
         ensures ok { IfOk result (λ reply. IsCallReply L.settings pass.old event reply pass.new) }
         ensures err { IfErr result (λ fault. IsFaultOf L.settings pass.old event fault pass.new) }
-        ensures locked { IsLocked B.stands_for B.settings B.stored L.settings pass.old event result pass.new }
+        ensures locked { IsLocked B.stands_for B.settings B.stored B.is_free L.settings pass.old event result pass.new }
     {
         if asks_oldest(&event) {
             return self.lock_swept(rt).call(pass, event, copy);

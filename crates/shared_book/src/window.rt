@@ -1,6 +1,7 @@
 //! The window: the last calls, oldest first.
 
-ghost use Rattle.std.specs.Prelude.{◌≡◌, ◌+◌, ◌<◌, ◌≤◌, ◌^◌, [], ◌∷◌, ◌++◌, length, drop, slice_get, IfOk, IfSome, MatchBool};
+ghost use Rattle.std.specs.Prelude.{◌≡◌, ◌+◌, ◌<◌, ◌≤◌, ◌^◌, [], ◌∷◌, ◌++◌, length, drop, slice_get, true, IfOk, IfSome, IsOk, MatchBool};
+ghost use Rattle.history.specs.Event.{is_plain};
 ghost use Rattle.std.specs.VecDeque.{deque_capacity};
 
 use crate::receipt::Receipt;
@@ -43,7 +44,8 @@ impl Window {
     /// A copy of the oldest call's event.
     pub fn oldest_event(&self) -> Result<Event, NoMemory>
         requires { 0 < length self.now.calls.items }
-        ensures { IfOk result (λ event. IfSome (slice_get self.now.calls.items 0) (λ oldest. event ≡ oldest.event)) }
+        ensures oldest { IfOk result (λ event. IfSome (slice_get self.now.calls.items 0) (λ oldest. event ≡ oldest.event)) }
+        ensures plain { IfSome (slice_get self.now.calls.items 0) (λ oldest. is_plain oldest.event ≡ true → IsOk result) }
     {
         match self.calls.front() {
             Some(oldest) => Ok(oldest.event.copy()?),

@@ -26,7 +26,7 @@ pub use engine::{MOST_READS, run_lines};
 pub use fault::{Ended, ScriptFault};
 pub use filling::fill;
 pub use held_line::{HeldLine, LONGEST_LINE};
-pub use laws::lines_are;
+pub use laws::{limits_law, lines_are};
 pub use obeyer::{LineReply, Obeyer};
 pub use sending::send;
 pub use sink::{CountedWriter, Sink, WriteFailed};

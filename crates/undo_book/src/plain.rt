@@ -100,7 +100,7 @@ impl PlainBook {
 }
 
 impl Book for PlainBook {
-    ghost use Rattle.std.specs.Prelude.{◌≡◌, ◌<◌, ◌↔◌, ℕ, List, length, count_by, IsTrue, OnOk, OnErr, IsErrOf};
+    ghost use Rattle.std.specs.Prelude.{◌≡◌, ◌⊎◌, ◌<◌, ◌↔◌, ℕ, List, length, count_by, IsTrue, IfErr, OnOk, OnErr, IsErrOf};
     ghost use Rattle.history.specs.declared.event.Event.{Event};
     ghost use Rattle.history.specs.Event.{is_admission};
     ghost use Rattle.history.specs.Counts.{counted_of, stores_counted, same_count};
@@ -118,6 +118,9 @@ impl Book for PlainBook {
     // It frees nothing before an event says so.
     ghost unswept = { λ book. 0 };
 
+    // It keeps each event, so it promises none without memory.
+    ghost is_free = { λ book event. ⊥ };
+
     ghost has_journal = { λ book history is. book.past.has_journal };
 
     ghost stores_few = { λ book history is.
@@ -131,6 +134,7 @@ impl Book for PlainBook {
         ensures full { (n : ℕ) → IsErrOf result (StepFault.Full n) → stored_in self.old ≡ n }
         ensures same_store { OnErr result (stored_in self.new ≡ stored_in self.old) }
         ensures settings { settings_in self.new ≡ settings_in self.old }
+        ensures free { ⊥ → IfErr result (λ fault. (fault ≡ StepFault.BadMoment) ⊎ (fault ≡ StepFault.CountEnded)) }
 
         // It stores each admission until its owner is forgotten, so it is full exactly where there are as many of these as there may be cells.
         ensures full_at_the_limit { (h : List Event) → StandsFor self.old h → IsTimely (length h) event → IsTrue (is_admission event)

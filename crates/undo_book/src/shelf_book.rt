@@ -102,7 +102,6 @@ impl Book for ShelfBook {
     ghost use Rattle.history.specs.declared.event.Event.{Event};
     ghost use Rattle.history.specs.Answers.{Answers, Follows, history_after};
     ghost use Rattle.history.specs.History.{past_of};
-    ghost use Rattle.world_book.specs.Removals.{IsFreeAfter};
     ghost use Rattle.world_book.specs.Versions.{count_pairs, pairs_left, AreAliveAfter, ForgetsOldest};
 
     ghost stands_for = { λ book history. ⟦<WorldBook<StoreChange> as Book>⟧.stands_for book.book history };
@@ -112,6 +111,8 @@ impl Book for ShelfBook {
     ghost stored = { λ book. ⟦<WorldBook<StoreChange> as Book>⟧.stored book.book };
 
     ghost unswept = { λ book. ⟦<WorldBook<StoreChange> as Book>⟧.unswept book.book };
+
+    ghost is_free = { λ book event. ⟦<WorldBook<StoreChange> as Book>⟧.is_free book.book event };
 
     ghost has_journal = { λ book history is. is.some_commands };
 
@@ -138,8 +139,7 @@ impl Book for ShelfBook {
 
         // A sweep, a forget, an undo or a redo that reaches a flush, an undo of a command that removed nothing, and an admission whose
         // pair is alive in some version need no memory.
-        ensures free { (h : List Event) → ⟦<WorldBook<StoreChange> as Book>⟧.stands_for self.old.book h →
-            IsFreeAfter (⟦<WorldBook<StoreChange> as Book>⟧.settings self.old.book).journal h event →
+        ensures free { ⟦<WorldBook<StoreChange> as Book>⟧.is_free self.old.book event →
             IfErr result (λ fault. (fault ≡ StepFault.BadMoment) ⊎ (fault ≡ StepFault.CountEnded)) }
 
         // A forget of the name to forget first at its moment makes room: fewer cells are stored after it.
@@ -166,8 +166,7 @@ impl Book for ShelfBook {
 
         // A sweep, a forget, an undo or a redo that reaches a flush, an undo of a command that removed nothing, and an admission whose
         // pair is alive in some version need no memory.
-        ensures free { (h : List Event) → ⟦<WorldBook<StoreChange> as Book>⟧.stands_for self.old.book h →
-            IsFreeAfter (⟦<WorldBook<StoreChange> as Book>⟧.settings self.old.book).journal h event →
+        ensures free { ⟦<WorldBook<StoreChange> as Book>⟧.is_free self.old.book event →
             IfErr result (λ fault. (fault ≡ StepFault.BadMoment) ⊎ (fault ≡ StepFault.CountEnded)) }
     {
         match self.book.follow(event) {

@@ -117,6 +117,10 @@ impl<C: BookChange> Book for WorldBook<C> {
 
     ghost unswept = { λ book. C.World.unswept book.world book.moment };
 
+    // A sweep, a forget, an undo or a redo that reaches a flush, an undo of a command that removed nothing, and an admission whose pair
+    // is alive in some version need no memory.
+    ghost is_free = { λ book event. (h : List Event) × IsBookOf C.World.World book h × IsFreeAfter book.settings.journal h event };
+
     ghost has_journal = { λ book history is. is.some_commands };
 
     ghost stores_few = { λ book history is. is.few };
@@ -137,7 +141,7 @@ impl<C: BookChange> Book for WorldBook<C> {
             self.old.settings.cells ≤ count_pairs (pairs_left h) }
 
         // An event that needs no memory is refused only by the clock and the count of events.
-        ensures free { (h : List Event) → IsBookOf C.World.World self.old h → IsFreeAfter self.old.settings.journal h event →
+        ensures free { (h : List Event) × IsBookOf C.World.World self.old h × IsFreeAfter self.old.settings.journal h event →
             IfErr result (λ fault. (fault ≡ StepFault.BadMoment) ⊎ (fault ≡ StepFault.CountEnded)) }
 
         // A forget of the name to forget first at its moment makes room: fewer cells are stored after it.
@@ -180,7 +184,7 @@ impl<C: BookChange> Book for WorldBook<C> {
         ensures settings { self.new.settings ≡ self.old.settings }
 
         // An event that needs no memory is refused only by the clock and the count of events.
-        ensures free { (h : List Event) → IsBookOf C.World.World self.old h → IsFreeAfter self.old.settings.journal h event →
+        ensures free { (h : List Event) × IsBookOf C.World.World self.old h × IsFreeAfter self.old.settings.journal h event →
             IfErr result (λ fault. (fault ≡ StepFault.BadMoment) ⊎ (fault ≡ StepFault.CountEnded)) }
     {
         match event {

@@ -1,4 +1,4 @@
-use Rattle.std.proofs.Common.{◌≡◌, Option, Some, None, refl, sym, ◌∙◌, ap, subst}
+use Rattle.std.proofs.Common.{◌≡◌, Option, Some, None, sym, ◌∙◌, ap, subst}
 use Rattle.history.specs.declared.event.Seen.{Seen}
 use Rattle.history.specs.declared.event.Settings.{Settings}
 use Rattle.history.specs.History.{Past, past_of}
@@ -16,7 +16,7 @@ pub tell_seen-requires : goal.tell_seen-requires
 tell_seen-requires g c = λ h stands.
     let settings : Settings = g.B.Book.settings c.args.book.now in
     let past : Past = past_of settings.journal h in
-    let is : Some c.in-Some.ahead.seen ≡ seen_ahead settings past c.args.event = ap seen_in (sym c.in-Some.is) ∙ c.in-Ok.ensures h stands in
+    let is : Some c.in-Some.ahead.seen ≡ seen_ahead settings past c.args.event = ap seen_in (sym c.in-Some.is) ∙ c.in-Ok.ensures.seen h stands in
     subst (λ (a : Option Seen). IsEcho (reply_of settings past c.args.event) a) (sym is) (echoes settings past c.args.event)
 
 pub tell_silent-requires : goal.tell_silent-requires
@@ -25,5 +25,5 @@ tell_silent-requires g c =
     let stands = c.requires.some.1 in
     let settings : Settings = g.B.Book.settings c.args.book.now in
     let past : Past = past_of settings.journal h in
-    let is : None ≡ seen_ahead settings past c.args.event = ap seen_in (sym c.in-None.is) ∙ c.in-Ok.ensures h stands in
+    let is : None ≡ seen_ahead settings past c.args.event = ap seen_in (sym c.in-None.is) ∙ c.in-Ok.ensures.seen h stands in
     record { some = (h, stands, subst (λ (a : Option Seen). IsEcho (reply_of settings past c.args.event) a) (sym is) (echoes settings past c.args.event)) }

@@ -1,10 +1,11 @@
 -- The oldest call leaves a full window, and the opening book takes its event.
-use Rattle.std.proofs.Common.{rules, ◌≡◌, ◌<◌, ◌≤◌, List, [], ◌∷◌, ◌++◌, length, drop, sym, ◌∙◌, ap, subst, arith}
+use Rattle.std.proofs.Common.{rules, ◌≡◌, List, [], ◌∷◌, ◌++◌, drop, sym, ◌∙◌, ap, subst, arith, inl, inr}
+use Rattle.std.proofs.lemmas.Bool.{false≢true}
 use Rattle.history.specs.declared.event.Event.{Event}
 use Rattle.history.specs.declared.event.Settings.{Settings}
 use Rattle.shared_book.specs.declared.receipt.Receipt.{Receipt}
-use Rattle.shared_book.specs.Kept.{KeptState, IsKept, MovesOn}
-use Rattle.shared_book.proofs.RecordLaws.{oldest_of, event_of_oldest, oldest_timely, keeps_moved, keeps_stayed, moved_on, stayed, stays}
+use Rattle.shared_book.specs.Kept.{KeptState, HasFreeRoom, IsKept}
+use Rattle.shared_book.proofs.RecordLaws.{oldest_of, event_of_oldest, front_plain, oldest_timely, keeps_moved, keeps_stayed, moved_on, stayed, stays}
 use Rattle.shared_book.proofs.kept.Kept.make_room.Goals as goal
 
 pub returns-then-not-is_full-clause-moves : goal.returns-then-not-is_full-clause-moves
@@ -28,7 +29,7 @@ take_in-requires-clause-timely g c =
     let calls : List Receipt = i.window.calls.items in
     let some = oldest_of calls (omega (arith, c.self.invariant.2.some)) in
     oldest_timely b.stands_for b.settings g.met.B.Book.one_count old c.self.invariant.2 some.0 some.1 some.2 c.in_ok-event.event
-    (event_of_oldest calls c.in_ok-event.event some.0 some.1 some.2 c.in_ok-event.ensures)
+    (event_of_oldest calls c.in_ok-event.event some.0 some.1 some.2 c.in_ok-event.ensures.oldest)
 
 pub take_in-requires-clause-lags : goal.take_in-requires-clause-lags
 take_in-requires-clause-lags g c = ap (λ (s : Settings). s.cells) c.self.invariant.2.lags
@@ -62,7 +63,7 @@ invariant_of-self-2 g c =
     let k : IsKept b.stands_for b.settings old = c.self.invariant.2 in
     let calls : List Receipt = i.window.calls.items in
     let some = oldest_of calls (omega (arith, k.some)) in
-    let event_is : c.in_ok-event.event ≡ some.0.event = event_of_oldest calls c.in_ok-event.event some.0 some.1 some.2 c.in_ok-event.ensures in
+    let event_is : c.in_ok-event.event ≡ some.0.event = event_of_oldest calls c.in_ok-event.event some.0 some.1 some.2 c.in_ok-event.ensures.oldest in
     let left : c.move_on.new.self.calls.items ≡ some.1 = c.move_on.ensures.calls ∙ ap (λ (ws : List Receipt). drop 1 ws) some.2 in
     let is : calls ≡ some.0 ∷ c.move_on.new.self.calls.items = some.2 ∙ ap (λ (ws : List Receipt). some.0 ∷ ws) (sym left) in
     let opened = subst (λ (e : Event). b.stands_for c.take_in.new.opening (k.before ++ e ∷ [])) event_is (c.in_ok-take_in.ensures.ok k.before k.opened) in
@@ -77,7 +78,24 @@ returns-clause-moves g c =
     let k : IsKept b.stands_for b.settings old = c.self.invariant.2 in
     let calls : List Receipt = i.window.calls.items in
     let some = oldest_of calls (omega (arith, k.some)) in
-    let event_is : c.in_ok-event.event ≡ some.0.event = event_of_oldest calls c.in_ok-event.event some.0 some.1 some.2 c.in_ok-event.ensures in
+    let event_is : c.in_ok-event.event ≡ some.0.event = event_of_oldest calls c.in_ok-event.event some.0 some.1 some.2 c.in_ok-event.ensures.oldest in
     let left : c.move_on.new.self.calls.items ≡ some.1 = c.move_on.ensures.calls ∙ ap (λ (ws : List Receipt). drop 1 ws) some.2 in
     let is : calls ≡ some.0 ∷ c.move_on.new.self.calls.items = some.2 ∙ ap (λ (ws : List Receipt). some.0 ∷ ws) (sym left) in
     rw (← c.self.view_is) (moved_on b.stands_for b.settings old c.take_in.new.opening c.move_on.new.self.first c.move_on.new.self.limit some.0 c.move_on.new.self.calls.items c.in_ok-event.event k c.move_on.ensures.first c.move_on.ensures.limit (omega arith) is event_is c.in_ok-take_in.ensures.ok c.take_in.ensures.settings)
+
+pub returns-in_err-event-clause-free : goal.returns-in_err-event-clause-free
+returns-in_err-event-clause-free g c = λ free.
+    elim (subst (λ (kept : KeptState g.row.B.Denot). HasFreeRoom g.B.Book.is_free kept) (sym c.self.view_is) free) [
+      | inl room ↦ absurd (omega (arith, room))
+      | inr leaves ↦ absurd (false≢true (front_plain c.self.inside.window.calls.items leaves.oldest leaves.later _ leaves.window c.in_err-event.ensures.plain leaves.plain))
+    ]
+
+pub returns-in_err-take_in-clause-free : goal.returns-in_err-take_in-clause-free
+returns-in_err-take_in-clause-free g c = λ free.
+    let i = c.self.inside in
+    elim (subst (λ (kept : KeptState g.row.B.Denot). HasFreeRoom g.B.Book.is_free kept) (sym c.self.view_is) free) [
+      | inl room ↦ absurd (omega (arith, room))
+      | inr leaves ↦
+          let event_is = event_of_oldest i.window.calls.items c.in_ok-event.event leaves.oldest leaves.later leaves.window c.in_ok-event.ensures.oldest in
+          absurd (false≢true (c.in_err-take_in.ensures.free (subst (λ (e : Event). g.B.Book.is_free i.opening e) (sym event_is) leaves.free)))
+    ]

@@ -1,5 +1,6 @@
 -- First the window moves on, and then the book takes the event.
-use Rattle.std.proofs.Common.{◌≡◌, ◌<◌, length, sym, subst}
+use Rattle.std.proofs.Common.{sym, subst}
+use Rattle.std.proofs.lemmas.Bool.{false≢true}
 use Rattle.history.specs.Answers.{IsTimely}
 use Rattle.shared_book.proofs.RecordLaws.{always_ok, no_memory}
 use Rattle.shared_book.proofs.kept.Kept.take.Goals as goal
@@ -7,19 +8,26 @@ use Rattle.shared_book.proofs.kept.Kept.take.Goals as goal
 pub append-requires-clause-timely : goal.append-requires-clause-timely
 append-requires-clause-timely g c = subst (λ n. IsTimely n c.args.event) (sym c.make_room.ensures.moves.same_total) c.requires.timely
 
-pub returns-in-Ok : goal.returns-in-Ok
-returns-in-Ok g c = record {
+pub returns-in-Ok-clause-step : goal.returns-in-Ok-clause-step
+returns-in-Ok-clause-step g c = record {
   between = c.make_room.new.self;
   moves = c.make_room.ensures.moves;
   room = always_ok c.append.result c.in-Ok.ensures.room;
-  taken = c.append.ensures;
+  taken = c.append.ensures.taken;
 }
 
-pub returns-in-Err : goal.returns-in-Err
-returns-in-Err g c =
+pub returns-in-Err-clause-step : goal.returns-in-Err-clause-step
+returns-in-Err-clause-step g c =
     let b = g.B.Book in record {
       between = c.make_room.new.self;
       moves = c.make_room.ensures.moves;
       room = tt;
       taken = no_memory b.stands_for b.settings b.stored g.met.B.Book.one_count c.args.self.now c.make_room.new.self c.make_room.ensures.kept c.make_room.ensures.moves.same_book c.args.pass.now c.args.event c.requires.timely;
     }
+
+pub returns-in-Ok-clause-free : goal.returns-in-Ok-clause-free
+returns-in-Ok-clause-free g c = λ free.
+    c.append.ensures.free free.plain (subst (λ (book : g.row.B.Denot). g.B.Book.is_free book c.args.event) (sym c.make_room.ensures.moves.same_book) free.free)
+
+pub returns-in-Err-clause-free : goal.returns-in-Err-clause-free
+returns-in-Err-clause-free g c = λ free. absurd (false≢true (c.in-Err.ensures.free free.room))

@@ -1,7 +1,5 @@
 -- Why an event is not timely, and what a timely one for which there is no memory changes.
-use Rattle.std.proofs.Common.{◌≡◌, ◌<◌, arith}
-use Rattle.history.specs.declared.limits.TheConstants.{MOMENT_END, MOST_EVENTS}
-use Rattle.history.specs.Event.{moment_of}
+use Rattle.std.proofs.Common.{arith}
 use Rattle.history.specs.Answers.{IsTimely}
 use Rattle.shared_book.specs.Kept.{KeptState}
 use Rattle.shared_book.proofs.RecordLaws.{count_ended, no_copy, too_late}

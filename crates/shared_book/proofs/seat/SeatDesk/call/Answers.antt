@@ -1,5 +1,6 @@
 -- A caller without a receipt knows what a receipt would say.
-use Rattle.std.proofs.Common.{refl, inr}
+use Rattle.std.proofs.Common.{refl, inl, inr}
+use Rattle.std.proofs.lemmas.Bool.{false≢true}
 use Rattle.shared_book.specs.Record.{receipt_for}
 use Rattle.shared_book.proofs.CallLaws.{seat_reply}
 use Rattle.shared_book.proofs.seat.SeatDesk.call.Goals as goal
@@ -11,5 +12,9 @@ returns-in-Ok-step g c =
     let made = c.step.new.pass in
     let reply = c.in-Ok-step.reply in
     let is = c.in-Ok-step.ensures.ok in
-    seat_reply b.stands_for b.settings b.stored g.L.CallLedger.settings pass made c.args.event reply (receipt_for made.seen pass.caller c.args.event reply) refl
+    seat_reply b.stands_for b.settings b.stored b.is_free g.L.CallLedger.settings pass made c.args.event reply (receipt_for made.seen pass.caller c.args.event reply) refl
     (record { caller = refl; event_is = refl; later = is.later; counted = is.counted }) is.justified (inr c.in-Ok-step.ensures.locked)
+
+-- Only an event that is more than a moment and a ticket may find no memory for its copy.
+pub returns-in-Err : goal.returns-in-Err
+returns-in-Err g c = (refl, tt, inl (λ plain. false≢true (c.in-Err.ensures.plain plain), refl))

@@ -16,8 +16,8 @@ returns-clause-err g c =
 pub returns-clause-locked : goal.returns-clause-locked
 returns-clause-locked g c =
     let b = g.B.Book in
-    locked b.stands_for b.settings b.stored g.L.CallLedger.settings c.deref_mut-2.result.now c.call-2.new.self c.args.pass.now c.call-2.new.pass c.args.event c.call-2.result
-    c.call-2.ensures.kept c.call-2.ensures.made_with c.call-2.ensures.call
+    locked b.stands_for b.settings b.stored b.is_free g.L.CallLedger.settings c.deref_mut-2.result.now c.call-2.new.self c.args.pass.now c.call-2.new.pass c.args.event c.call-2.result
+    c.call-2.ensures.kept c.call-2.ensures.made_with c.call-2.ensures.call c.call-2.ensures.free
 
 pub returns-then-asks_oldest-clause-ok : goal.returns-then-asks_oldest-clause-ok
 returns-then-asks_oldest-clause-ok g c =
@@ -34,5 +34,5 @@ returns-then-asks_oldest-clause-err g c =
 pub returns-then-asks_oldest-clause-locked : goal.returns-then-asks_oldest-clause-locked
 returns-then-asks_oldest-clause-locked g c =
     let b = g.B.Book in
-    locked b.stands_for b.settings b.stored g.L.CallLedger.settings c.deref_mut.result.now c.call.new.self c.args.pass.now c.call.new.pass c.args.event c.call.result
-    c.call.ensures.kept c.call.ensures.made_with c.call.ensures.call
+    locked b.stands_for b.settings b.stored b.is_free g.L.CallLedger.settings c.deref_mut.result.now c.call.new.self c.args.pass.now c.call.new.pass c.args.event c.call.result
+    c.call.ensures.kept c.call.ensures.made_with c.call.ensures.call c.call.ensures.free

@@ -25,7 +25,7 @@ pub returns-in-Look-clause-settings : goal.returns-in-Look-clause-settings
 returns-in-Look-clause-settings g c = c.pass_look.ensures.same_settings
 
 pub returns-in-Look-clause-free : goal.returns-in-Look-clause-free
-returns-in-Look-clause-free g c = λ h so free. c.pass_look.ensures.untimely
+returns-in-Look-clause-free g c = λ free. c.pass_look.ensures.untimely
 
 pub returns-in-Sweep-clause-answers : goal.returns-in-Sweep-clause-answers
 returns-in-Sweep-clause-answers g c = λ h so.
@@ -45,7 +45,7 @@ pub returns-in-Sweep-clause-settings : goal.returns-in-Sweep-clause-settings
 returns-in-Sweep-clause-settings g c = c.pass_sweep.ensures.same_settings
 
 pub returns-in-Sweep-clause-free : goal.returns-in-Sweep-clause-free
-returns-in-Sweep-clause-free g c = λ h so free. c.pass_sweep.ensures.untimely
+returns-in-Sweep-clause-free g c = λ free. c.pass_sweep.ensures.untimely
 
 pub returns-in-Ok-clause-answers : goal.returns-in-Ok-clause-answers
 returns-in-Ok-clause-answers g c = λ h so. (c.in-Ok.ensures.answers h so).0

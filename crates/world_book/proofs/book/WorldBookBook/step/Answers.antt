@@ -39,4 +39,4 @@ returns-in-Err-clause-free g c =
     let j = c.self.inside in
     let book : BookState g.row.C-World.Denot g.row.C-World-Saved.Denot = record { world = j.world; changes = j.journal; settings = j.settings; moment = j.moment; count = j.count } in
     let is : c.max-clock.result ≡ max j.moment (moment_of c.args.event) = c.max-clock.ensures ∙ ap (λ (m : ℕ). max j.moment m) c.moment-2.ensures in
-    rw (← c.self.view_is) (λ h so free. absurd (false≢true (free_here g.C.World.World book c.max-clock.result c.args.event is c.in-Err.ensures.free h so free)))
+    rw (← c.self.view_is) (λ free. absurd (false≢true (free_here g.C.World.World book c.max-clock.result c.args.event is c.in-Err.ensures.free free.0 free.1 free.2)))
