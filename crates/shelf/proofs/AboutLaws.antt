@@ -76,11 +76,11 @@ placed shelf is q v t held pair alive same =
     ap (has_pair shelf.owners) (sym same) ∙ subst (λ (h : Option (Admitted Find)). IfSome h (λ x. has_pair shelf.owners (pair_of x.body) ≡ true)) here counted
 
 pub placed_face : (shelf : Shelf) → IsShelf shelf → (t : ℕ) (pair : Labels × Scope) → IsAliveInFace shelf t pair → has_pair shelf.owners pair ≡ true
-placed_face shelf is t pair it = placed shelf is it.question (settled_version shelf.settling it.question.owner (chosen_version shelf.kept.items it.question it.chosen)) t it.held pair it.alive it.same
+placed_face shelf is t pair it = placed shelf is it.question (settled_version shelf.settlings.items it.question.owner (chosen_version shelf.kept.items it.question it.chosen)) t it.held pair it.alive it.same
 
 pub placed_replay : (shelf : Shelf) → IsShelf shelf → (told : List Told) → IsShelfOf shelf told → (t : ℕ) (pair : Labels × Scope) → IsAliveInReplay shelf.kept.items told t pair → has_pair shelf.owners pair ≡ true
 placed_replay shelf is told of t pair it =
-    placed shelf is it.question (settled_version shelf.settling it.question.owner it.version) t it.held pair (ap (alive_at t) (of it.question it.version it.there) ∙ it.alive) it.same
+    placed shelf is it.question (settled_version shelf.settlings.items it.question.owner it.version) t it.held pair (ap (alive_at t) (of it.question it.version it.there) ∙ it.alive) it.same
 
 -- ---- so many are stored at least
 

@@ -81,17 +81,17 @@ kind_counted (x ∷ kinds) once some = split (is_counted x.column) refl some (ki
 
 -- ---- a name
 
-clean_life : (kept : List KeptFlush) (t : ℕ) (name : Labels) (cells : OwnerCells) → IsDistinct nat_eq (map (λ (own : KindColumn). own.kind) cells.kinds.items) → IsClean kept t name cells → t < name_life None kept name cells
+clean_life : (kept : List KeptFlush) (t : ℕ) (name : Labels) (cells : OwnerCells) → IsDistinct nat_eq (map (λ (own : KindColumn). own.kind) cells.kinds.items) → IsClean kept t name cells → t < name_life [] kept name cells
 clean_life kept t name cells once is = split (is_some cells.whole) refl is.counted
   where
-    split : (b : Bool) → is_some cells.whole ≡ b → 1 ≤ one_if b + count_kinds cells.kinds.items → t < name_life None kept name cells
-    split true at low = omega (arith, whole_life t cells.whole at is.whole, whole_most None kept name cells)
+    split : (b : Bool) → is_some cells.whole ≡ b → 1 ≤ one_if b + count_kinds cells.kinds.items → t < name_life [] kept name cells
+    split true at low = omega (arith, whole_life t cells.whole at is.whole, whole_most [] kept name cells)
     split false at low =
         let own = kind_counted cells.kinds.items once (omega arith) in
         let alive : IsAlive kept name t cells own.0 = is.kinds own.0 own.1 in
-        omega (arith, alive_life t (cell_in cells own.0 alive.0) alive.1.1, name_most None kept name cells own.0 alive.0 alive.1.0)
+        omega (arith, alive_life t (cell_in cells own.0 alive.0) alive.1.1, name_most [] kept name cells own.0 alive.0 alive.1.0)
 
-end_low : (kept : List KeptFlush) (e : Labels × OwnerCells) (end : ℕ) → IsDistinct nat_eq (map (λ (own : KindColumn). own.kind) e.1.kinds.items) → IsEnd kept e end → end ≤ name_life None kept e.0 e.1
+end_low : (kept : List KeptFlush) (e : Labels × OwnerCells) (end : ℕ) → IsDistinct nat_eq (map (λ (own : KindColumn). own.kind) e.1.kinds.items) → IsEnd kept e end → end ≤ name_life [] kept e.0 e.1
 end_low kept e zero once is = omega arith
 end_low kept e (suc t) once is = omega (arith, clean_life kept t e.0 e.1 once (is t (omega arith)))
 
@@ -113,19 +113,19 @@ get_there (x ∷ entries) (suc i) low = get_there entries i (omega arith)
 abbrev Once : Labels × OwnerCells → Type 0
 Once e = IsDistinct nat_eq (map (λ (own : KindColumn). own.kind) e.1.kinds.items)
 
-bound_at : (kept : List KeptFlush) (entries : List (Labels × OwnerCells)) (ends : List ℕ) → AllByRecursion Once entries → AreKeyed (IsEnd kept) entries ends → (i : ℕ) → i < length ends → moment_at ends i ≤ life_at None kept entries i
+bound_at : (kept : List KeptFlush) (entries : List (Labels × OwnerCells)) (ends : List ℕ) → AllByRecursion Once entries → AreKeyed (IsEnd kept) entries ends → (i : ℕ) → i < length ends → moment_at ends i ≤ life_at [] kept entries i
 bound_at kept entries ends once keyed i low =
     let there = get_there entries i (omega (arith, low, keyed.size)) in
     let e = there.0 in
     let end : IsEnd kept e (get_or ends i 0) = subst (λ (o : Option (Labels × OwnerCells)). IfSome o (λ x. IsEnd kept x (get_or ends i 0))) there.1 (keyed.each i) in
-    let life : life_at None kept entries i ≡ name_life None kept e.0 e.1 = ap (λ (o : Option (Labels × OwnerCells)). option_map_or (λ x. name_life None kept x.0 x.1) o 0) there.1 in
+    let life : life_at [] kept entries i ≡ name_life [] kept e.0 e.1 = ap (λ (o : Option (Labels × OwnerCells)). option_map_or (λ x. name_life [] kept x.0 x.1) o 0) there.1 in
     let same : get_or ends i never ≡ get_or ends i 0 = get_or_default ends i never 0 low in
     omega (arith, end_low kept e (get_or ends i 0) (all_at Once entries i e once there.1) end, life, same)
 
-pub shelf_bounds : (shelf : Shelf) → IsShelf shelf → IsUnique name_eq shelf.owners → AreBounds shelf.settling shelf.kept.items shelf.owners.entries shelf.ends.moments
+pub shelf_bounds : (shelf : Shelf) → IsShelf shelf → IsUnique name_eq shelf.owners → AreBounds shelf.settlings.items shelf.kept.items shelf.owners.entries shelf.ends.moments
 shelf_bounds shelf is unique none = (
   is.ends.now.size,
   λ i low.
-      subst (λ (s : Option Settling). moment_at shelf.ends.moments i ≤ life_at s shelf.kept.items shelf.owners.entries i) (sym none)
+      subst (λ (s : List Settling). moment_at shelf.ends.moments i ≤ life_at s shelf.kept.items shelf.owners.entries i) (sym none)
       (bound_at shelf.kept.items shelf.owners.entries shelf.ends.moments (each_once shelf.top shelf.owners.entries unique is.upto) is.ends.now i low),
 )

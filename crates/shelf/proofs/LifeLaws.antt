@@ -16,7 +16,7 @@ use Rattle.cell_store.specs.declared.owner.OwnerCells.{OwnerCells}
 use Rattle.cell_store.specs.Column.{Cells}
 use Rattle.cell_store.specs.Life.{life_end}
 use Rattle.cell_store.specs.Mixed.{IsLikeFirst}
-use Rattle.cell_store.specs.Owner.{column_held, column_of, whole_held}
+use Rattle.cell_store.specs.Owner.{after_settle, column_held, column_of, whole_held}
 use Rattle.shelf.specs.declared.settling.Settling.{Settling}
 use Rattle.shelf.specs.declared.shelf.KeptFlush.{KeptFlush}
 use Rattle.shelf.specs.Settling.{settled_version}
@@ -101,33 +101,33 @@ module _ (cell : ℕ → Option (Admitted Find)) (q : Question) where
 
 -- ---- a name
 
-module _ (settling : Option Settling) (kept : List KeptFlush) (name : Labels) (cells : OwnerCells) where
+module _ (settlings : List Settling) (kept : List KeptFlush) (name : Labels) (cells : OwnerCells) where
   abbrev base : ℕ
-  base = life_end (whole_held cells.whole (settled_version settling name 0))
+  base = life_end (whole_held cells.whole (settled_version settlings name 0))
 
   abbrev of_kind : ℕ → ℕ
-  of_kind k = kind_life kept (cell_at_name settling name cells k) (record { owner = name; kind = k })
+  of_kind k = kind_life kept (cell_at_name settlings name cells k) (record { owner = name; kind = k })
 
-  start_low : (kinds : List KindColumn) (start : ℕ) → start ≤ fold (later_kind settling kept name cells) start kinds
+  start_low : (kinds : List KindColumn) (start : ℕ) → start ≤ fold (later_kind settlings kept name cells) start kinds
   start_low [] start = omega arith
   start_low (x ∷ kinds) start =
       let next : start ≤ max start (of_kind x.kind) = grind arith in
-      let rest : max start (of_kind x.kind) ≤ fold (later_kind settling kept name cells) (max start (of_kind x.kind)) kinds = start_low kinds (max start (of_kind x.kind)) in
-      let all : start ≤ fold (later_kind settling kept name cells) (max start (of_kind x.kind)) kinds = omega (arith, next, rest) in
+      let rest : max start (of_kind x.kind) ≤ fold (later_kind settlings kept name cells) (max start (of_kind x.kind)) kinds = start_low kinds (max start (of_kind x.kind)) in
+      let all : start ≤ fold (later_kind settlings kept name cells) (max start (of_kind x.kind)) kinds = omega (arith, next, rest) in
       all
 
-  kinds_most : (kinds : List KindColumn) (start k : ℕ) (column : Cells) → column_of kinds k ≡ Some column → of_kind k ≤ fold (later_kind settling kept name cells) start kinds
+  kinds_most : (kinds : List KindColumn) (start k : ℕ) (column : Cells) → column_of kinds k ≡ Some column → of_kind k ≤ fold (later_kind settlings kept name cells) start kinds
   kinds_most [] start k column there = let none : None ≡ Some column = there in absurd cc
   kinds_most (x ∷ kinds) start k column there = elim (cases_Bool (x.kind == k)) [
     | inl here ↦
         let same : x.kind ≡ k = eqb-true x.kind k here in
         let low : of_kind x.kind ≤ max start (of_kind x.kind) = grind arith in
-        let all : max start (of_kind x.kind) ≤ fold (later_kind settling kept name cells) (max start (of_kind x.kind)) kinds = start_low kinds (max start (of_kind x.kind)) in
-        subst (λ n. of_kind n ≤ fold (later_kind settling kept name cells) (max start (of_kind x.kind)) kinds) same (omega (arith, low, all))
+        let all : max start (of_kind x.kind) ≤ fold (later_kind settlings kept name cells) (max start (of_kind x.kind)) kinds = start_low kinds (max start (of_kind x.kind)) in
+        subst (λ n. of_kind n ≤ fold (later_kind settlings kept name cells) (max start (of_kind x.kind)) kinds) same (omega (arith, low, all))
     | inr away ↦ kinds_most kinds (max start (of_kind x.kind)) k column (sym (ap (λ b. cond b (Some x.column) (column_of kinds k)) away) ∙ there)
   ]
 
-  kinds_there : (kinds : List KindColumn) (start : ℕ) → (fold (later_kind settling kept name cells) start kinds ≡ start) ⊎ ((k : ℕ) × (of_kind k ≡ fold (later_kind settling kept name cells) start kinds))
+  kinds_there : (kinds : List KindColumn) (start : ℕ) → (fold (later_kind settlings kept name cells) start kinds ≡ start) ⊎ ((k : ℕ) × (of_kind k ≡ fold (later_kind settlings kept name cells) start kinds))
   kinds_there [] start = inl refl
   kinds_there (x ∷ kinds) start = elim (kinds_there kinds (max start (of_kind x.kind))) [
     | inr there ↦ inr there
@@ -140,16 +140,16 @@ module _ (settling : Option Settling) (kept : List KeptFlush) (name : Labels) (c
       max_or : (a b : ℕ) → (max a b ≡ a) ⊎ (max a b ≡ b)
       max_or a b = grind arith
 
-  settled_low : (v : ℕ) → settled_version settling name 0 ≤ settled_version settling name v
-  settled_low v = split settling
+  low_settled : (list : List Settling) (a b : ℕ) → a ≤ b → settled_version list name a ≤ settled_version list name b
+  low_settled [] a b low = low
+  low_settled (own ∷ later) a b low = low_settled later (after_settle (is_at_or_below name own.zone) own.number a) (after_settle (is_at_or_below name own.zone) own.number b) (by (is_at_or_below name own.zone))
     where
-      by : (b : Bool) (n : ℕ) → cond b (max n 0) 0 ≤ cond b (max n v) v
-      by true n = grind arith
-      by false n = omega arith
+      by : (c : Bool) → after_settle c own.number a ≤ after_settle c own.number b
+      by true = omega (arith, low)
+      by false = low
 
-      split : (s : Option Settling) → settled_version s name 0 ≤ settled_version s name v
-      split None = omega arith
-      split (Some own) = by (is_at_or_below name own.zone) own.number
+  settled_low : (v : ℕ) → settled_version settlings name 0 ≤ settled_version settlings name v
+  settled_low v = low_settled settlings 0 v (omega arith)
 
   whole_low : (whole : Option WholeFind) (a b : ℕ) → a ≤ b → life_end (whole_held whole b) ≤ life_end (whole_held whole a)
   whole_low None a b low = omega arith
@@ -165,24 +165,24 @@ module _ (settling : Option Settling) (kept : List KeptFlush) (name : Labels) (c
           subst (λ c. life_end all ≤ life_end (cond c None all)) (sym first) (omega arith)
 
   -- the find of the whole name does not end later
-  pub whole_most : life_end (whole_held cells.whole (settled_version settling name 0)) ≤ name_life settling kept name cells
+  pub whole_most : life_end (whole_held cells.whole (settled_version settlings name 0)) ≤ name_life settlings kept name cells
   whole_most = start_low cells.kinds.items base
 
   -- no find of a type in a version ends later
-  pub name_most : (k v : ℕ) → is_version kept (record { owner = name; kind = k }) v ≡ true → life_end (cell_at_name settling name cells k v) ≤ name_life settling kept name cells
+  pub name_most : (k v : ℕ) → is_version kept (record { owner = name; kind = k }) v ≡ true → life_end (cell_at_name settlings name cells k v) ≤ name_life settlings kept name cells
   name_most k v there = split (column_of cells.kinds.items k) refl
     where
       w : ℕ
-      w = settled_version settling name v
+      w = settled_version settlings name v
 
-      split : (o : Option Cells) → column_of cells.kinds.items k ≡ o → life_end (cell_at_name settling name cells k v) ≤ name_life settling kept name cells
+      split : (o : Option Cells) → column_of cells.kinds.items k ≡ o → life_end (cell_at_name settlings name cells k v) ≤ name_life settlings kept name cells
       split None at =
-          let none : cell_at_name settling name cells k v ≡ whole_held cells.whole w = ap (λ (o : Option Cells). column_held cells.whole o w) at in
-          let low : life_end (cell_at_name settling name cells k v) ≤ base =
-          subst (λ (h : Option (Admitted Find)). life_end h ≤ base) (sym none) (whole_low cells.whole (settled_version settling name 0) w (settled_low v)) in
+          let none : cell_at_name settlings name cells k v ≡ whole_held cells.whole w = ap (λ (o : Option Cells). column_held cells.whole o w) at in
+          let low : life_end (cell_at_name settlings name cells k v) ≤ base =
+          subst (λ (h : Option (Admitted Find)). life_end h ≤ base) (sym none) (whole_low cells.whole (settled_version settlings name 0) w (settled_low v)) in
           omega (arith, low, start_low cells.kinds.items base)
       split (Some column) at =
-          omega (arith, version_most (cell_at_name settling name cells k) (record { owner = name; kind = k }) kept v there, kinds_most cells.kinds.items base k column at)
+          omega (arith, version_most (cell_at_name settlings name cells k) (record { owner = name; kind = k }) kept v there, kinds_most cells.kinds.items base k column at)
 
   -- ---- a type that has no column
 
@@ -201,15 +201,15 @@ module _ (settling : Option Settling) (kept : List KeptFlush) (name : Labels) (c
       ap (λ b. cond b (Some x.column) (column_of kinds k)) away ∙ no_column kinds k (omega (arith, rest, most))
 
   -- one ends then
-  pub name_there : (k : ℕ) × ((v : ℕ) × ((is_version kept (record { owner = name; kind = k }) v ≡ true) × (life_end (cell_at_name settling name cells k v) ≡ name_life settling kept name cells)))
+  pub name_there : (k : ℕ) × ((v : ℕ) × ((is_version kept (record { owner = name; kind = k }) v ≡ true) × (life_end (cell_at_name settlings name cells k v) ≡ name_life settlings kept name cells)))
   name_there = elim (kinds_there cells.kinds.items base) [
     | inl first ↦
         let k = past_kinds cells.kinds.items in
-        let none : cell_at_name settling name cells k 0 ≡ whole_held cells.whole (settled_version settling name 0) =
-        ap (λ (o : Option Cells). column_held cells.whole o (settled_version settling name 0)) (no_column cells.kinds.items k (omega arith)) in
+        let none : cell_at_name settlings name cells k 0 ≡ whole_held cells.whole (settled_version settlings name 0) =
+        ap (λ (o : Option Cells). column_held cells.whole o (settled_version settlings name 0)) (no_column cells.kinds.items k (omega arith)) in
         (k, (0, (refl, ap life_end none ∙ sym first)))
     | inr own ↦
-        let at = version_there (cell_at_name settling name cells own.0) (record { owner = name; kind = own.0 }) kept in
+        let at = version_there (cell_at_name settlings name cells own.0) (record { owner = name; kind = own.0 }) kept in
         (own.0, (at.0, (at.1.0, at.1.1 ∙ own.1)))
   ]
 
@@ -264,12 +264,12 @@ module _ (cell : ℕ → Option (Admitted Find)) (q : Question) (like : (v : ℕ
   first_is_last (x ∷ kept) = ap (λ (n : ℕ). fold (later_life cell q) n kept) (stays_last x) ∙ first_is_last kept
 
 module _ (kept : List KeptFlush) (name : Labels) (cells : OwnerCells) (like : IsLikeFirst cells) where
-  same_kinds : (kinds : List KindColumn) (end : ℕ) → fold (later_kind None [] name cells) end kinds ≡ fold (later_kind None kept name cells) end kinds
+  same_kinds : (kinds : List KindColumn) (end : ℕ) → fold (later_kind [] [] name cells) end kinds ≡ fold (later_kind [] kept name cells) end kinds
   same_kinds [] end = refl
   same_kinds (own ∷ kinds) end =
-      let last = first_is_last (cell_at_name None name cells own.kind) (record { owner = name; kind = own.kind }) (like own.kind) kept in
-      ap (λ (n : ℕ). fold (later_kind None [] name cells) (max end n) kinds) (sym last) ∙ same_kinds kinds (later_kind None kept name cells end own)
+      let last = first_is_last (cell_at_name [] name cells own.kind) (record { owner = name; kind = own.kind }) (like own.kind) kept in
+      ap (λ (n : ℕ). fold (later_kind [] [] name cells) (max end n) kinds) (sym last) ∙ same_kinds kinds (later_kind [] kept name cells end own)
 
   -- if the versions of a name are alike, its last find ends in the same second whichever flushes are kept
-  pub life_of_alike : name_life None [] name cells ≡ name_life None kept name cells
+  pub life_of_alike : name_life [] [] name cells ≡ name_life [] kept name cells
   life_of_alike = same_kinds cells.kinds.items (life_end (whole_held cells.whole 0))

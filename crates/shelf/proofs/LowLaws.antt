@@ -29,8 +29,8 @@ use Rattle.shelf.proofs.LifeLaws.{name_most, name_there}
 abbrev pub AreStill : List (Labels × OwnerCells) → List (Labels × OwnerCells) → List ℕ → List ℕ → Type 0
 AreStill old new was ends = (i : ℕ) → (get_or ends i 0 ≡ 0) ⊎ ((slice_get new i ≡ slice_get old i) × (get_or ends i 0 ≡ get_or was i 0))
 
-pub life_like : (kept : List KeptFlush) (old new : List (Labels × OwnerCells)) (i j : ℕ) → slice_get new i ≡ slice_get old j → life_at None kept new i ≡ life_at None kept old j
-life_like kept old new i j same = ap (λ (o : Option (Labels × OwnerCells)). option_map_or (λ e. name_life None kept e.0 e.1) o 0) same
+pub life_like : (kept : List KeptFlush) (old new : List (Labels × OwnerCells)) (i j : ℕ) → slice_get new i ≡ slice_get old j → life_at [] kept new i ≡ life_at [] kept old j
+life_like kept old new i j same = ap (λ (o : Option (Labels × OwnerCells)). option_map_or (λ e. name_life [] kept e.0 e.1) o 0) same
 
 pub low_still : (kept : List KeptFlush) (old new : List (Labels × OwnerCells)) (was ends lasts : List ℕ) → AreStill old new was ends → AreLow kept old was lasts → AreLow kept new ends lasts
 low_still kept old new was ends lasts still is i some = elim (still i) [
@@ -44,24 +44,24 @@ low_lasts kept entries moments lasts more same is i some = omega (arith, same i,
 -- ---- other kept flushes
 
 life_kept : (kept more : List KeptFlush) → ((q : Question) (v : ℕ) → is_version kept q v ≡ true → is_version more q v ≡ true) → (o : Option (Labels × OwnerCells))
-    → option_map_or (λ e. name_life None kept e.0 e.1) o 0 ≤ option_map_or (λ e. name_life None more e.0 e.1) o 0
+    → option_map_or (λ e. name_life [] kept e.0 e.1) o 0 ≤ option_map_or (λ e. name_life [] more e.0 e.1) o 0
 life_kept kept more step None = omega arith
 life_kept kept more step (Some e) =
-    let own = name_there None kept e.0 e.1 in
+    let own = name_there [] kept e.0 e.1 in
     let k = own.0 in
     let v = own.1.0 in
-    omega (arith, own.1.1.1, name_most None more e.0 e.1 k v (step (record { owner = e.0; kind = k }) v own.1.1.0))
+    omega (arith, own.1.1.1, name_most [] more e.0 e.1 k v (step (record { owner = e.0; kind = k }) v own.1.1.0))
 
 pub low_kept : (kept more : List KeptFlush) → ((q : Question) (v : ℕ) → is_version kept q v ≡ true → is_version more q v ≡ true) → (entries : List (Labels × OwnerCells)) (moments lasts : List ℕ)
     → AreLow kept entries moments lasts → AreLow more entries moments lasts
 low_kept kept more step entries moments lasts is i some = omega (arith, is i some, life_kept kept more step (slice_get entries i))
 
 -- the columns of a name hold nothing but what version 0 has
-life_first : (kept : List KeptFlush) (name : Labels) (cells : OwnerCells) → IsLikeFirst cells → name_life None kept name cells ≤ name_life None [] name cells
+life_first : (kept : List KeptFlush) (name : Labels) (cells : OwnerCells) → IsLikeFirst cells → name_life [] kept name cells ≤ name_life [] [] name cells
 life_first kept name cells like = split (like k v)
   where
-    own : (k : ℕ) × ((v : ℕ) × ((is_version kept (record { owner = name; kind = k }) v ≡ true) × (life_end (cell_in cells k v) ≡ name_life None kept name cells)))
-    own = name_there None kept name cells
+    own : (k : ℕ) × ((v : ℕ) × ((is_version kept (record { owner = name; kind = k }) v ≡ true) × (life_end (cell_in cells k v) ≡ name_life [] kept name cells)))
+    own = name_there [] kept name cells
 
     k : ℕ
     k = own.0
@@ -69,18 +69,18 @@ life_first kept name cells like = split (like k v)
     v : ℕ
     v = own.1.0
 
-    split : (cell_in cells k v ≡ cell_in cells k 0) ⊎ (cell_in cells k v ≡ None) → name_life None kept name cells ≤ name_life None [] name cells
-    split (inl same) = omega (arith, own.1.1.1, ap life_end same, name_most None [] name cells k 0 refl)
+    split : (cell_in cells k v ≡ cell_in cells k 0) ⊎ (cell_in cells k v ≡ None) → name_life [] kept name cells ≤ name_life [] [] name cells
+    split (inl same) = omega (arith, own.1.1.1, ap life_end same, name_most [] [] name cells k 0 refl)
     split (inr none) = let zero : life_end (cell_in cells k v) ≡ 0 = ap life_end none in omega (arith, own.1.1.1, zero)
 
-first_life : (kept : List KeptFlush) (o : Option (Labels × OwnerCells)) → IfSome o (λ e. IsLikeFirst e.1) → option_map_or (λ e. name_life None kept e.0 e.1) o 0 ≤ option_map_or (λ e. name_life None [] e.0 e.1) o 0
+first_life : (kept : List KeptFlush) (o : Option (Labels × OwnerCells)) → IfSome o (λ e. IsLikeFirst e.1) → option_map_or (λ e. name_life [] kept e.0 e.1) o 0 ≤ option_map_or (λ e. name_life [] [] e.0 e.1) o 0
 first_life kept None like = omega arith
 first_life kept (Some e) like = life_first kept e.0 e.1 like
 
 -- ---- the name at a place was visited
 
 module _ (old new : List (Labels × OwnerCells)) (place last : ℕ) (others : (i : ℕ) → (i ≡ place → ⊥) → slice_get new i ≡ slice_get old i) where
-  low_set : (kept : List KeptFlush) (moments lasts : List ℕ) (end : ℕ) → place < length moments → place < length lasts → (0 < end → last ≤ life_at None kept new place) → AreLow kept old moments lasts
+  low_set : (kept : List KeptFlush) (moments lasts : List ℕ) (end : ℕ) → place < length moments → place < length lasts → (0 < end → last ≤ life_at [] kept new place) → AreLow kept old moments lasts
       → AreLow kept new (set moments place end) (set lasts place last)
   low_set kept moments lasts end low there next is i some = elim (same_or i place) [
     | inl here ↦
@@ -93,22 +93,22 @@ module _ (old new : List (Labels × OwnerCells)) (place last : ℕ) (others : (i
         omega (arith, own, is i (omega (arith, some, moment)), life_like kept old new i i (others i away))
   ]
 
-  pub low_put : (kept : List KeptFlush) (moments lasts : List ℕ) (end : ℕ) → place < length moments → place < length lasts → last ≡ min (life_at None kept new place) latest → AreLow kept old moments lasts
+  pub low_put : (kept : List KeptFlush) (moments lasts : List ℕ) (end : ℕ) → place < length moments → place < length lasts → last ≡ min (life_at [] kept new place) latest → AreLow kept old moments lasts
       → AreLow kept new (set moments place end) (set lasts place last)
   low_put kept moments lasts end low there noted is = low_set kept moments lasts end low there (λ some. omega (arith, noted)) is
 
-  pub low_put_ever : (kept : List KeptFlush) (evens lasts : List ℕ) (end : ℕ) (mixed : Bool) → place < length evens → place < length lasts → last ≡ min (life_at None kept new place) latest
+  pub low_put_ever : (kept : List KeptFlush) (evens lasts : List ℕ) (end : ℕ) (mixed : Bool) → place < length evens → place < length lasts → last ≡ min (life_at [] kept new place) latest
       → (mixed ≡ false → IfSome (slice_get new place) (λ e. IsLikeFirst e.1)) → AreLow [] old evens lasts → AreLow [] new (set evens place (cond mixed 0 end)) (set lasts place last)
   low_put_ever kept evens lasts end mixed low there noted alike is = low_set [] evens lasts (cond mixed 0 end) low there (split mixed alike) is
     where
-      split : (b : Bool) → (b ≡ false → IfSome (slice_get new place) (λ e. IsLikeFirst e.1)) → 0 < cond b 0 end → last ≤ life_at None [] new place
+      split : (b : Bool) → (b ≡ false → IfSome (slice_get new place) (λ e. IsLikeFirst e.1)) → 0 < cond b 0 end → last ≤ life_at [] [] new place
       split true alike some = absurd (omega (arith, some))
       split false alike some = omega (arith, noted, first_life kept (slice_get new place) (alike refl))
 
 -- ---- the name at a place has gone, and the last one is in its place
 
 pub low_swap : (kept : List KeptFlush) (old : List (Labels × OwnerCells)) (moments lasts : List ℕ) (p : ℕ) (d : Labels × OwnerCells) → length moments ≡ length old → length lasts ≡ length old → p < length old
-    → ((i : ℕ) → (i ≡ p → ⊥) → 0 < get_or moments i 0 → last_at lasts i ≤ life_at None kept old i) → AreLow kept (swap_remove old p d) (swap_remove moments p 0) (swap_remove lasts p 0)
+    → ((i : ℕ) → (i ≡ p → ⊥) → 0 < get_or moments i 0 → last_at lasts i ≤ life_at [] kept old i) → AreLow kept (swap_remove old p d) (swap_remove moments p 0) (swap_remove lasts p 0)
 low_swap kept old moments lasts p d size long low is i some = elim (lt_or i (length old - 1)) [
   | inl before ↦ elim (same_or i p) [
     | inl here ↦

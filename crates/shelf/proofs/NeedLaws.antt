@@ -1,5 +1,5 @@
 -- After a sweep, each place that counts is needed: a find about it is alive by some choice of the kept flushes.
-use Rattle.std.proofs.Common.{◌≡◌, ℕ, ◌+◌, ◌-◌, suc, ◌<◌, ◌≤◌, Bool, true, false, cond, Option, Some, None, List, [], ◌∷◌, refl, sym, ap, ◌∙◌, subst, arith}
+use Rattle.std.proofs.Common.{◌≡◌, ℕ, ◌+◌, ◌-◌, suc, ◌<◌, ◌≤◌, Bool, true, false, cond, Option, Some, None, List, [], ◌∷◌, refl, sym, ap, ◌∙◌, arith}
 use Rattle.std.specs.Prelude.{◌==◌, ◌&&◌, nat_lt, not, is_some, IfSome}
 use Rattle.std.specs.Option.{option_map_or}
 use Rattle.std.proofs.lemmas.Bool.{false≢true}
@@ -17,15 +17,15 @@ use Rattle.cell_store.specs.declared.owner.OwnerCells.{OwnerCells}
 use Rattle.cell_store.specs.declared.owner.WholeFind.{WholeFind}
 use Rattle.cell_store.specs.Count.{has_place}
 use Rattle.cell_store.specs.Owner.{cell_in, column_held, column_of, whole_held}
-use Rattle.cell_store.specs.Store.{cell_by_owner, cell_of}
+use Rattle.cell_store.specs.Store.{cell_by_owner}
 use Rattle.cell_store.specs.Sweep.{alive_at, is_dead}
 use Rattle.shelf.specs.declared.settling.Settling.{Settling}
 use Rattle.shelf.specs.declared.shelf.KeptFlush.{KeptFlush}
 use Rattle.shelf.specs.declared.shelf.Shelf.{Shelf}
 use Rattle.shelf.specs.Settling.{settled_cell}
-use Rattle.shelf.specs.Stored.{is_about, AreNeeded, IsNeeded}
+use Rattle.shelf.specs.Stored.{AreNeeded, IsNeeded}
 use Rattle.shelf.specs.Sweep.{AreAlive, IsAlive}
-use Rattle.shelf.specs.Told.{chosen_version, face_of, is_version, only}
+use Rattle.shelf.specs.Told.{chosen_version, only}
 use Rattle.shelf.proofs.LifeLaws.{only_version}
 
 -- ---- a type that has no column
@@ -81,16 +81,16 @@ none_version (own ∷ kept) q = none_version kept q
 
 -- ---- all places
 
-pub needed : (shelf : Shelf) (t : ℕ) → shelf.settling ≡ None → AreAlive shelf.kept.items t shelf.owners → AreNeeded t shelf
+pub needed : (shelf : Shelf) (t : ℕ) → shelf.settlings.items ≡ [] → AreAlive shelf.kept.items t shelf.owners → AreNeeded t shelf
 needed shelf t none is pair has = found (get name_eq shelf.owners pair.0) refl (is.kinds pair.0) (is.wholes pair.0) has
   where
     name : Labels
     name = pair.0
 
     -- the cell of a choice, by the cells of the name
-    cell : (cells : OwnerCells) → get name_eq shelf.owners name ≡ Some cells → (kind v : ℕ) → settled_cell shelf.settling shelf.owners (asked name kind) v ≡ cell_in cells kind v
+    cell : (cells : OwnerCells) → get name_eq shelf.owners name ≡ Some cells → (kind v : ℕ) → settled_cell shelf.settlings.items shelf.owners (asked name kind) v ≡ cell_in cells kind v
     cell cells there kind v =
-        ap (λ (s : Option Settling). settled_cell s shelf.owners (asked name kind) v) none
+        ap (λ (s : List Settling). settled_cell s shelf.owners (asked name kind) v) none
         ∙ ap (λ c. cell_by_owner c kind v) there
 
     one : (cells : OwnerCells) (kind : ℕ) → get name_eq shelf.owners name ≡ Some cells → IsAlive shelf.kept.items name t cells kind → IsNeeded shelf t (name, One kind)
@@ -98,7 +98,7 @@ needed shelf t none is pair has = found (get name_eq shelf.owners pair.0) refl (
       chosen = only alive.0;
       question = asked name kind;
       about = ap (λ (b : Bool). b && (kind == kind)) (same_name name) ∙ same_kind kind;
-      alive = ap (λ n. is_some (alive_at t (settled_cell shelf.settling shelf.owners (asked name kind) n))) (only_version shelf.kept.items (asked name kind) alive.0 alive.1.0)
+      alive = ap (λ n. is_some (alive_at t (settled_cell shelf.settlings.items shelf.owners (asked name kind) n))) (only_version shelf.kept.items (asked name kind) alive.0 alive.1.0)
           ∙ (ap (λ c. is_some (alive_at t c)) (cell cells there kind alive.0) ∙ alive.1.1);
     }
 
@@ -108,7 +108,7 @@ needed shelf t none is pair has = found (get name_eq shelf.owners pair.0) refl (
           chosen = none_chosen;
           question = asked name kind;
           about = ap (λ (b : Bool). b && true) (same_name name);
-          alive = ap (λ n. is_some (alive_at t (settled_cell shelf.settling shelf.owners (asked name kind) n))) (none_version shelf.kept.items (asked name kind))
+          alive = ap (λ n. is_some (alive_at t (settled_cell shelf.settlings.items shelf.owners (asked name kind) n))) (none_version shelf.kept.items (asked name kind))
               ∙ (ap (λ c. is_some (alive_at t c)) (cell cells there kind 0) ∙ whole_shown t cells some dead);
         }
 

@@ -49,7 +49,7 @@ fewer_left shelf whole owner left less t end is = by (get name_eq shelf.owners o
     q = record { owner = owner; kind = is.kind }
 
     v : ℕ
-    v = settled_version shelf.settling owner (chosen_version shelf.kept.items q is.chosen)
+    v = settled_version shelf.settlings.items owner (chosen_version shelf.kept.items q is.chosen)
 
     there : cell_by_owner (get name_eq shelf.owners owner) is.kind v ≡ Some is.alive.held
     there = alive_held t (cell_by_owner (get name_eq shelf.owners owner) is.kind v) is.alive.held is.alive.alive

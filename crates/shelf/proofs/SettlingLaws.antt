@@ -1,13 +1,14 @@
--- A permanent flush that reaches the names one after the other.
+-- Permanent flushes that reach the names one after the other.
 use Rattle.std.proofs.Common.{◌≡◌, ℕ, zero, suc, ◌+◌, ◌-◌, ◌<◌, ◌≤◌, max, min, Bool, true, false, cond, Option, Some, None, List, [], ◌∷◌, ◌++◌, length, get_or, refl, sym, ap, ◌∙◌, subst, arith, ◌⊎◌, inl, inr}
-use Rattle.std.specs.Prelude.{◌==◌, ◌&&◌, ◌||◌, not, nat_le, nat_lt, slice_get, swap_remove, IfSome, Result, Ok, Err, OnOk, OnErr}
-use Rattle.std.specs.List.{position_or_len}
+use Rattle.std.specs.Prelude.{◌==◌, ◌&&◌, ◌||◌, not, nat_le, nat_lt, slice_get, swap_remove, Result, Ok, Err, OnOk, OnErr}
+use Rattle.std.specs.List.{filter, position_or_len, remove, AllByRecursion}
 use Rattle.std.specs.Map.{keys_of, lookup}
-use Rattle.std.proofs.lemmas.Bool.{and_parts, false≢true}
+use Rattle.std.proofs.lemmas.Bool.{and_parts, eq-eqb, eqb-true, false≢true}
 use Rattle.std.proofs.lemmas.Map.Entries.{length-keys_of}
 use Rattle.std.proofs.lemmas.Bool.Decides.{nat_tests}
 use Rattle.std.proofs.Math.ListN.{set, length-set}
 use Rattle.std.proofs.lemmas.List.{length-take-le}
+use Rattle.std.proofs.lemmas.List.Sums.{fold-append}
 use Rattle.std.specs.Option.{option_map_or}
 use Rattle.indexmap.specs.IndexMap.{IndexMap, get, swap_remove_entry}
 use Rattle.dns_name.specs.Labels.{Labels}
@@ -22,9 +23,10 @@ use Rattle.cell_store.specs.Count.{KeepPairs}
 use Rattle.cell_store.specs.Owner.{after_settle, after_touch}
 use Rattle.cell_store.specs.Store.{cell_by_owner, cell_of, name_place, AreAbout, AreSameCells, AreUpTo}
 use Rattle.shelf.specs.declared.settling.Settling.{Settling}
-use Rattle.shelf.specs.Settling.{fitted_place, is_outdone, names_left, settled_cell, settled_version, unmoved, AreReached, IsMoved, IsReaching, IsSettling}
+use Rattle.shelf.specs.Settling.{first_at, is_outdone, later_settled, settled_cell, settled_version, steps_left, unmoved, with_left, without_outdone, AreReached, HaveStepped, IsMoved, IsReaching, IsSettling}
+use Rattle.shelf.specs.Sweep.{count_ended, EndNear}
 use Rattle.shelf.proofs.AboutLaws.{about_moved}
-use Rattle.shelf.proofs.ListLaws.{get_set_other, get_set_same, get_some, get_take, lt_or, some_map}
+use Rattle.shelf.proofs.ListLaws.{get_set_other, get_set_same, get_some, get_take, lt_or}
 use Rattle.shelf.proofs.ShelfLaws.{nothing_past}
 
 -- ---- versions
@@ -56,17 +58,65 @@ after_high : (b : Bool) (n v : ℕ) → v ≤ after_settle b n v
 after_high true n v = omega arith
 after_high false n v = omega arith
 
-module _ {S : Type 0} (owners : IndexMap Labels OwnerCells S) (top : ℕ) where
-  pub version_low : (settling : Option Settling) → IfSome settling (IsSettling top owners) → (name : Labels) (v : ℕ) → v ≤ top → settled_version settling name v ≤ top
-  version_low None is name v low = low
-  version_low (Some own) is name v low = after_low (is_at_or_below name own.zone) own.number v top is.older low
+low_then : (a b c : ℕ) → a ≤ b → b ≤ c → a ≤ c
+low_then a b c first then = omega (arith, first, then)
 
-version_high : (settling : Option Settling) (name : Labels) (v : ℕ) → v ≤ settled_version settling name v
-version_high None name v = omega arith
-version_high (Some own) name v = after_high (is_at_or_below name own.zone) own.number v
+pub version_low : {S : Type 0} (owners : IndexMap Labels OwnerCells S) (top : ℕ) (settlings : List Settling) → AllByRecursion (IsSettling top owners) settlings → (name : Labels) (v : ℕ) → v ≤ top → settled_version settlings name v ≤ top
+version_low owners top [] all name v low = low
+version_low owners top (own ∷ later) all name v low =
+    version_low owners top later all.1 name (after_settle (is_at_or_below name own.zone) own.number v) (after_low (is_at_or_below name own.zone) own.number v top all.0.older low)
 
-pub nothing_settled : {S : Type 0} (owners : IndexMap Labels OwnerCells S) (top : ℕ) (settling : Option Settling) → AreUpTo top owners → (q : Question) (v : ℕ) → top < v → settled_cell settling owners q v ≡ None
-nothing_settled owners top settling upto q v late = nothing_past owners top upto q (settled_version settling q.owner v) (omega (arith, late, version_high settling q.owner v))
+version_high : (settlings : List Settling) (name : Labels) (v : ℕ) → v ≤ settled_version settlings name v
+version_high [] name v = omega arith
+version_high (own ∷ later) name v =
+    let first : ℕ = after_settle (is_at_or_below name own.zone) own.number v in
+    low_then v first (settled_version later name first) (after_high (is_at_or_below name own.zone) own.number v) (version_high later name first)
+
+-- it does not matter whether another flush comes before those of a list or after them
+pub version_from : (settlings : List Settling) (name : Labels) (b : Bool) (n v : ℕ) → settled_version settlings name (after_settle b n v) ≡ after_settle b n (settled_version settlings name v)
+version_from [] name b n v = refl
+version_from (own ∷ later) name b n v =
+    ap (settled_version later name) (either_first (is_at_or_below name own.zone) b own.number n v)
+    ∙ version_from later name b n (after_settle (is_at_or_below name own.zone) own.number v)
+
+pub nothing_settled : {S : Type 0} (owners : IndexMap Labels OwnerCells S) (top : ℕ) (settlings : List Settling) → AreUpTo top owners → (q : Question) (v : ℕ) → top < v → settled_cell settlings owners q v ≡ None
+nothing_settled owners top settlings upto q v late = nothing_past owners top upto q (settled_version settlings q.owner v) (omega (arith, late, version_high settlings q.owner v))
+
+-- ---- lists of flushes
+
+pub turned_not : (b : Bool) → not b ≡ false → b ≡ true
+turned_not true is = refl
+turned_not false is = absurd (false≢true (sym is))
+
+pub turned_true : (b : Bool) → not b ≡ true → b ≡ false
+turned_true true is = absurd (false≢true is)
+turned_true false is = refl
+
+pub is_none : (size len : ℕ) (empty : Bool) → empty ≡ (size == 0) → size ≡ len → empty ≡ true → len ≡ 0
+is_none size len empty at same is = let none : size ≡ 0 = eqb-true size 0 (sym at ∙ is) in omega (arith, none, same)
+
+pub is_some : (size len : ℕ) (empty : Bool) → empty ≡ (size == 0) → size ≡ len → empty ≡ false → 0 < len
+is_some size len empty at same isnt = let off : (size == 0) ≡ false = sym at ∙ isnt in let some : 0 < size = grind (arith, nat_tests) in omega (arith, some, same)
+
+pub nil_of : {A : Type 0} (xs : List A) → length xs ≡ 0 → xs ≡ []
+nil_of [] none = refl
+nil_of (x ∷ xs) none = absurd (omega (arith, none))
+
+pub all_each : (P Q : Settling → Type 0) (settlings : List Settling) → ((own : Settling) → P own → Q own) → AllByRecursion P settlings → AllByRecursion Q settlings
+all_each P Q [] step all = tt
+all_each P Q (own ∷ later) step all = (step own all.0, all_each P Q later step all.1)
+
+all_kept : (P : Settling → Type 0) (test : Settling → Bool) (settlings : List Settling) → AllByRecursion P settlings → AllByRecursion P (filter test settlings)
+all_kept P test [] all = tt
+all_kept P test (own ∷ later) all = split (test own) (all_kept P test later all.1)
+  where
+    split : (b : Bool) → AllByRecursion P (filter test later) → AllByRecursion P (cond b (own ∷ filter test later) (filter test later))
+    split true rest = (all.0, rest)
+    split false rest = rest
+
+all_push : (P : Settling → Type 0) (settlings : List Settling) (own : Settling) → AllByRecursion P settlings → P own → AllByRecursion P (settlings ++ own ∷ [])
+all_push P [] own all is = (is, tt)
+all_push P (x ∷ later) own all is = (all.0, all_push P later own all.1 is)
 
 -- ---- places
 
@@ -125,73 +175,199 @@ module _ {S : Type 0} (zone : Labels) (number place : ℕ) (old new : IndexMap L
   about_here : AreAbout old → AreAbout new
   about_here = about_moved old new (λ q v. after_settle (name_place q.owner old.entries == place && is_at_or_below q.owner zone) number v) cells
 
+-- ---- the cells of each name move alike
+
+module _ {S : Type 0} (covered : Question → Bool) (number top : ℕ) (old new : IndexMap Labels OwnerCells S) (names : keys_of new.entries ≡ keys_of old.entries)
+    (cells : (q : Question) (v : ℕ) → cell_of new q v ≡ cell_of old q (after_settle (covered q) number v)) where
+  pub moved_own : (own : Settling) → IsSettling top old own → IsSettling top new own
+  moved_own own is = record {
+    older = is.older;
+    reached = λ q v far.
+        cells q (after_settle (is_at_or_below q.owner own.zone) own.number v)
+        ∙ (ap (cell_of old q) (either_first (covered q) (is_at_or_below q.owner own.zone) number own.number v)
+        ∙ (is.reached q (after_settle (covered q) number v) (subst (λ n. own.left ≤ n) (same_place old.entries new.entries q.owner names) far) ∙ sym (cells q v)));
+  }
+
+  moved_cells : (was : List Settling) (q : Question) (v : ℕ) → settled_cell was new q v ≡ settled_cell was old q (after_settle (covered q) number v)
+  moved_cells was q v = cells q (settled_version was q.owner v) ∙ ap (cell_of old q) (sym (version_from was q.owner (covered q) number v))
+
+  pub moved_name : (was : List Settling) → AreUpTo top new → AllByRecursion (IsSettling top old) was → IsMoved (λ q v. after_settle (covered q) number v) top was was old new
+  moved_name was upto all = record {
+    cells = moved_cells was;
+    upto = upto;
+    about = about_moved old new (λ q v. after_settle (covered q) number v) cells;
+    settling = all_each (IsSettling top old) (IsSettling top new) was moved_own all;
+  }
+
+pub moved_like : {S : Type 0} (moved other : Question → ℕ → ℕ) (top : ℕ) (was now : List Settling) (old new : IndexMap Labels OwnerCells S) → ((q : Question) (v : ℕ) → moved q v ≡ other q v) → IsMoved moved top was now old new → IsMoved other top was now old new
+moved_like moved other top was now old new same is = record { cells = λ q v. is.cells q v ∙ ap (settled_cell was old q) (same q v); upto = is.upto; about = is.about; settling = is.settling }
+
+pub moved_same : {S : Type 0} (top : ℕ) (settlings : List Settling) (owners : IndexMap Labels OwnerCells S) → AreUpTo top owners → AllByRecursion (IsSettling top owners) settlings → IsMoved unmoved top settlings settlings owners owners
+moved_same top settlings owners upto all = record { cells = λ q v. refl; upto = upto; about = λ is. is; settling = all }
+
+-- ---- names that a flush has reached
+
+-- from the end of the names on there is nothing to reach
+pub past_reached : {S : Type 0} (zone : Labels) (number place : ℕ) (owners : IndexMap Labels OwnerCells S) → length owners.entries ≤ place → AreReached zone number place owners
+past_reached zone number place owners past q v far =
+    let none : get name_eq owners q.owner ≡ None = absent owners.entries q.owner (omega (arith, past, far)) in
+    ap (λ (o : Option OwnerCells). cell_by_owner o q.kind (after_settle (is_at_or_below q.owner zone) number v)) none ∙ sym (ap (λ (o : Option OwnerCells). cell_by_owner o q.kind v) none)
+
+reached_low : {S : Type 0} (zone : Labels) (number left : ℕ) (owners : IndexMap Labels OwnerCells S) → AreReached zone number left owners → (q : Question) (v : ℕ) → min left (length owners.entries) ≤ name_place q.owner owners.entries
+    → cell_of owners q (after_settle (is_at_or_below q.owner zone) number v) ≡ cell_of owners q v
+reached_low zone number left owners is q v far = elim (lt_or (name_place q.owner owners.entries) left) [
+  | inr done ↦ is q v done
+  | inl before ↦ past_reached zone number (length owners.entries) owners (omega arith) q v (omega (arith, far, before))
+]
+
 pub reach_none : {S : Type 0} (zone : Labels) (number top place : ℕ) (owners : IndexMap Labels OwnerCells S) → AreUpTo top owners → IsReaching zone number top place place owners owners
-reach_none zone number top place owners upto = record { cells = λ q v. refl; upto = upto; about = λ is. is; reached = λ is. is }
+reach_none zone number top place owners upto = record { cells = λ q v. refl; upto = upto; about = λ is. is; reached = λ is. is; others = λ own is. is }
 
-pub reach_more : {S : Type 0} (zone : Labels) (number top from before place : ℕ) (first old new : IndexMap Labels OwnerCells S) → place + 1 ≡ before → IsReaching zone number top from before first old → keys_of new.entries ≡ keys_of old.entries → AreUpTo top new
-    → ((q : Question) (v : ℕ) → cell_of new q v ≡ cell_of old q (after_settle (name_place q.owner old.entries == place && is_at_or_below q.owner zone) number v)) → IsReaching zone number top from place first new
-reach_more zone number top from before place first old new next is names upto cells = record {
-  cells = λ q v. seen_same zone number place old new names cells q v ∙ is.cells q v;
+-- there is no name at the place
+pub reach_past : {S : Type 0} (zone : Labels) (number top from place : ℕ) (owners : IndexMap Labels OwnerCells S) → AreUpTo top owners → length owners.entries ≤ place → IsReaching zone number top from place owners owners
+reach_past zone number top from place owners upto past = record { cells = λ q v. refl; upto = upto; about = λ is. is; reached = λ is. past_reached zone number place owners past; others = λ own is. is }
+
+pub reach_then : {S : Type 0} (zone : Labels) (number top from before to : ℕ) (first old new : IndexMap Labels OwnerCells S) → IsReaching zone number top from before first old → IsReaching zone number top before to old new → IsReaching zone number top from to first new
+reach_then zone number top from before to first old new is then = record {
+  cells = λ q v. then.cells q v ∙ is.cells q v;
+  upto = then.upto;
+  about = λ was. then.about (is.about was);
+  reached = λ was. then.reached (is.reached was);
+  others = λ own was. then.others own (is.others own was);
+}
+
+pub reach_one : {S : Type 0} (zone : Labels) (number top place : ℕ) (old new : IndexMap Labels OwnerCells S) → keys_of new.entries ≡ keys_of old.entries → AreUpTo top new
+    → ((q : Question) (v : ℕ) → cell_of new q v ≡ cell_of old q (after_settle (name_place q.owner old.entries == place && is_at_or_below q.owner zone) number v)) → IsReaching zone number top (place + 1) place old new
+reach_one zone number top place old new names upto cells = record {
+  cells = seen_same zone number place old new names cells;
   upto = upto;
-  about = λ was. about_here zone number place old new names cells (is.about was);
-  reached = λ was. reached_here zone number place old new names cells (subst (λ n. AreReached zone number n old) (sym next) (is.reached was));
+  about = about_here zone number place old new names cells;
+  reached = reached_here zone number place old new names cells;
+  others = moved_own (λ q. name_place q.owner old.entries == place && is_at_or_below q.owner zone) number top old new names cells;
 }
 
--- ---- some names, and all
+-- ---- the first flush
 
-pub moved_none : {S : Type 0} (top : ℕ) (owners : IndexMap Labels OwnerCells S) → AreUpTo top owners → IsMoved unmoved top None None owners owners
-moved_none top owners upto = record { cells = λ q v. refl; upto = upto; about = λ is. is; settling = tt }
+module _ {S : Type 0} (top left : ℕ) (own : Settling) (later : List Settling) (old new : IndexMap Labels OwnerCells S) (is : IsReaching own.zone own.number top own.left left old new) (all : AllByRecursion (IsSettling top old) (own ∷ later)) where
+  abbrev more : Labels → ℕ → ℕ
+  more name v = settled_version later name v
 
-pub moved_some : {S : Type 0} (top : ℕ) (was now : Settling) (old new : IndexMap Labels OwnerCells S) → now.zone ≡ was.zone → now.number ≡ was.number → now.left ≤ was.left → keys_of new.entries ≡ keys_of old.entries
-    → IsReaching was.zone was.number top was.left now.left old new → IsSettling top old was → IsMoved unmoved top (Some was) (Some now) old new
-moved_some top was now old new zone number fewer names is settling = record {
-  cells = λ q v. ap (λ (z : Labels). cell_of new q (after_settle (is_at_or_below q.owner z) now.number v)) zone ∙ (ap (λ n. cell_of new q (after_settle (is_at_or_below q.owner was.zone) n v)) number ∙ is.cells q v);
-  upto = is.upto;
-  about = is.about;
-  settling = record {
-    older = omega (arith, number, settling.older);
-    within = omega (arith, fewer, settling.within, same_length old.entries new.entries names);
-    reached = subst (λ (z : Labels). AreReached z now.number now.left new) (sym zone) (subst (λ n. AreReached was.zone n now.left new) (sym number) (is.reached settling.reached));
-  };
-}
+  abbrev from_own : Question → ℕ → ℕ
+  from_own q v = after_settle (is_at_or_below q.owner own.zone) own.number v
 
-pub reached_all : {S : Type 0} (top : ℕ) (owners : IndexMap Labels OwnerCells S) (now : Option Settling) → IfSome now (λ own. own.left ≡ 0) → IfSome now (IsSettling top owners) → (q : Question) (v : ℕ) → cell_of owners q v ≡ settled_cell now owners q v
-reached_all top owners None none is q v = refl
-reached_all top owners (Some own) none is q v = sym (is.reached q v (omega (arith, none)))
+  first_cells : (q : Question) (v : ℕ) → cell_of new q (more q.owner (from_own q v)) ≡ cell_of old q (more q.owner (from_own q v))
+  first_cells q v =
+      let turned : more q.owner (from_own q v) ≡ from_own q (more q.owner v) = version_from later q.owner (is_at_or_below q.owner own.zone) own.number v in
+      ap (cell_of new q) turned ∙ (is.cells q (more q.owner v) ∙ sym (ap (cell_of old q) turned))
 
-pub moved_all : {S : Type 0} (top : ℕ) (was now : Option Settling) (old new : IndexMap Labels OwnerCells S) → IfSome now (λ own. own.left ≡ 0) → IsMoved unmoved top was now old new → IsMoved unmoved top was None old new
-moved_all top was now old new none is = record { cells = λ q v. reached_all top new now none is.settling q v ∙ is.cells q v; upto = is.upto; about = is.about; settling = tt }
+  first_others : AllByRecursion (IsSettling top new) later
+  first_others = all_each (IsSettling top old) (IsSettling top new) later is.others all.1
 
-pub within_names : {S : Type 0} (top : ℕ) (owners : IndexMap Labels OwnerCells S) (settling : Option Settling) → IfSome settling (IsSettling top owners) → IfSome settling (λ own. own.left ≤ length owners.entries)
-within_names top owners settling is = some_map (IsSettling top owners) (λ own. own.left ≤ length owners.entries) settling (λ own settles. settles.within) is
+  pub moved_first : IsMoved unmoved top (own ∷ later) (first_at left (own ∷ later)) old new
+  moved_first = split (left == 0) refl
+    where
+      split : (b : Bool) → (left == 0) ≡ b → IsMoved unmoved top (own ∷ later) (cond b later (with_left left own ∷ later)) old new
+      split true none = record {
+        cells = λ q v.
+            let turned : more q.owner (from_own q v) ≡ from_own q (more q.owner v) = version_from later q.owner (is_at_or_below q.owner own.zone) own.number v in
+            let nothing : left ≡ 0 = eqb-true left 0 none in
+            sym (is.reached all.0.reached q (more q.owner v) (omega (arith, nothing))) ∙ (is.cells q (more q.owner v) ∙ sym (ap (cell_of old q) turned));
+        upto = is.upto;
+        about = is.about;
+        settling = first_others;
+      }
+      split false some = record {
+        cells = first_cells;
+        upto = is.upto;
+        about = is.about;
+        settling = (record { older = all.0.older; reached = is.reached all.0.reached }, first_others);
+      }
 
-pub few_left : {S : Type 0} (owners : IndexMap Labels OwnerCells S) (settling : Option Settling) → IfSome settling (λ own. own.left ≤ length owners.entries) → names_left settling ≤ length owners.entries
-few_left owners None within = omega arith
-few_left owners (Some own) within = within
+pub moved_some : {S : Type 0} (top left : ℕ) (own : Settling) (was now : List Settling) (old new : IndexMap Labels OwnerCells S) → 0 < length was → own ≡ get_or was 0 own → now ≡ first_at left was → IsReaching own.zone own.number top own.left left old new
+    → AllByRecursion (IsSettling top old) was → IsMoved unmoved top was now old new
+moved_some top left own [] now old new some read at is all = absurd (omega (arith, some))
+moved_some top left own (x ∷ later) now old new some read at is all =
+    let first : own ≡ x = read in
+    subst (λ (l : List Settling). IsMoved unmoved top (x ∷ later) l old new) (sym at)
+    (moved_first top left x later old new (subst (λ (o : Settling). IsReaching o.zone o.number top o.left left old new) first is) all)
 
-pub none_left : (settling : Option Settling) → names_left settling ≡ 0 → IfSome settling (λ own. own.left ≡ 0)
-none_left None is = tt
-none_left (Some own) is = is
+-- ---- steps
+
+pub no_first : (left : ℕ) (settlings : List Settling) → length settlings ≡ 0 → settlings ≡ first_at left settlings
+no_first left [] none = refl
+no_first left (own ∷ later) none = absurd (omega (arith, none))
+
+pub first_gone : (left : ℕ) (settlings : List Settling) → 0 < length settlings → left ≡ 0 → remove settlings 0 ≡ first_at left settlings
+first_gone left [] some none = absurd (omega (arith, some))
+first_gone left (own ∷ later) some none =
+    let at : (left == 0) ≡ true = eq-eqb left 0 none in
+    sym (ap (λ b. cond b later (with_left left own ∷ later)) at)
+
+pub first_put : (left : ℕ) (settlings : List Settling) (own : Settling) → 0 < length settlings → own ≡ get_or settlings 0 own → 0 < left → set settlings 0 (with_left left own) ≡ first_at left settlings
+first_put left [] own some read off = absurd (omega (arith, some))
+first_put left (x ∷ later) own some read off =
+    let first : own ≡ x = read in
+    let away : (left == 0) ≡ false = grind (arith, nat_tests) in
+    ap (λ (o : Settling). with_left left o ∷ later) first
+    ∙ sym (ap (λ b. cond b later (with_left left x ∷ later)) away)
+
+pub first_length : (left : ℕ) (settlings now : List Settling) → now ≡ first_at left settlings → length now ≤ length settlings
+first_length left [] now at = omega (arith, ap length at)
+first_length left (own ∷ later) now at = omega (arith, ap length at, split (left == 0))
+  where
+    split : (b : Bool) → length (cond b later (with_left left own ∷ later)) ≤ suc (length later)
+    split true = omega arith
+    split false = omega arith
+
+pub stepped_none : (most : ℕ) (settlings : List Settling) → length settlings ≡ 0 → HaveStepped most settlings settlings
+stepped_none most [] none = (omega arith, omega arith)
+stepped_none most (own ∷ later) none = absurd (omega (arith, none))
+
+pub near_none : (ends : List ℕ) (n : ℕ) → EndNear ends ends n n
+near_none ends n t = (omega arith, omega arith)
+
+pub near_then : (first old new : List ℕ) (from before to : ℕ) → EndNear first old from before → EndNear old new before to → EndNear first new from to
+near_then first old new from before to is then t = (omega (arith, (is t).0, (then t).0), omega (arith, (is t).1, (then t).1))
+
+zero_steps : (most left was rest : ℕ) → left ≡ was - most → left ≡ 0 → (rest + min most (was + 1) ≤ (was + 1) + rest) × ((was + 1) + rest ≤ rest + most + 1)
+zero_steps most left was rest at none = (omega (arith, at, none), omega (arith, at, none))
+
+some_steps : (most left was rest : ℕ) → left ≡ was - most → 0 < left → (((left + 1) + rest) + min most (was + 1) ≤ (was + 1) + rest) × ((was + 1) + rest ≤ ((left + 1) + rest) + most + 1)
+some_steps most left was rest at some = (omega (arith, at, some), omega (arith, at, some))
+
+pub stepped_some : (most left : ℕ) (own : Settling) (was now : List Settling) → 0 < length was → own ≡ get_or was 0 own → now ≡ first_at left was → left ≡ own.left - most → HaveStepped most was now
+stepped_some most left own [] now some read at less = absurd (omega (arith, some))
+stepped_some most left own (x ∷ later) now some read at less = subst (λ (l : List Settling). HaveStepped most (x ∷ later) l) (sym at) (split (left == 0) refl)
+  where
+    less' : left ≡ x.left - most
+    less' = let first : own ≡ x = read in subst (λ (o : Settling). left ≡ o.left - most) first less
+
+    split : (b : Bool) → (left == 0) ≡ b → HaveStepped most (x ∷ later) (cond b later (with_left left x ∷ later))
+    split true none = zero_steps most left x.left (steps_left later) less' (eqb-true left 0 none)
+    split false off = some_steps most left x.left (steps_left later) less' (grind (arith, nat_tests))
+
+near_less : (old new from to rest more : ℕ) → (new + to ≤ old + from) × (old + to ≤ new + from) → rest + from ≤ more + to → (new + rest ≤ old + more) × (old + rest ≤ new + more)
+near_less old new from to rest more is less = (omega (arith, is.0, less), omega (arith, is.1, less))
+
+pub near_some : (left : ℕ) (own : Settling) (was now : List Settling) (old new : List ℕ) → 0 < length was → own ≡ get_or was 0 own → now ≡ first_at left was → EndNear old new own.left left → EndNear old new (steps_left was) (steps_left now)
+near_some left own [] now old new some read at near = absurd (omega (arith, some))
+near_some left own (x ∷ later) now old new some read at near = subst (λ (l : List Settling). EndNear old new (steps_left (x ∷ later)) (steps_left l)) (sym at) (split (left == 0))
+  where
+    near' : EndNear old new x.left left
+    near' = let first : own ≡ x = read in subst (λ (o : Settling). EndNear old new o.left left) first near
+
+    split : (b : Bool) → EndNear old new (steps_left (x ∷ later)) (steps_left (cond b later (with_left left x ∷ later)))
+    split true t = near_less (count_ended t old) (count_ended t new) x.left left (steps_left later) ((x.left + 1) + steps_left later) (near' t) (omega arith)
+    split false t = near_less (count_ended t old) (count_ended t new) x.left left ((left + 1) + steps_left later) ((x.left + 1) + steps_left later) (near' t) (omega arith)
+
+less_steps : (now most first was : ℕ) → 0 < most → 0 < first → now + min most first ≤ was → now < was
+less_steps now most first was few some is = omega (arith, few, some, is)
+
+pub fewer_steps : (most : ℕ) (was now : List Settling) → 0 < most → 0 < length was → HaveStepped most was now → steps_left now < steps_left was
+fewer_steps most [] now few some is = absurd (omega (arith, some))
+fewer_steps most (own ∷ later) now few some is = less_steps (steps_left now) most (own.left + 1) (steps_left (own ∷ later)) few (omega arith) is.0
 
 -- ---- another flush becomes permanent
-
-zone_settling : {S : Type 0} (top : ℕ) (zone : Labels) (number : ℕ) (owners : IndexMap Labels OwnerCells S) → number ≤ top → IsSettling top owners (record { zone = zone; number = number; left = length owners.entries })
-zone_settling top zone number owners older = record {
-  older = older;
-  within = omega arith;
-  reached = λ q v far.
-      let none : get name_eq owners q.owner ≡ None = absent owners.entries q.owner far in
-      ap (λ (o : Option OwnerCells). cell_by_owner o q.kind (after_settle (is_at_or_below q.owner zone) number v)) none ∙ sym (ap (λ (o : Option OwnerCells). cell_by_owner o q.kind v) none);
-}
-
-pub moved_zone : {S : Type 0} (top : ℕ) (zone : Labels) (number : ℕ) (was : Option Settling) (old new : IndexMap Labels OwnerCells S) → number ≤ top → IsMoved unmoved top was None old new
-    → IsMoved (λ q v. after_settle (is_at_or_below q.owner zone) number v) top was (Some (record { zone = zone; number = number; left = length new.entries })) old new
-moved_zone top zone number was old new older is = record {
-  cells = λ q v. is.cells q (after_settle (is_at_or_below q.owner zone) number v);
-  upto = is.upto;
-  about = is.about;
-  settling = zone_settling top zone number new older;
-}
 
 either_true : (a b : Bool) → (a || b) ≡ true → (a ≡ true) ⊎ (b ≡ true)
 either_true true b is = inl refl
@@ -209,10 +385,9 @@ below_below (label ∷ labels) zone other is below = elim (either_true (name_eq 
 ]
 
 -- a flush that covers all that an older one covers leaves nothing of it to be seen
-outdone : (was : Option Settling) (zone : Labels) (number : ℕ) → is_outdone was zone number ≡ true → (name : Labels) (v : ℕ)
-    → after_settle (is_at_or_below name zone) number v ≡ settled_version was name (after_settle (is_at_or_below name zone) number v)
-outdone None zone number is name v = absurd (false≢true is)
-outdone (Some own) zone number is name v = split (is_at_or_below name own.zone) refl
+outdone : (own : Settling) (zone : Labels) (number : ℕ) → is_outdone zone number own ≡ true → (name : Labels) (v : ℕ)
+    → after_settle (is_at_or_below name own.zone) own.number (after_settle (is_at_or_below name zone) number v) ≡ after_settle (is_at_or_below name zone) number v
+outdone own zone number is name v = split (is_at_or_below name own.zone) refl
   where
     parts : (nat_le own.number number ≡ true) × (is_at_or_below own.zone zone ≡ true)
     parts = and_parts _ _ is
@@ -220,87 +395,91 @@ outdone (Some own) zone number is name v = split (is_at_or_below name own.zone) 
     newer : own.number ≤ number
     newer = let low = parts.0 in grind (arith, nat_tests, low)
 
-    split : (b : Bool) → is_at_or_below name own.zone ≡ b → after_settle (is_at_or_below name zone) number v ≡ after_settle b own.number (after_settle (is_at_or_below name zone) number v)
-    split true here = ap (λ b. after_settle b number v) covered ∙ (max_over own.number number v newer ∙ sym (ap (λ b. max own.number (after_settle b number v)) covered))
+    split : (b : Bool) → is_at_or_below name own.zone ≡ b → after_settle b own.number (after_settle (is_at_or_below name zone) number v) ≡ after_settle (is_at_or_below name zone) number v
+    split true here = ap (λ b. max own.number (after_settle b number v)) covered ∙ (max_over own.number number v newer ∙ sym (ap (λ b. after_settle b number v) covered))
       where
         covered : is_at_or_below name zone ≡ true
         covered = below_below name own.zone zone here parts.1
 
-        max_over : (m n v : ℕ) → m ≤ n → max n v ≡ max m (max n v)
+        max_over : (m n v : ℕ) → m ≤ n → max m (max n v) ≡ max n v
         max_over m n v le = omega (arith, le)
     split false off = refl
 
-pub moved_over : {S : Type 0} (top : ℕ) (zone : Labels) (number : ℕ) (was : Option Settling) (owners : IndexMap Labels OwnerCells S) → number ≤ top → AreUpTo top owners → is_outdone was zone number ≡ true
-    → IsMoved (λ q v. after_settle (is_at_or_below q.owner zone) number v) top was (Some (record { zone = zone; number = number; left = length owners.entries })) owners owners
-moved_over top zone number was owners older upto is = record {
-  cells = λ q v. ap (cell_of owners q) (outdone was zone number is q.owner v);
+-- nor do those that go
+all_outdone : (settlings : List Settling) (zone : Labels) (number : ℕ) (name : Labels) (v : ℕ)
+    → settled_version (without_outdone zone number settlings) name (after_settle (is_at_or_below name zone) number v) ≡ settled_version settlings name (after_settle (is_at_or_below name zone) number v)
+all_outdone [] zone number name v = refl
+all_outdone (own ∷ later) zone number name v = split (not (is_outdone zone number own)) refl (all_outdone later zone number name)
+  where
+    split : (b : Bool) → not (is_outdone zone number own) ≡ b
+        → ((w : ℕ) → settled_version (without_outdone zone number later) name (after_settle (is_at_or_below name zone) number w) ≡ settled_version later name (after_settle (is_at_or_below name zone) number w))
+        → settled_version (cond b (own ∷ without_outdone zone number later) (without_outdone zone number later)) name (after_settle (is_at_or_below name zone) number v)
+        ≡ settled_version later name (after_settle (is_at_or_below name own.zone) own.number (after_settle (is_at_or_below name zone) number v))
+    split true stays rest =
+        let turned : after_settle (is_at_or_below name own.zone) own.number (after_settle (is_at_or_below name zone) number v) ≡ after_settle (is_at_or_below name zone) number (after_settle (is_at_or_below name own.zone) own.number v) =
+        either_first (is_at_or_below name own.zone) (is_at_or_below name zone) own.number number v in
+        ap (settled_version (without_outdone zone number later) name) turned
+        ∙ (rest (after_settle (is_at_or_below name own.zone) own.number v) ∙ sym (ap (settled_version later name) turned))
+    split false goes rest = rest v ∙ sym (ap (settled_version later name) (outdone own zone number (turned_not (is_outdone zone number own) goes) name v))
+
+pub moved_zone : {S : Type 0} (top : ℕ) (zone : Labels) (number left : ℕ) (was now : List Settling) (owners : IndexMap Labels OwnerCells S) → number ≤ top → AreUpTo top owners → AllByRecursion (IsSettling top owners) was → left ≡ length owners.entries
+    → now ≡ without_outdone zone number was ++ record { zone = zone; number = number; left = left } ∷ [] → IsMoved (λ q v. after_settle (is_at_or_below q.owner zone) number v) top was now owners owners
+moved_zone top zone number left was now owners older upto all size at = subst (λ (l : List Settling). IsMoved (λ q v. after_settle (is_at_or_below q.owner zone) number v) top was l owners owners) (sym at) (record {
+  cells = λ q v. ap (cell_of owners q) (
+      fold-append (later_settled q.owner) v (without_outdone zone number was) (own ∷ [])
+      ∙ (sym (version_from (without_outdone zone number was) q.owner (is_at_or_below q.owner zone) number v) ∙ all_outdone was zone number q.owner v));
   upto = upto;
-  about = λ was. was;
-  settling = zone_settling top zone number owners older;
-}
-
-module _ {S : Type 0} (covered : Question → Bool) (number top : ℕ) (old new : IndexMap Labels OwnerCells S) (names : keys_of new.entries ≡ keys_of old.entries)
-    (cells : (q : Question) (v : ℕ) → cell_of new q v ≡ cell_of old q (after_settle (covered q) number v)) where
-  moved_cells : (was : Option Settling) (q : Question) (v : ℕ) → settled_cell was new q v ≡ settled_cell was old q (after_settle (covered q) number v)
-  moved_cells None q v = cells q v
-  moved_cells (Some own) q v = cells q (after_settle (is_at_or_below q.owner own.zone) own.number v) ∙ ap (cell_of old q) (either_first (covered q) (is_at_or_below q.owner own.zone) number own.number v)
-
-  moved_settling : (was : Option Settling) → IfSome was (IsSettling top old) → IfSome was (IsSettling top new)
-  moved_settling None is = tt
-  moved_settling (Some own) is = record {
-    older = is.older;
-    within = omega (arith, is.within, same_length old.entries new.entries names);
-    reached = λ q v far. moved_cells (Some own) q v ∙ (is.reached q (after_settle (covered q) number v) (subst (λ n. own.left ≤ n) (same_place old.entries new.entries q.owner names) far) ∙ sym (cells q v));
-  }
-
-  pub moved_name : (was : Option Settling) → AreUpTo top new → IfSome was (IsSettling top old) → IsMoved (λ q v. after_settle (covered q) number v) top was was old new
-  moved_name was upto is = record { cells = moved_cells was; upto = upto; about = about_moved old new (λ q v. after_settle (covered q) number v) cells; settling = moved_settling was is }
-
-pub moved_like : {S : Type 0} (moved other : Question → ℕ → ℕ) (top : ℕ) (was now : Option Settling) (old new : IndexMap Labels OwnerCells S) → ((q : Question) (v : ℕ) → moved q v ≡ other q v) → IsMoved moved top was now old new → IsMoved other top was now old new
-moved_like moved other top was now old new same is = record { cells = λ q v. is.cells q v ∙ ap (settled_cell was old q) (same q v); upto = is.upto; about = is.about; settling = is.settling }
+  about = λ is. is;
+  settling = all_push (IsSettling top owners) (without_outdone zone number was) own (all_kept (IsSettling top owners) (λ x. not (is_outdone zone number x)) was all)
+      (record { older = older; reached = past_reached zone number left owners (omega (arith, size)) });
+})
+  where
+    own : Settling
+    own = record { zone = zone; number = number; left = left }
 
 -- ---- cells that stay, and an admission
 
-module _ {S : Type 0} (top : ℕ) (old new : IndexMap Labels OwnerCells S) (name : Labels) (names : (keys_of new.entries ≡ keys_of old.entries) ⊎ (keys_of new.entries ≡ keys_of old.entries ++ name ∷ []))
-    (size : length old.entries ≤ length new.entries) where
-  pub kept_settling : AreSameCells old new → (settling : Option Settling) → IfSome settling (IsSettling top old) → IfSome settling (IsSettling top new)
-  kept_settling same None is = tt
-  kept_settling same (Some own) is = record {
+module _ {S : Type 0} (top : ℕ) (old new : IndexMap Labels OwnerCells S) (name : Labels) (names : (keys_of new.entries ≡ keys_of old.entries) ⊎ (keys_of new.entries ≡ keys_of old.entries ++ name ∷ [])) where
+  -- a name that was reached was so before
+  was_reached : (own : Settling) → AreReached own.zone own.number own.left old → (q : Question) (v : ℕ) → own.left ≤ name_place q.owner new.entries → cell_of old q (after_settle (is_at_or_below q.owner own.zone) own.number v) ≡ cell_of old q v
+  was_reached own is q v far = reached_low own.zone own.number own.left old is q v
+      (place_before old.entries new.entries name q.owner (min own.left (length old.entries)) names (omega arith) (omega (arith, far)))
+
+  kept_own : AreSameCells old new → (own : Settling) → IsSettling top old own → IsSettling top new own
+  kept_own same own is = record {
     older = is.older;
-    within = omega (arith, is.within, size);
-    reached = λ q v far.
-        same q (after_settle (is_at_or_below q.owner own.zone) own.number v)
-        ∙ (is.reached q v (place_before old.entries new.entries name q.owner own.left names is.within far) ∙ sym (same q v));
+    reached = λ q v far. same q (after_settle (is_at_or_below q.owner own.zone) own.number v) ∙ (was_reached own is.reached q v far ∙ sym (same q v));
   }
 
-  pub admitted_settling : (find : Find) (moment : ℕ) → ((q : Question) (v : ℕ) → v ≤ top → cell_of new q v ≡ after_touch (touches find q) (cell_of old q v) (admission_of find find moment)) → (settling : Option Settling)
-      → IfSome settling (IsSettling top old) → IfSome settling (IsSettling top new)
-  admitted_settling find moment cells None is = tt
-  admitted_settling find moment cells (Some own) is = record { older = is.older; within = omega (arith, is.within, size); reached = λ q v far. at q v far (low_or v) }
-    where
-      low_or : (v : ℕ) → (v ≤ top) ⊎ (top < v)
-      low_or v = grind arith
+  pub kept_settling : AreSameCells old new → (settlings : List Settling) → AllByRecursion (IsSettling top old) settlings → AllByRecursion (IsSettling top new) settlings
+  kept_settling same settlings all = all_each (IsSettling top old) (IsSettling top new) settlings (kept_own same) all
 
-      at : (q : Question) (v : ℕ) → own.left ≤ name_place q.owner new.entries → (v ≤ top) ⊎ (top < v) → cell_of new q (after_settle (is_at_or_below q.owner own.zone) own.number v) ≡ cell_of new q v
-      at q v far (inl low) =
-          cells q (after_settle (is_at_or_below q.owner own.zone) own.number v) (after_low (is_at_or_below q.owner own.zone) own.number v top is.older low)
-          ∙ (ap (λ (h : Option (Admitted Find)). after_touch (touches find q) h (admission_of find find moment)) (is.reached q v (place_before old.entries new.entries name q.owner own.left names is.within far))
-          ∙ sym (cells q v low))
-      at q v far (inr late) = ap (cell_of new q) (after_late (is_at_or_below q.owner own.zone) own.number v (omega (arith, is.older, late)))
+  module _ (find : Find) (moment : ℕ) (cells : (q : Question) (v : ℕ) → v ≤ top → cell_of new q v ≡ after_touch (touches find q) (cell_of old q v) (admission_of find find moment)) where
+    low_or_past : (v : ℕ) → (v ≤ top) ⊎ (top < v)
+    low_or_past v = grind arith
+
+    admitted_own : (own : Settling) → IsSettling top old own → IsSettling top new own
+    admitted_own own is = record { older = is.older; reached = λ q v far. at q v far (low_or_past v) }
+      where
+        at : (q : Question) (v : ℕ) → own.left ≤ name_place q.owner new.entries → (v ≤ top) ⊎ (top < v) → cell_of new q (after_settle (is_at_or_below q.owner own.zone) own.number v) ≡ cell_of new q v
+        at q v far (inl low) =
+            cells q (after_settle (is_at_or_below q.owner own.zone) own.number v) (after_low (is_at_or_below q.owner own.zone) own.number v top is.older low)
+            ∙ (ap (λ (h : Option (Admitted Find)). after_touch (touches find q) h (admission_of find find moment)) (was_reached own is.reached q v far)
+            ∙ sym (cells q v low))
+        at q v far (inr late) = ap (cell_of new q) (after_late (is_at_or_below q.owner own.zone) own.number v (omega (arith, is.older, late)))
+
+    pub admitted_settling : (settlings : List Settling) → AllByRecursion (IsSettling top old) settlings → AllByRecursion (IsSettling top new) settlings
+    admitted_settling settlings all = all_each (IsSettling top old) (IsSettling top new) settlings admitted_own all
 
 pub held_settling : {S : Type 0} {T E : Type 0} (old new : IndexMap Labels OwnerCells S) (find : Find) (moment top was stored : ℕ) (result : Result T E)
     → OnOk result ((q : Question) (v : ℕ) → v ≤ top → cell_of new q v ≡ after_touch (touches find q) (cell_of old q v) (admission_of find find moment))
-    → OnErr result (AreSameCells old new × (stored ≡ was) × KeepPairs old new) → (keys_of new.entries ≡ keys_of old.entries) ⊎ (keys_of new.entries ≡ keys_of old.entries ++ find.owner ∷ []) → length old.entries ≤ length new.entries
-    → (settling : Option Settling) → IfSome settling (IsSettling top old) → IfSome settling (IsSettling top new)
-held_settling old new find moment top was stored (Ok done) cells same names size settling is = admitted_settling top old new find.owner names size find moment cells settling is
-held_settling old new find moment top was stored (Err fault) cells same names size settling is = kept_settling top old new find.owner names size same.0 settling is
+    → OnErr result (AreSameCells old new × (stored ≡ was) × KeepPairs old new) → (keys_of new.entries ≡ keys_of old.entries) ⊎ (keys_of new.entries ≡ keys_of old.entries ++ find.owner ∷ [])
+    → (settlings : List Settling) → AllByRecursion (IsSettling top old) settlings → AllByRecursion (IsSettling top new) settlings
+held_settling old new find moment top was stored (Ok done) cells same names settlings all = admitted_settling top old new find.owner names find moment cells settlings all
+held_settling old new find moment top was stored (Err fault) cells same names settlings all = kept_settling top old new find.owner names same.0 settlings all
 
-pub newer_settling : {S : Type 0} (top more : ℕ) (owners : IndexMap Labels OwnerCells S) → top ≤ more → (settling : Option Settling) → IfSome settling (IsSettling top owners) → IfSome settling (IsSettling more owners)
-newer_settling top more owners le settling is = some_map (IsSettling top owners) (IsSettling more owners) settling (λ own was. record { older = omega (arith, le, was.older); within = was.within; reached = was.reached }) is
-
-pub size_more : (olds news : List (Labels × OwnerCells)) (name : Labels) → (length news ≡ length olds) ⊎ ((name_place name olds ≡ length olds) × (length news ≡ length olds + 1)) → length olds ≤ length news
-size_more olds news name (inl same) = omega (arith, same)
-size_more olds news name (inr more) = omega (arith, more.1)
+pub newer_settling : {S : Type 0} (top more : ℕ) (owners : IndexMap Labels OwnerCells S) → top ≤ more → (settlings : List Settling) → AllByRecursion (IsSettling top owners) settlings → AllByRecursion (IsSettling more owners) settlings
+newer_settling top more owners le settlings all = all_each (IsSettling top owners) (IsSettling more owners) settlings (λ own was. record { older = omega (arith, le, was.older); reached = was.reached }) all
 
 -- ---- a name has gone
 
@@ -394,35 +573,23 @@ gone_place owner name apart (e ∷ entries) left within far = split (nat_lt plac
         swapped_place owner name apart (e ∷ entries) left within e place few (there (name_eq owner) (e ∷ entries) few) far
     split false high far = omega (arith, far, within)
 
-pub forgot_settling : {S : Type 0} (top : ℕ) (old new : IndexMap Labels OwnerCells S) (owner : Labels) → ((q : Question) (v : ℕ) → cell_of new q v ≡ cond (name_eq owner q.owner) None (cell_of old q v))
-    → new.entries ≡ swap_remove_entry (name_eq owner) old.entries → (was now : Option Settling) → now ≡ fitted_place (length new.entries) was → IfSome was (IsSettling top old) → IfSome now (IsSettling top new)
-forgot_settling top old new owner cells put was now fits is = subst (λ (s : Option Settling). IfSome s (IsSettling top new)) (sym fits) (fitted was is)
-  where
-    reached : (own : Settling) → IsSettling top old own → AreReached own.zone own.number (min own.left (length new.entries)) new
-    reached own is q v far = split (name_eq owner q.owner) refl
-      where
-        split : (b : Bool) → name_eq owner q.owner ≡ b → cell_of new q (after_settle (is_at_or_below q.owner own.zone) own.number v) ≡ cell_of new q v
-        split true same =
-            cells q (after_settle (is_at_or_below q.owner own.zone) own.number v)
-            ∙ (ap (λ b. cond b None (cell_of old q (after_settle (is_at_or_below q.owner own.zone) own.number v))) same
-            ∙ sym (cells q v ∙ ap (λ b. cond b None (cell_of old q v)) same))
-        split false apart =
-            let far' : own.left ≤ name_place q.owner old.entries =
-            gone_place owner q.owner apart old.entries own.left is.within (subst (λ (l : List (Labels × OwnerCells)). min own.left (length l) ≤ name_place q.owner l) put far) in
-            cells q (after_settle (is_at_or_below q.owner own.zone) own.number v)
-            ∙ (ap (λ b. cond b None (cell_of old q (after_settle (is_at_or_below q.owner own.zone) own.number v))) apart
-            ∙ (is.reached q v far'
-            ∙ sym (cells q v ∙ ap (λ b. cond b None (cell_of old q v)) apart)))
+module _ {S : Type 0} (top : ℕ) (old new : IndexMap Labels OwnerCells S) (owner : Labels) (cells : (q : Question) (v : ℕ) → cell_of new q v ≡ cond (name_eq owner q.owner) None (cell_of old q v)) where
+  forgot_own : new.entries ≡ swap_remove_entry (name_eq owner) old.entries → (own : Settling) → IsSettling top old own → IsSettling top new own
+  forgot_own put own is = record { older = is.older; reached = λ q v far. split q v far (name_eq owner q.owner) refl }
+    where
+      split : (q : Question) (v : ℕ) → own.left ≤ name_place q.owner new.entries → (b : Bool) → name_eq owner q.owner ≡ b → cell_of new q (after_settle (is_at_or_below q.owner own.zone) own.number v) ≡ cell_of new q v
+      split q v far true same =
+          cells q (after_settle (is_at_or_below q.owner own.zone) own.number v)
+          ∙ (ap (λ b. cond b None (cell_of old q (after_settle (is_at_or_below q.owner own.zone) own.number v))) same
+          ∙ sym (cells q v ∙ ap (λ b. cond b None (cell_of old q v)) same))
+      split q v far false apart =
+          let gone : min (min own.left (length old.entries)) (length (swap_remove_entry (name_eq owner) old.entries)) ≤ name_place q.owner (swap_remove_entry (name_eq owner) old.entries) =
+          subst (λ (l : List (Labels × OwnerCells)). min (min own.left (length old.entries)) (length l) ≤ name_place q.owner l) put (omega (arith, far)) in
+          let far' : min own.left (length old.entries) ≤ name_place q.owner old.entries = gone_place owner q.owner apart old.entries (min own.left (length old.entries)) (omega arith) gone in
+          cells q (after_settle (is_at_or_below q.owner own.zone) own.number v)
+          ∙ (ap (λ b. cond b None (cell_of old q (after_settle (is_at_or_below q.owner own.zone) own.number v))) apart
+          ∙ (reached_low own.zone own.number own.left old is.reached q v far'
+          ∙ sym (cells q v ∙ ap (λ b. cond b None (cell_of old q v)) apart)))
 
-    fitted : (was : Option Settling) → IfSome was (IsSettling top old) → IfSome (fitted_place (length new.entries) was) (IsSettling top new)
-    fitted None is = tt
-    fitted (Some own) is = record { older = is.older; within = omega arith; reached = reached own is }
-
-pub forgot_face : {S : Type 0} (old new : IndexMap Labels OwnerCells S) (owner : Labels) (names : ℕ) → ((q : Question) (v : ℕ) → cell_of new q v ≡ cond (name_eq owner q.owner) None (cell_of old q v))
-    → (was now : Option Settling) → now ≡ fitted_place names was → (q : Question) (v : ℕ) → settled_cell now new q v ≡ cond (name_eq owner q.owner) None (settled_cell was old q v)
-forgot_face old new owner names cells was now fits q v =
-    ap (λ (s : Option Settling). settled_cell s new q v) fits ∙ (ap (cell_of new q) (same was) ∙ cells q (settled_version was q.owner v))
-  where
-    same : (s : Option Settling) → settled_version (fitted_place names s) q.owner v ≡ settled_version s q.owner v
-    same None = refl
-    same (Some own) = refl
+  pub forgot_settling : new.entries ≡ swap_remove_entry (name_eq owner) old.entries → (settlings : List Settling) → AllByRecursion (IsSettling top old) settlings → AllByRecursion (IsSettling top new) settlings
+  forgot_settling put settlings all = all_each (IsSettling top old) (IsSettling top new) settlings (forgot_own put) all

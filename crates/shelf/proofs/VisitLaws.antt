@@ -1,6 +1,6 @@
 -- The sweep of one name after the other.
-use Rattle.std.proofs.Common.{◌≡◌, ℕ, zero, suc, ◌+◌, ◌-◌, ◌*◌, ◌<◌, ◌≤◌, max, min, Bool, true, false, cond, Option, Some, None, List, [], ◌∷◌, length, get_or, refl, sym, ap, ◌∙◌, subst, arith, ◌⊎◌, inl, inr}
-use Rattle.std.specs.Prelude.{is_some, nat_lt, replicate, IfNone, IfSome, slice_get, swap_remove}
+use Rattle.std.proofs.Common.{◌≡◌, ℕ, zero, suc, ◌+◌, ◌-◌, ◌<◌, ◌≤◌, max, min, Bool, true, false, cond, Option, Some, None, List, [], ◌∷◌, length, get_or, refl, sym, ap, ◌∙◌, subst, arith, ◌⊎◌, inl, inr}
+use Rattle.std.specs.Prelude.{is_some, replicate, IfNone, IfSome, slice_get, swap_remove}
 use Rattle.std.specs.Map.{keys_of, lookup}
 use Rattle.std.proofs.Math.ListN.{set}
 use Rattle.std.proofs.Math.Nat.{min-eq_left}
@@ -27,8 +27,8 @@ use Rattle.shelf.specs.declared.shelf.KeptFlush.{KeptFlush}
 use Rattle.shelf.specs.Clean.{evens, AreBy, AreEnds, AreKeyed, IsAlive, IsClean, IsEnd}
 use Rattle.shelf.specs.declared.ends.Ends.{Ends}
 use Rattle.shelf.specs.declared.settling.Settling.{Settling}
-use Rattle.shelf.specs.Settling.{names_left}
-use Rattle.shelf.specs.Sweep.{asked_at, count_ended, one_ended, unswept, AreAlive, AreLessened, IsDue, IsLessened, IsNext, IsSwept, IsSweptAt, IsUnderway}
+use Rattle.shelf.specs.Settling.{reached_at_once, steps_left, HaveStepped}
+use Rattle.shelf.specs.Sweep.{asked_at, count_ended, one_ended, turn_at_most, unswept, AreAlive, AreLessened, EndNear, IsDue, IsLessened, IsNext, IsSwept, IsSweptAt, IsUnderway}
 use Rattle.shelf.specs.First.{life_at}
 use Rattle.shelf.specs.Lasts.{AreLow, AreWinners}
 use Rattle.shelf.specs.declared.lasts.Lasts.{Lasts}
@@ -171,7 +171,7 @@ module _ {S : Type 0} (kept : List KeptFlush) (t place end : ℕ) (mixed : Bool)
   -- the name stays
   pub on_kept : after.moments ≡ set ends.moments place end → evens after ≡ set (evens ends) place (cond mixed 0 end) → length after.mixed.items ≡ length after.moments → after.lasts ≡ ends.lasts
       → new.entries ≡ middle.entries → IfSome (slice_get middle.entries place) (λ e. 1 ≤ count_of e.1)
-      → (lasts : Lasts) (last : ℕ) → last ≡ min (life_at None kept new.entries place) latest → lasts.ends.items ≡ set after.lasts.ends.items place last → (AreWinners new.entries after.lasts → AreWinners new.entries lasts)
+      → (lasts : Lasts) (last : ℕ) → last ≡ min (life_at [] kept new.entries place) latest → lasts.ends.items ≡ set after.lasts.ends.items place last → (AreWinners new.entries after.lasts → AreWinners new.entries lasts)
       → (asked most : ℕ) (first : IndexMap Labels OwnerCells S) → asked ≤ t → asked < latest → IsUnderway kept t asked first most old ends was → IsUnderway kept t asked first most new (noting lasts) stored
   on_kept moments unmixed flags same entries some lasts last noted seconds tree asked most first before small is = record {
     less = less_more kept t first old new is.less less;
@@ -200,8 +200,8 @@ module _ {S : Type 0} (kept : List KeptFlush) (t place end : ℕ) (mixed : Bool)
       put : lasts.ends.items ≡ set ends.lasts.ends.items place last
       put = seconds ∙ ap (λ (x : Lasts). set x.ends.items place last) same
 
-      at : last ≡ min (life_at None kept middle.entries place) latest
-      at = noted ∙ ap (λ (l : List (Labels × OwnerCells)). min (life_at None kept l place) latest) entries
+      at : last ≡ min (life_at [] kept middle.entries place) latest
+      at = noted ∙ ap (λ (l : List (Labels × OwnerCells)). min (life_at [] kept l place) latest) entries
 
       both : IfSome (slice_get middle.entries place) (λ e. IsEnd kept e end × IsClean kept t e.0 e.1 × ((s : ℕ) → s ≤ t → s < latest → s < end))
       both = both_some kept t (slice_get middle.entries place) end swept.next some
@@ -247,11 +247,11 @@ ended_one asked x low = grind (arith, nat_tests)
 ended_none : (asked x : ℕ) → asked < x → one_ended asked x ≡ 0
 ended_none asked x late = grind (arith, nat_tests)
 
-pub ended_set : (asked : ℕ) (ends : List ℕ) (place end : ℕ) → place < length ends → get_or ends place 0 ≤ asked → asked < end → count_ended asked (set ends place end) < count_ended asked ends
+pub ended_set : (asked : ℕ) (ends : List ℕ) (place end : ℕ) → place < length ends → get_or ends place 0 ≤ asked → asked < end → count_ended asked (set ends place end) + 1 ≡ count_ended asked ends
 ended_set asked ends place end low is late =
     omega (arith, sum_by-set (one_ended asked) ends place end 0 low, ended_one asked (get_or ends place 0) is, ended_none asked end late)
 
-pub ended_gone : (asked : ℕ) (ends : List ℕ) (place : ℕ) → place < length ends → get_or ends place 0 ≤ asked → count_ended asked (swap_remove ends place 0) < count_ended asked ends
+pub ended_gone : (asked : ℕ) (ends : List ℕ) (place : ℕ) → place < length ends → get_or ends place 0 ≤ asked → count_ended asked (swap_remove ends place 0) + 1 ≡ count_ended asked ends
 ended_gone asked ends place low is = omega (arith, sum_by-swap_remove (one_ended asked) ends place 0 low, ended_one asked (get_or ends place 0) is)
 
 -- one name more may have ended
@@ -260,6 +260,10 @@ ended_most asked x = grind (arith, nat_tests)
 
 pub ended_more : (asked : ℕ) (ends : List ℕ) (place end : ℕ) → place < length ends → count_ended asked (set ends place end) ≤ count_ended asked ends + 1
 ended_more asked ends place end low = omega (arith, sum_by-set (one_ended asked) ends place end 0 low, ended_most asked end)
+
+-- and one fewer
+pub ended_fewer : (asked : ℕ) (ends : List ℕ) (place end : ℕ) → place < length ends → count_ended asked ends ≤ count_ended asked (set ends place end) + 1
+ended_fewer asked ends place end low = omega (arith, sum_by-set (one_ended asked) ends place end 0 low, ended_most asked (get_or ends place 0))
 
 -- no name has ended
 pub ended_zero : (asked : ℕ) (ends : List ℕ) → ((i : ℕ) → i < length ends → asked < get_or ends i 0) → count_ended asked ends ≡ 0
@@ -275,28 +279,32 @@ asked_small t small = min-eq_left (omega (arith, small))
 pub asked_latest : (t : ℕ) → t ≡ latest → asked_at t ≡ t - 1
 asked_latest t is = subst (λ n. asked_at n ≡ n - 1) (sym is) refl
 
--- the flush has names to reach
-pub some_left : (n : ℕ) (b : Bool) → b ≡ nat_lt 0 n → b ≡ true → 0 < n
-some_left n b is so = grind (arith, nat_tests)
+-- what a turn leaves: a flush has reached some names more
+pub turn_reached : (t : ℕ) (old new : List ℕ) (was now : List Settling) → steps_left now < steps_left was → EndNear old new (steps_left was) (steps_left now) → unswept new now t < unswept old was t
+turn_reached t old new was now fewer ended = omega (arith, fewer, (ended (asked_at t)).0)
 
--- what a turn leaves: the flush has reached some names more
-pub turn_reached : (t : ℕ) (old new : List ℕ) (was now : Option Settling) → names_left now < names_left was → ((s : ℕ) → count_ended s new + names_left now ≤ count_ended s old + names_left was)
-    → unswept new now t < unswept old was t
-turn_reached t old new was now fewer ended = omega (arith, fewer, ended (asked_at t))
+-- no more than so many
+pub reached_short : (t : ℕ) (old new : List ℕ) (was now : List Settling) → HaveStepped reached_at_once was now → EndNear old new (steps_left was) (steps_left now) → unswept old was t ≤ unswept new now t + turn_at_most
+reached_short t old new was now stepped ended = omega (arith, stepped.1, (ended (asked_at t)).1)
 
 -- some names were visited
-pub turn_more : (t : ℕ) (old middle new : List ℕ) (was now : Option Settling) → t < latest → now ≡ None → count_ended t middle ≤ count_ended t old + names_left was → count_ended t new < count_ended t middle
-    → unswept new now t < unswept old was t
-turn_more t old middle new was now small none reached fewer =
+pub turn_more : (t : ℕ) (old new : List ℕ) (settlings : List Settling) → t < latest → count_ended t new < count_ended t old → unswept new settlings t < unswept old settlings t
+turn_more t old new settlings small fewer =
     let asked = asked_small t small in
-    omega (arith, ap names_left none, reached, fewer, ap (λ n. count_ended n old) asked, ap (λ n. count_ended n new) asked)
+    omega (arith, fewer, ap (λ n. count_ended n old) asked, ap (λ n. count_ended n new) asked)
+
+-- no more than so many were
+pub turn_short : (t : ℕ) (old new : List ℕ) (settlings : List Settling) → t < latest → count_ended t old ≤ count_ended t new + reached_at_once → unswept old settlings t ≤ unswept new settlings t + turn_at_most
+turn_short t old new settlings small short =
+    let asked = asked_small t small in
+    omega (arith, short, ap (λ n. count_ended n old) asked, ap (λ n. count_ended n new) asked)
 
 -- none is left
-pub turn_none : (t : ℕ) (new : List ℕ) (now : Option Settling) → now ≡ None → count_ended (asked_at t) new ≡ 0 → unswept new now t ≡ 0
-turn_none t new now none ended = omega (arith, ap names_left none, ended)
+pub turn_none : (t : ℕ) (new : List ℕ) (settlings : List Settling) → settlings ≡ [] → count_ended (asked_at t) new ≡ 0 → unswept new settlings t ≡ 0
+turn_none t new settlings none ended = omega (arith, ap steps_left none, ended)
 
-pub turn_small : (t : ℕ) (new : List ℕ) (now : Option Settling) → t < latest → now ≡ None → count_ended t new ≡ 0 → unswept new now t ≡ 0
-turn_small t new now small none ended = turn_none t new now none (ap (λ n. count_ended n new) (asked_small t small) ∙ ended)
+pub turn_small : (t : ℕ) (new : List ℕ) (settlings : List Settling) → t < latest → settlings ≡ [] → count_ended t new ≡ 0 → unswept new settlings t ≡ 0
+turn_small t new settlings small none ended = turn_none t new settlings none (ap (λ n. count_ended n new) (asked_small t small) ∙ ended)
 
 pub later_of : (kept : List KeptFlush) (t place end asked : ℕ) (entries : List (Labels × OwnerCells)) → place < length entries → IfSome (slice_get entries place) (λ e. IsNext kept t e end) → IfSome (slice_get entries place) (λ e. 1 ≤ count_of e.1)
     → asked ≤ t → asked < latest → asked < end

@@ -30,8 +30,8 @@ AreApart same [] = Unit {0}
 AreApart same (x ∷ xs) = AreApartFrom same x xs
 
 -- the cells of some versions of a question, whether or not the permanent flush has reached the name
-abbrev pub cells_in : {S : Type 0} → Option Settling → IndexMap Labels OwnerCells S → Question → List ℕ → List (Option (Admitted Find))
-cells_in settling owners question versions = map (settled_cell settling owners question) versions
+abbrev pub cells_in : {S : Type 0} → List Settling → IndexMap Labels OwnerCells S → Question → List ℕ → List (Option (Admitted Find))
+cells_in settlings owners question versions = map (settled_cell settlings owners question) versions
 
 -- whether a place of a question counts: that of its type, or of the whole name
 abbrev pub has_question : {S : Type 0} → IndexMap Labels OwnerCells S → Question → Bool
@@ -40,5 +40,5 @@ has_question owners question = has_pair owners (question.owner, One question.kin
 -- the kept cells of a question: that of version 0, and of the versions of the kept flushes that cover it, in order, each that differs from the one before it
 abbrev pub kept_cells : Shelf → Question → List (Option (Admitted Find))
 kept_cells shelf question =
-    let first : Option (Admitted Find) = settled_cell shelf.settling shelf.owners question 0 in
-    if has_question shelf.owners question then first ∷ changes same_cell first (cells_in shelf.settling shelf.owners question (numbers_of shelf.kept.items question)) else []
+    let first : Option (Admitted Find) = settled_cell shelf.settlings.items shelf.owners question 0 in
+    if has_question shelf.owners question then first ∷ changes same_cell first (cells_in shelf.settlings.items shelf.owners question (numbers_of shelf.kept.items question)) else []

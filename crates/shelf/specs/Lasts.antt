@@ -1,5 +1,5 @@
 -- The places of the index by the seconds in which the last finds of their names end, and the tree that finds the first.
-use Rattle.std.specs.Prelude.{◌≡◌, ◌⊎◌, ◌<◌, ◌≤◌, ◌+◌, ◌*◌, ℕ, List, Option, None, length, slice_index_or, vec_capacity}
+use Rattle.std.specs.Prelude.{◌≡◌, ◌⊎◌, ◌<◌, ◌≤◌, ◌+◌, ◌*◌, [], ℕ, List, length, slice_index_or, vec_capacity}
 use Rattle.dns_name.specs.Labels.{Labels}
 use Rattle.cell_store.specs.declared.owner.OwnerCells.{OwnerCells}
 use Rattle.winner_tree.specs.Tree.{moment_at, IsBelow}
@@ -120,14 +120,14 @@ abbrev pub AreSameLasts : Lasts → Lasts → Type 0
 AreSameLasts old new = (new.ends.items ≡ old.ends.items) × (new.winners.items ≡ old.winners.items)
 
 -- It is the name at a place, a find of it is alive at a moment, and its last find ends in the second of the place.
-abbrev pub IsNoted : Option Settling → List KeptFlush → List (Labels × OwnerCells) → List ℕ → ℕ → ℕ → Candidate → Type 0
-IsNoted settling kept entries lasts t place own =
-    (own.place ≡ place) × IsCandidate settling kept entries t own × (own.end ≡ last_at lasts place)
+abbrev pub IsNoted : List Settling → List KeptFlush → List (Labels × OwnerCells) → List ℕ → ℕ → ℕ → Candidate → Type 0
+IsNoted settlings kept entries lasts t place own =
+    (own.place ≡ place) × IsCandidate settlings kept entries t own × (own.end ≡ last_at lasts place)
 
 -- A sweep has visited each name since it changed, and no permanent flush is left to reach names.
-abbrev pub AreVisited : Option Settling → List ℕ → Type 0
-AreVisited settling moments = (settling ≡ None) × ((i : ℕ) → IsBelow 0 i → i < length moments → 0 < moment_at moments i)
+abbrev pub AreVisited : List Settling → List ℕ → Type 0
+AreVisited settlings moments = (settlings ≡ []) × ((i : ℕ) → IsBelow 0 i → i < length moments → 0 < moment_at moments i)
 
 -- The last find of a name does not end before the second of its place, unless the next sweep is to visit the name.
 abbrev pub AreLow : List KeptFlush → List (Labels × OwnerCells) → List ℕ → List ℕ → Type 0
-AreLow kept entries moments lasts = (i : ℕ) → 0 < slice_index_or moments i 0 → last_at lasts i ≤ life_at None kept entries i
+AreLow kept entries moments lasts = (i : ℕ) → 0 < slice_index_or moments i 0 → last_at lasts i ≤ life_at [] kept entries i

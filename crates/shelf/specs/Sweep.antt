@@ -1,5 +1,5 @@
 -- The sweep: the cells after it.
-use Rattle.std.specs.Prelude.{◌≡◌, ◌≢◌, ◌<◌, ◌≤◌, ◌+◌, ◌-◌, ◌*◌, ℕ, Bool, true, false, IfSome, Option, List, [], ◌∷◌, ◌++◌, fold, min, nat_le, sum_by, length, slice_get, if◌then◌else◌}
+use Rattle.std.specs.Prelude.{◌≡◌, ◌≢◌, ◌<◌, ◌≤◌, ◌+◌, ◌-◌, ◌*◌, ℕ, Bool, true, false, IfSome, List, [], ◌∷◌, ◌++◌, fold, min, nat_le, sum_by, length, slice_get, if◌then◌else◌}
 use Rattle.indexmap.specs.IndexMap.{IndexMap, get}
 use Rattle.dns_name.specs.Labels.{Labels}
 use Rattle.dns_name.specs.Order.{name_eq}
@@ -20,7 +20,7 @@ pub use Rattle.shelf.specs.Clean.{IsAlive}
 use Rattle.shelf.specs.Clean.{AreEnds, AreKeyed, IsClean, IsEnd}
 use Rattle.shelf.specs.declared.ends.Ends.{Ends}
 use Rattle.shelf.specs.declared.settling.Settling.{Settling}
-use Rattle.shelf.specs.Settling.{names_left}
+use Rattle.shelf.specs.Settling.{steps_left}
 
 -- the numbers so far, and that of a flush if it covers the question
 abbrev pub number_more : Question → List ℕ → KeptFlush → List ℕ
@@ -97,6 +97,14 @@ count_ended asked ends = sum_by (one_ended asked) ends
 abbrev pub asked_at : ℕ → ℕ
 asked_at t = min t (latest - 1)
 
--- what a sweep at a moment has left to do: a visit for each name that has ended, and two for each that the permanent flush has to reach, since that name then ends too
-abbrev pub unswept : List ℕ → Option Settling → ℕ → ℕ
-unswept moments settling t = 2 * names_left settling + count_ended (asked_at t) moments
+-- what a sweep at a moment has left to do: a visit for each name that has ended, and two for each step of a permanent flush, since the name that it reaches then ends too
+abbrev pub unswept : List ℕ → List Settling → ℕ → ℕ
+unswept moments settlings t = 2 * steps_left settlings + count_ended (asked_at t) moments
+
+-- the most that a turn of a sweep takes from what is left: two for each of 257 steps of a permanent flush, and one for each name that it reaches
+abbrev pub turn_at_most : ℕ
+turn_at_most = 771
+
+-- By no moment have more names ended than before, or fewer, than there are places from one down to another.
+abbrev pub EndNear : List ℕ → List ℕ → ℕ → ℕ → Type 0
+EndNear old new from to = (t : ℕ) → (count_ended t new + to ≤ count_ended t old + from) × (count_ended t old + to ≤ count_ended t new + from)

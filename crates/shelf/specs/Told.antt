@@ -1,5 +1,5 @@
 -- The replay of a shelf: its admissions and flushes in order, and the cells that they give.
-use Rattle.std.specs.Prelude.{ℕ, Bool, true, ◌++◌, ◌==◌, ◌&&◌, ◌≡◌, ◌≤◌, ◌<◌, ◌^◌, length, vec_capacity, List, [], ◌∷◌, Option, None, IfSome, fold, if◌then◌else◌}
+use Rattle.std.specs.Prelude.{ℕ, Bool, true, ◌++◌, ◌+◌, ◌==◌, ◌&&◌, ◌≡◌, ◌≤◌, ◌<◌, ◌^◌, length, vec_capacity, List, [], ◌∷◌, Option, None, fold, if◌then◌else◌}
 use Rattle.std.specs.List.{AllByRecursion}
 use Rattle.dns_name.specs.Labels.{Labels}
 use Rattle.dns_text.specs.declared.record.Question.{Question}
@@ -50,7 +50,7 @@ shown_version kept question = fold (later_shown question) 0 kept
 
 -- the content of the cell of a question in a version
 abbrev pub cell_at : Shelf → Question → ℕ → Option (Admitted Find)
-cell_at shelf question v = settled_cell shelf.settling shelf.owners question v
+cell_at shelf question v = settled_cell shelf.settlings.items shelf.owners question v
 
 -- the content of the cell of a question, by the flushes in force
 abbrev pub shown_cell : Shelf → Question → Option (Admitted Find)
@@ -79,7 +79,7 @@ CanSettleFlush owners number flush = AllByRecursion (λ kind. CanSettleAt number
 abbrev pub CanSettleKept : {S : Type 0} → IndexMap Labels OwnerCells S → KeptFlush → Type 0
 CanSettleKept owners own = CanSettleFlush owners own.number own.flush
 
--- No admission has reached a version past the greatest number, and each cell has only a find about its question. Each kept flush can become permanent with no memory. The places that count are counted, and are at most the limit. No name needs a sweep before its end. A permanent flush has reached each name from its place on.
+-- No admission has reached a version past the greatest number, and each cell has only a find about its question. Each kept flush can become permanent with no memory. The places that count are counted, and are at most the limit. No name needs a sweep before its end. Each permanent flush has reached each name from its place on. There is room for each kept flush to become permanent.
 pub record IsShelf (shelf : Shelf) : Type 0 where
   pub upto : AreUpTo shelf.top shelf.owners
   pub about : AreAbout shelf.owners
@@ -91,7 +91,8 @@ pub record IsShelf (shelf : Shelf) : Type 0 where
   pub small : shelf.limit ≤ 2 ^ 62
   pub room : length shelf.kept.items ≤ vec_capacity shelf.numbers
   pub ends : AreEnds shelf.kept.items shelf.owners.entries shelf.ends
-  pub settling : IfSome shelf.settling (IsSettling shelf.top shelf.owners)
+  pub settling : AllByRecursion (IsSettling shelf.top shelf.owners) shelf.settlings.items
+  pub space : length shelf.settlings.items + length shelf.kept.items ≤ vec_capacity shelf.settlings
 
 -- the version so far, or that of a flush if it is chosen and covers the question
 abbrev pub later_chosen : Question → (ℕ → Bool) → ℕ → KeptFlush → ℕ

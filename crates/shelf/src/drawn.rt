@@ -156,17 +156,21 @@ fn are_ends_alike(one: &Ends, other: &Ends) -> bool {
         && one.lasts.winners == other.lasts.winners
 }
 
-/// Whether a permanent flush has reached the same names, and has the same left to reach.
-fn is_settling_alike(one: &Option<Settling>, other: &Option<Settling>) -> bool {
-    match one {
-        Some(one) => match other {
-            Some(other) => {
-                one.number == other.number && one.left == other.left && one.zone == other.zone
-            }
-            None => false,
-        },
-        None => other.is_none(),
+/// Whether the same permanent flushes have reached the same names, and have the same left to reach.
+fn are_settlings_alike(one: &[Settling], other: &[Settling]) -> bool {
+    if one.len() != other.len() {
+        return false;
     }
+    for place in 0..one.len() {
+        if place >= other.len()
+            || one[place].number != other[place].number
+            || one[place].left != other[place].left
+            || one[place].zone != other[place].zone
+        {
+            return false;
+        }
+    }
+    true
 }
 
 /// The seconds that a find has left, and how far it is trusted.
@@ -300,7 +304,7 @@ impl Both {
         assert!(rt; self.one.owners.len() == self.other.owners.len());
         assert!(rt; is_same_name(self.one.oldest(moment), self.other.oldest(moment)));
         assert!(rt; are_ends_alike(&self.one.ends, &self.other.ends));
-        assert!(rt; is_settling_alike(&self.one.settling, &self.other.settling));
+        assert!(rt; are_settlings_alike(&self.one.settlings, &self.other.settlings));
     }
 
     fn compare_names<R: Abort>(&self, rt: &R, moment: u64) -> Result<(), Fail> {

@@ -1,6 +1,6 @@
 //! Flushes that are made, and made permanent.
 
-ghost use Rattle.std.specs.Prelude.{◌≡◌, ◌<◌, ◌≤◌, ◌+◌, ◌^◌, ℕ, List, length, vec_capacity, IfSome, OnOk};
+ghost use Rattle.std.specs.Prelude.{◌≡◌, ◌<◌, ◌≤◌, ◌+◌, ◌^◌, ℕ, List, length, vec_capacity, OnOk};
 ghost use Rattle.std.specs.List.{AllByRecursion};
 ghost use Rattle.std.specs.Map.{keys_of};
 ghost use Rattle.dns_text.specs.declared.record.Question.{Question};
@@ -74,24 +74,27 @@ pub(crate) fn settle_flush(
     owners: &mut Owners,
     ends: &mut Ends,
     stored: &mut u64,
-    settling: &mut Option<Settling>,
+    settlings: &mut Vec<Settling>,
     flush: Flush,
     number: u64,
 )
-    requires low { IfSome settling.old (λ own. own.left ≤ length owners.old.entries) × HaveEnds owners.old.entries ends.old }
+    requires size { HaveEnds owners.old.entries ends.old }
+    requires room { length settlings.old.items < vec_capacity settlings.old }
     requires counted { stored.old ≡ stored_in owners.old }
     requires settles { CanSettleFlush owners.old number flush }
-    ensures moved { (top : ℕ) → number ≤ top → AreUpTo top owners.old → IfSome settling.old (IsSettling top owners.old) →
-        IsMoved (λ q v. after_settle (covers flush q) number v) top settling.old settling.new owners.old owners.new }
+    ensures moved { (top : ℕ) → number ≤ top → AreUpTo top owners.old → AllByRecursion (IsSettling top owners.old) settlings.old.items →
+        IsMoved (λ q v. after_settle (covers flush q) number v) top settlings.old.items settlings.new.items owners.old owners.new }
     ensures settles { (kept : List KeptFlush) →
         AllByRecursion (CanSettleKept owners.old) kept → AllByRecursion (CanSettleKept owners.new) kept }
     ensures counted { (stored.new ≡ stored_in owners.new) × (stored.new ≤ stored.old) }
     ensures pairs { KeepPairs owners.old owners.new }
     ensures ends { (kept : List KeptFlush) → AreEnds kept owners.old.entries ends.old → AreEnds kept owners.new.entries ends.new }
+    ensures space { (length settlings.new.items ≤ length settlings.old.items + 1)
+        × (vec_capacity settlings.new ≡ vec_capacity settlings.old) }
 {
     match flush.reach {
         Reach::OneType(kind) => settle_name(owners, ends, stored, &flush.name, &[kind], number),
         Reach::Name => settle_name(owners, ends, stored, &flush.name, &flushed_types(), number),
-        Reach::Zone => settle_zone(owners, ends, stored, settling, flush.name, number),
+        Reach::Zone => settle_zone(owners, settlings, flush.name, number),
     }
 }

@@ -79,7 +79,7 @@ fn settle_oldest(shelf: &mut Shelf)
         &mut shelf.owners,
         &mut shelf.ends,
         &mut shelf.stored,
-        &mut shelf.settling,
+        &mut shelf.settlings,
         own.flush,
         own.number,
     );

@@ -24,34 +24,34 @@ fn has_question(owners: &Owners, question: &Question) -> bool
 // Whether two versions of a question have the same find from the same moment, or both have none.
 fn is_alike(
     owners: &Owners,
-    settling: &Option<Settling>,
+    settlings: &[Settling],
     question: &Question,
     version: u64,
     other: u64,
 ) -> bool
-    ensures { let cell = settled_cell settling.now owners.now question.now in result ≡ same_cell (cell version) (cell other) }
+    ensures { let cell = settled_cell settlings.now owners.now question.now in result ≡ same_cell (cell version) (cell other) }
 {
-    let version = settled_version(settling, &question.owner, version);
-    let other = settled_version(settling, &question.owner, other);
+    let version = settled_version(settlings, &question.owner, version);
+    let other = settled_version(settlings, &question.owner, other);
     is_same(owners, &question.owner, question.kind, version, other)
 }
 
 // The number of versions whose cell differs from that of the version before, after version 0.
 fn count_changes(
     owners: &Owners,
-    settling: &Option<Settling>,
+    settlings: &[Settling],
     kept: &[KeptFlush],
     question: &Question,
 ) -> usize
-    ensures value { result ≡ length (changes same_cell (settled_cell settling.now owners.now question.now 0)
-        (cells_in settling.now owners.now question.now (numbers_of kept.now question.now))) }
+    ensures value { result ≡ length (changes same_cell (settled_cell settlings.now owners.now question.now 0)
+        (cells_in settlings.now owners.now question.now (numbers_of kept.now question.now))) }
     ensures few { result ≤ length kept.now }
 {
     let mut count = 0;
     let mut last = 0;
     for own in kept {
         if own.flush.covers(&question.owner, question.kind)
-            && !is_alike(owners, settling, question, last, own.number)
+            && !is_alike(owners, settlings, question, last, own.number)
         {
             count += 1;
             last = own.number;
@@ -71,7 +71,7 @@ impl Shelf {
         ensures few { result ≤ length (numbers_of self.now.kept.items question.now) + 1 }
     {
         if has_question(&self.owners, question) {
-            count_changes(&self.owners, &self.settling, &self.kept, question) + 1
+            count_changes(&self.owners, &self.settlings, &self.kept, question) + 1
         } else {
             0
         }

@@ -1,6 +1,6 @@
 //! The name to forget first when the cache is full.
 
-ghost use Rattle.std.specs.Prelude.{◌≡◌, ◌⊎◌, ◌<◌, ◌≤◌, ◌+◌, ◌-◌, ◌*◌, ◌^◌, Some, None, true, false, min, IfSome, IfNone};
+ghost use Rattle.std.specs.Prelude.{◌≡◌, ◌⊎◌, ◌<◌, ◌≤◌, ◌+◌, ◌-◌, ◌*◌, ◌^◌, [], Some, None, true, false, min, IfSome, IfNone};
 ghost use Rattle.cell_store.specs.Ends.{latest};
 ghost use Rattle.cell_store.specs.Life.{life_end};
 ghost use Rattle.cell_store.specs.Owner.{whole_held};
@@ -12,7 +12,7 @@ ghost use Rattle.shelf.specs.Told.{IsShelf};
 
 use crate::ends::Ends;
 use crate::lasts::{Lasts, is_not_after, last_at};
-use crate::settling::{Settling, settled_version};
+use crate::settling::{Settling, none_left, settled_version};
 use crate::shelf::{KeptFlush, Shelf};
 use cell_store::{OwnerCells, Owners};
 use dns_name::Name;
@@ -33,16 +33,16 @@ fn kind_life(
     name: &Name,
     cells: &OwnerCells,
     kind: u16,
-    settling: &Option<Settling>,
+    settlings: &[Settling],
     kept: &[KeptFlush],
 ) -> u128
     ensures { result ≡
-        kind_life kept.now (cell_at_name settling.now name.now cells.now kind) (record { owner = name.now; kind = kind }) }
+        kind_life kept.now (cell_at_name settlings.now name.now cells.now kind) (record { owner = name.now; kind = kind }) }
 {
-    let mut end = cells.life_end(kind, settled_version(settling, name, 0));
+    let mut end = cells.life_end(kind, settled_version(settlings, name, 0));
     for own in kept {
         if own.flush.covers(name, kind) {
-            let version = settled_version(settling, name, own.number);
+            let version = settled_version(settlings, name, own.number);
             end = end.max(cells.life_end(kind, version));
         }
     }
@@ -66,34 +66,29 @@ fn whole_life(cells: &OwnerCells, version: u64) -> u128
 }
 
 // The second in which the last find of a name ends.
-fn name_life(
-    name: &Name,
-    cells: &OwnerCells,
-    settling: &Option<Settling>,
-    kept: &[KeptFlush],
-) -> u128
-    ensures { result ≡ name_life settling.now kept.now name.now cells.now }
+fn name_life(name: &Name, cells: &OwnerCells, settlings: &[Settling], kept: &[KeptFlush]) -> u128
+    ensures { result ≡ name_life settlings.now kept.now name.now cells.now }
 {
-    let mut end = whole_life(cells, settled_version(settling, name, 0));
+    let mut end = whole_life(cells, settled_version(settlings, name, 0));
     for own in &cells.kinds {
-        end = end.max(kind_life(name, cells, own.kind, settling, kept));
+        end = end.max(kind_life(name, cells, own.kind, settlings, kept));
     }
     end
 }
 
 // The same while no permanent flush reaches names. If the versions of the name are alike, it does not matter which flushes cover it.
 fn last_life(name: &Name, cells: &OwnerCells, kept: &[KeptFlush]) -> u128
-    ensures { result ≡ name_life None kept.now name.now cells.now }
+    ensures { result ≡ name_life [] kept.now name.now cells.now }
 {
     if cells.is_mixed() {
-        return name_life(name, cells, &None, kept);
+        return name_life(name, cells, &[], kept);
     }
-    name_life(name, cells, &None, &[])
+    name_life(name, cells, &[], &[])
 }
 
 // The second in which the last find of the name at a place ends, or the latest one that a sweep can note. It is 0 if there is no name.
 pub(crate) fn last_end(owners: &Owners, kept: &[KeptFlush], place: usize) -> u64
-    ensures { result ≡ min (life_at None kept.now owners.now.entries place) latest }
+    ensures { result ≡ min (life_at [] kept.now owners.now.entries place) latest }
 {
     match owners.get_index(place) {
         Some((name, cells)) => noted(last_life(name, cells, kept)),
@@ -111,19 +106,19 @@ fn noted(end: u128) -> u64
 // The name at a place, if a find of it is alive at a moment.
 fn name_if_alive<'a>(
     owners: &'a Owners,
-    settling: &Option<Settling>,
+    settlings: &[Settling],
     kept: &[KeptFlush],
     moment: u64,
     place: usize,
 ) -> Option<Candidate<'a>>
-    ensures some { IfSome result (λ own. (own.place ≡ place) × IsCandidate settling.now kept.now owners.now.entries moment own) }
-    ensures none { IfNone result (life_at settling.now kept.now owners.now.entries place ≤ moment) }
+    ensures some { IfSome result (λ own. (own.place ≡ place) × IsCandidate settlings.now kept.now owners.now.entries moment own) }
+    ensures none { IfNone result (life_at settlings.now kept.now owners.now.entries place ≤ moment) }
 {
     let (name, cells) = match owners.get_index(place) {
         Some(entry) => entry,
         None => return None,
     };
-    let end = name_life(name, cells, settling, kept);
+    let end = name_life(name, cells, settlings, kept);
     if end > u128::from(moment) {
         Some(Candidate { place, end, name })
     } else {
@@ -161,15 +156,15 @@ fn sooner<'a>(a: Option<Candidate<'a>>, b: Option<Candidate<'a>>) -> Option<Cand
 // Whether each name at or below a node ends later than a candidate, by the moments before which a sweep finds nothing to remove.
 // While a permanent flush has names to reach, these moments say nothing.
 fn is_ahead(
-    settling: &Option<Settling>,
+    settlings: &[Settling],
     ends: &WinnerTree,
     node: usize,
     best: &Option<Candidate<'_>>,
 ) -> bool
-    ensures { result ≡ true → IsAhead settling.now ends.now node best.now }
+    ensures { result ≡ true → IsAhead settlings.now ends.now node best.now }
 {
     match best {
-        Some(own) => settling.is_none() && own.end < u128::from(ends.least(node)),
+        Some(own) => none_left(settlings) && own.end < u128::from(ends.least(node)),
         None => false,
     }
 }
@@ -191,18 +186,21 @@ fn children(ends: &WinnerTree, node: usize) -> (usize, usize)
 // Whether a candidate is not after the name at a place, by the moment before which a sweep finds nothing to remove of that name.
 fn is_enough(
     owners: &Owners,
-    settling: &Option<Settling>,
+    settlings: &[Settling],
     ends: &WinnerTree,
     place: usize,
     best: &Option<Candidate<'_>>,
 ) -> bool
-    ensures { result ≡ true → IsEnough settling.now owners.now.entries ends.now place best.now }
+    ensures { result ≡ true → IsEnough settlings.now owners.now.entries ends.now place best.now }
 {
     let own = match best {
         Some(own) => own,
         None => return false,
     };
-    if settling.is_some() || place >= ends.len() {
+    if !none_left(settlings) {
+        return false;
+    }
+    if place >= ends.len() {
         return false;
     }
     let end = u128::from(ends.end(place));
@@ -220,21 +218,21 @@ fn is_enough(
 #[tactic(auto, using(crate::proofs::FirstLaws::enough))]
 fn first_at<'a>(
     owners: &'a Owners,
-    settling: &Option<Settling>,
+    settlings: &[Settling],
     kept: &[KeptFlush],
     ends: &WinnerTree,
     moment: u64,
     place: usize,
     best: Option<Candidate<'a>>,
 ) -> Option<Candidate<'a>>
-    requires bounds { AreBounds settling.now kept.now owners.now.entries ends.now }
-    requires best { IfSome best (IsCandidate settling.now kept.now owners.now.entries moment) }
-    ensures { IsFirst settling.now kept.now owners.now.entries moment (λ i. i ≡ place) best.entry result }
+    requires bounds { AreBounds settlings.now kept.now owners.now.entries ends.now }
+    requires best { IfSome best (IsCandidate settlings.now kept.now owners.now.entries moment) }
+    ensures { IsFirst settlings.now kept.now owners.now.entries moment (λ i. i ≡ place) best.entry result }
 {
-    if is_enough(owners, settling, ends, place, &best) {
+    if is_enough(owners, settlings, ends, place, &best) {
         return best;
     }
-    let own = name_if_alive(owners, settling, kept, moment, place);
+    let own = name_if_alive(owners, settlings, kept, moment, place);
     sooner(best, own)
 }
 
@@ -242,19 +240,19 @@ fn first_at<'a>(
 #[tactic(auto, using(crate::proofs::FirstLaws::nothing, crate::proofs::FirstLaws::fewer))]
 fn first_of_least<'a>(
     owners: &'a Owners,
-    settling: &Option<Settling>,
+    settlings: &[Settling],
     kept: &[KeptFlush],
     ends: &WinnerTree,
     moment: u64,
     place: usize,
     best: Option<Candidate<'a>>,
 ) -> Option<Candidate<'a>>
-    requires bounds { AreBounds settling.now kept.now owners.now.entries ends.now }
-    requires best { IfSome best (IsCandidate settling.now kept.now owners.now.entries moment) }
-    ensures { IsFirst settling.now kept.now owners.now.entries moment (λ _. ⊥) best.entry result }
+    requires bounds { AreBounds settlings.now kept.now owners.now.entries ends.now }
+    requires best { IfSome best (IsCandidate settlings.now kept.now owners.now.entries moment) }
+    ensures { IsFirst settlings.now kept.now owners.now.entries moment (λ _. ⊥) best.entry result }
 {
     if place < ends.len() && ends.end(place) == ends.least(place) {
-        return first_at(owners, settling, kept, ends, moment, place, best);
+        return first_at(owners, settlings, kept, ends, moment, place, best);
     }
     best
 }
@@ -262,46 +260,46 @@ fn first_of_least<'a>(
 // The first of a candidate and the names at or below a node that have a find alive at a moment.
 fn first_below<'a>(
     owners: &'a Owners,
-    settling: &Option<Settling>,
+    settlings: &[Settling],
     kept: &[KeptFlush],
     ends: &WinnerTree,
     moment: u64,
     node: usize,
     best: Option<Candidate<'a>>,
 ) -> Option<Candidate<'a>>
-    requires bounds { AreBounds settling.now kept.now owners.now.entries ends.now }
-    requires best { IfSome best (IsCandidate settling.now kept.now owners.now.entries moment) }
-    ensures { IsFirst settling.now kept.now owners.now.entries moment (IsBelow node) best.entry result }
+    requires bounds { AreBounds settlings.now kept.now owners.now.entries ends.now }
+    requires best { IfSome best (IsCandidate settlings.now kept.now owners.now.entries moment) }
+    ensures { IsFirst settlings.now kept.now owners.now.entries moment (IsBelow node) best.entry result }
 {
-    if node >= owners.len() || is_ahead(settling, ends, node, &best) {
+    if node >= owners.len() || is_ahead(settlings, ends, node, &best) {
         return best;
     }
-    let first = first_of_least(owners, settling, kept, ends, moment, node, best);
+    let first = first_of_least(owners, settlings, kept, ends, moment, node, best);
     let (near, far) = children(ends, node);
-    let second = first_below(owners, settling, kept, ends, moment, near, first);
-    let third = first_below(owners, settling, kept, ends, moment, far, second);
-    first_at(owners, settling, kept, ends, moment, node, third)
+    let second = first_below(owners, settlings, kept, ends, moment, near, first);
+    let third = first_below(owners, settlings, kept, ends, moment, far, second);
+    first_at(owners, settlings, kept, ends, moment, node, third)
 }
 
 // Whether a sweep has visited each name since it changed, and no permanent flush is left to reach names.
-fn is_visited(settling: &Option<Settling>, ends: &WinnerTree) -> bool
-    ensures { result ≡ true → AreVisited settling.now ends.now }
+fn is_visited(settlings: &[Settling], ends: &WinnerTree) -> bool
+    ensures { result ≡ true → AreVisited settlings.now ends.now }
 {
-    settling.is_none() && 0 < ends.least(0)
+    none_left(settlings) && 0 < ends.least(0)
 }
 
 // The name at a place, if it ends in the second that its last visit noted, and a find of it is alive at a moment.
 fn name_if_noted<'a>(
     owners: &'a Owners,
-    settling: &Option<Settling>,
+    settlings: &[Settling],
     kept: &[KeptFlush],
     lasts: &Lasts,
     moment: u64,
     place: usize,
 ) -> Option<Candidate<'a>>
-    ensures { IfSome result (IsNoted settling.now kept.now owners.now.entries lasts.now.ends.items moment place) }
+    ensures { IfSome result (IsNoted settlings.now kept.now owners.now.entries lasts.now.ends.items moment place) }
 {
-    let own = match name_if_alive(owners, settling, kept, moment, place) {
+    let own = match name_if_alive(owners, settlings, kept, moment, place) {
         Some(own) => own,
         None => return None,
     };
@@ -316,17 +314,17 @@ fn name_if_noted<'a>(
 // ends then.
 fn first_noted<'a>(
     owners: &'a Owners,
-    settling: &Option<Settling>,
+    settlings: &[Settling],
     kept: &[KeptFlush],
     ends: &Ends,
     moment: u64,
 ) -> Option<Candidate<'a>>
     requires { AreEnds kept.now owners.now.entries ends.now }
-    ensures { IfSome result (λ own. IsFirst settling.now kept.now owners.now.entries moment (IsBelow 0) None (Some own)) }
+    ensures { IfSome result (λ own. IsFirst settlings.now kept.now owners.now.entries moment (IsBelow 0) None (Some own)) }
 {
-    if is_visited(settling, &ends.moments) {
+    if is_visited(settlings, &ends.moments) {
         if let Some(place) = ends.lasts.first() {
-            return name_if_noted(owners, settling, kept, &ends.lasts, moment, place);
+            return name_if_noted(owners, settlings, kept, &ends.lasts, moment, place);
         }
     }
     None
@@ -335,18 +333,18 @@ fn first_noted<'a>(
 // The name that ends first, of those that have a find alive at a moment.
 fn first_of_all<'a>(
     owners: &'a Owners,
-    settling: &Option<Settling>,
+    settlings: &[Settling],
     kept: &[KeptFlush],
     ends: &Ends,
     moment: u64,
 ) -> Option<Candidate<'a>>
     requires ends { AreEnds kept.now owners.now.entries ends.now }
-    requires bounds { AreBounds settling.now kept.now owners.now.entries ends.now.moments }
-    ensures { IsFirst settling.now kept.now owners.now.entries moment (IsBelow 0) None result }
+    requires bounds { AreBounds settlings.now kept.now owners.now.entries ends.now.moments }
+    ensures { IsFirst settlings.now kept.now owners.now.entries moment (IsBelow 0) None result }
 {
-    match first_noted(owners, settling, kept, ends, moment) {
+    match first_noted(owners, settlings, kept, ends, moment) {
         Some(own) => Some(own),
-        None => first_below(owners, settling, kept, &ends.moments, moment, 0, None),
+        None => first_below(owners, settlings, kept, &ends.moments, moment, 0, None),
     }
 }
 
@@ -363,7 +361,13 @@ impl Shelf {
     {
         // `len` is called for its clause that the names differ, which the proof cites.
         let _ = self.owners.len();
-        let first = first_of_all(&self.owners, &self.settling, &self.kept, &self.ends, moment);
+        let first = first_of_all(
+            &self.owners,
+            &self.settlings,
+            &self.kept,
+            &self.ends,
+            moment,
+        );
         match first {
             Some(own) => Some(own.name),
             None => None,

@@ -1,6 +1,6 @@
-//! A permanent flush of a zone. It reaches the cells of the names a few at a time, so that no call visits many of them.
+//! Permanent flushes of zones. They reach the cells of the names a few at a time, so that no call visits many of them.
 
-ghost use Rattle.std.specs.Prelude.{◌≡◌, ◌≤◌, ◌+◌, ◌-◌, nat_lt, ◌==◌, ◌&&◌, ℕ, Some, None, IfSome, List, length};
+ghost use Rattle.std.specs.Prelude.{◌≡◌, ◌<◌, ◌≤◌, ◌+◌, ◌-◌, ◌^◌, ◌==◌, ◌&&◌, [], ℕ, true, false, List, length, vec_capacity, OnOk};
 ghost use Rattle.std.specs.List.{list_any, AllByRecursion};
 ghost use Rattle.std.specs.Map.{keys_of};
 ghost use Rattle.dns_name.specs.Below.{is_at_or_below};
@@ -11,12 +11,13 @@ ghost use Rattle.cell_store.specs.Owner.{after_settle};
 ghost use Rattle.cell_store.specs.Store.{cell_of, AreUpTo, CanSettleAt, KeepSettling, KeepUpTo};
 ghost use Rattle.shelf.specs.declared.shelf.KeptFlush.{KeptFlush};
 ghost use Rattle.shelf.specs.Clean.{AreEnds, HaveEnds};
-ghost use Rattle.shelf.specs.Sweep.{count_ended};
-ghost use Rattle.shelf.specs.Settling.{fitted_place, is_outdone, names_left, settled_version, unmoved, IsMoved, IsReaching, IsSettling};
+ghost use Rattle.shelf.specs.Sweep.{EndNear};
+ghost use Rattle.shelf.specs.Settling.{first_at, is_outdone, settled_version, steps_left, unmoved, with_left, without_outdone, HaveStepped, IsMoved, IsReaching, IsSettling};
 
 use crate::ends::{Ends, put, reset};
+use crate::shelf::Shelf;
 use cell_store::{Owners, settle_at, settle_kinds};
-use dns_name::Name;
+use dns_name::{Name, NoMemory};
 
 /// The names that a permanent flush reaches at one call, so that no call is long.
 pub(crate) const REACHED_AT_ONCE: usize = 256;
@@ -30,14 +31,33 @@ pub struct Settling {
     pub left: usize,
 }
 
-// The version whose content a version of a name has.
-pub(crate) fn settled_version(settling: &Option<Settling>, owner: &Name, version: u64) -> u64
-    ensures { result ≡ settled_version settling.now owner.now version }
+// Makes room for one flush more than `count`.
+pub(crate) fn reserve_settlings(settlings: &mut Vec<Settling>, count: usize) -> Result<(), NoMemory>
+    requires few { count < 2 ^ 63 }
+    ensures items { settlings.new.items ≡ settlings.old.items }
+    ensures room { OnOk result (length settlings.new.items + count + 1 ≤ vec_capacity settlings.new) }
+    ensures more { vec_capacity settlings.old ≤ vec_capacity settlings.new }
 {
-    match settling {
-        Some(own) => later(owner.at_or_below(&own.zone), own.number, version),
-        None => version,
+    settlings.reserve(count + 1)?;
+    Ok(())
+}
+
+// Whether no permanent flush has names to reach.
+pub(crate) fn none_left(settlings: &[Settling]) -> bool
+    ensures { result ≡ true → settlings.now ≡ [] }
+{
+    settlings.is_empty()
+}
+
+// The version whose content a version of a name has.
+pub(crate) fn settled_version(settlings: &[Settling], owner: &Name, version: u64) -> u64
+    ensures { result ≡ settled_version settlings.now owner.now version }
+{
+    let mut last = version;
+    for own in settlings {
+        last = later(owner.at_or_below(&own.zone), own.number, last);
     }
+    last
 }
 
 fn later(covered: bool, number: u64, version: u64) -> u64
@@ -50,6 +70,35 @@ fn later(covered: bool, number: u64, version: u64) -> u64
     }
 }
 
+// Lets a flush reach the name at a place, if there is one. The next sweep visits the name if the flush covers it. It takes no memory.
+fn reach_at(
+    owners: &mut Owners,
+    ends: &mut Ends,
+    stored: &mut u64,
+    zone: &Name,
+    number: u64,
+    place: usize,
+)
+    requires size { HaveEnds owners.old.entries ends.old }
+    requires counted { stored.old ≡ stored_in owners.old }
+    ensures reaching { (top : ℕ) → AreUpTo top owners.old → IsReaching zone.now number top (place + 1) place owners.old owners.new }
+    ensures settles { KeepSettling owners.old owners.new }
+    ensures counted { (stored.new ≡ stored_in owners.new) × (stored.new ≤ stored.old) }
+    ensures pairs { KeepPairs owners.old owners.new }
+    ensures ends { (kept : List KeptFlush) → AreEnds kept owners.old.entries ends.old → AreEnds kept owners.new.entries ends.new }
+    ensures size { HaveEnds owners.new.entries ends.new }
+    ensures ended { EndNear ends.old.moments ends.new.moments (place + 1) place }
+{
+    // If names were forgotten since, there may be fewer.
+    if place >= owners.len() {
+        return;
+    }
+    if !settle_at(owners, stored, place, zone, number) {
+        return;
+    }
+    put(ends, place, 0, false);
+}
+
 // Lets a flush reach so many names more, from the place `left` down. The next sweep visits those that it covers. It takes no memory.
 fn reach(
     owners: &mut Owners,
@@ -60,146 +109,108 @@ fn reach(
     left: usize,
     most: usize,
 ) -> usize
-    requires low { (left ≤ length owners.old.entries) × HaveEnds owners.old.entries ends.old }
+    requires size { HaveEnds owners.old.entries ends.old }
     requires counted { stored.old ≡ stored_in owners.old }
     ensures reaching { (top : ℕ) → AreUpTo top owners.old → IsReaching zone.now number top left result owners.old owners.new }
     ensures settles { KeepSettling owners.old owners.new }
     ensures counted { (stored.new ≡ stored_in owners.new) × (stored.new ≤ stored.old) }
     ensures pairs { KeepPairs owners.old owners.new }
     ensures ends { (kept : List KeptFlush) → AreEnds kept owners.old.entries ends.old → AreEnds kept owners.new.entries ends.new }
-    ensures names { keys_of owners.new.entries ≡ keys_of owners.old.entries }
-    ensures left { (result ≡ left - most) × HaveEnds owners.new.entries ends.new }
-    ensures ended { (t : ℕ) → count_ended t ends.new.moments + result ≤ count_ended t ends.old.moments + left }
+    ensures size { HaveEnds owners.new.entries ends.new }
+    ensures left { result ≡ left - most }
+    ensures ended { EndNear ends.old.moments ends.new.moments left result }
 {
     let last = left.saturating_sub(most);
     let mut place = left;
     while place > last {
         place -= 1;
-        if settle_at(owners, stored, place, zone, number) {
-            put(ends, place, 0, false);
-        }
+        reach_at(owners, ends, stored, zone, number, place);
     }
     place
 }
 
-// Lets the permanent flush reach so many names more, if one has not reached them all. It takes no memory.
+impl Settling {
+    // Sets how many names it has left to reach.
+    fn set_left(&mut self, left: usize)
+        ensures { self.new ≡ with_left left self.old }
+    {
+        self.left = left;
+    }
+}
+
+// The first flush has so many names left to reach. It goes once it has none.
+fn step_first(settlings: &mut Vec<Settling>, left: usize)
+    ensures items { settlings.new.items ≡ first_at left settlings.old.items }
+    ensures capacity { vec_capacity settlings.new ≡ vec_capacity settlings.old }
+{
+    if settlings.is_empty() {
+        return;
+    }
+    if left == 0 {
+        settlings.remove(0);
+        return;
+    }
+    settlings[0].set_left(left);
+}
+
+// Lets the oldest of the permanent flushes reach so many names more, if there is one. It takes no memory.
 pub(crate) fn reach_some(
     owners: &mut Owners,
     ends: &mut Ends,
     stored: &mut u64,
-    settling: &mut Option<Settling>,
+    settlings: &mut Vec<Settling>,
     most: usize,
 )
-    requires low { IfSome settling.old (λ own. own.left ≤ length owners.old.entries) × HaveEnds owners.old.entries ends.old }
+    requires size { HaveEnds owners.old.entries ends.old }
     requires counted { stored.old ≡ stored_in owners.old }
-    ensures moved { (top : ℕ) → AreUpTo top owners.old → IfSome settling.old (IsSettling top owners.old) →
-        IsMoved unmoved top settling.old settling.new owners.old owners.new }
+    ensures moved { (top : ℕ) → AreUpTo top owners.old → AllByRecursion (IsSettling top owners.old) settlings.old.items →
+        IsMoved unmoved top settlings.old.items settlings.new.items owners.old owners.new }
     ensures settles { KeepSettling owners.old owners.new }
     ensures counted { (stored.new ≡ stored_in owners.new) × (stored.new ≤ stored.old) }
     ensures pairs { KeepPairs owners.old owners.new }
     ensures ends { (kept : List KeptFlush) → AreEnds kept owners.old.entries ends.old → AreEnds kept owners.new.entries ends.new }
-    ensures names { (keys_of owners.new.entries ≡ keys_of owners.old.entries) × HaveEnds owners.new.entries ends.new }
-    ensures left { names_left settling.new ≡ names_left settling.old - most }
-    ensures ended { (t : ℕ) →
-        count_ended t ends.new.moments + names_left settling.new ≤ count_ended t ends.old.moments + names_left settling.old }
+    ensures size { HaveEnds owners.new.entries ends.new }
+    ensures room { (length settlings.new.items ≤ length settlings.old.items)
+        × (vec_capacity settlings.new ≡ vec_capacity settlings.old) }
+    ensures left { HaveStepped most settlings.old.items settlings.new.items
+        × EndNear ends.old.moments ends.new.moments (steps_left settlings.old.items) (steps_left settlings.new.items) }
 {
-    if let Some(own) = settling {
-        own.left = reach(owners, ends, stored, &own.zone, own.number, own.left, most);
-    }
-}
-
-// Lets the permanent flush reach each name. It takes no memory.
-pub(crate) fn reach_all(
-    owners: &mut Owners,
-    ends: &mut Ends,
-    stored: &mut u64,
-    settling: &mut Option<Settling>,
-)
-    requires low { IfSome settling.old (λ own. own.left ≤ length owners.old.entries) × HaveEnds owners.old.entries ends.old }
-    requires counted { stored.old ≡ stored_in owners.old }
-    ensures moved { (top : ℕ) → AreUpTo top owners.old → IfSome settling.old (IsSettling top owners.old) →
-        IsMoved unmoved top settling.old settling.new owners.old owners.new }
-    ensures settles { KeepSettling owners.old owners.new }
-    ensures counted { (stored.new ≡ stored_in owners.new) × (stored.new ≤ stored.old) }
-    ensures pairs { KeepPairs owners.old owners.new }
-    ensures ends { (kept : List KeptFlush) → AreEnds kept owners.old.entries ends.old → AreEnds kept owners.new.entries ends.new }
-    ensures names { (keys_of owners.new.entries ≡ keys_of owners.old.entries) × HaveEnds owners.new.entries ends.new }
-    ensures none { settling.new ≡ None }
-    ensures ended { (t : ℕ) → count_ended t ends.new.moments ≤ count_ended t ends.old.moments + names_left settling.old }
-{
-    let names = owners.len();
-    reach_some(owners, ends, stored, settling, names);
-    *settling = None;
-}
-
-// Whether the permanent flush has names to reach.
-pub(crate) fn is_reaching(settling: &Option<Settling>) -> bool
-    ensures { result ≡ nat_lt 0 (names_left settling.now) }
-{
-    match settling {
-        Some(own) => own.left > 0,
-        None => false,
-    }
-}
-
-// Whether a flush of every type at or below a name covers all that the permanent flush covers, and is not older.
-fn is_outdone(settling: &Option<Settling>, zone: &Name, number: u64) -> bool
-    ensures { result ≡ is_outdone settling.now zone.now number }
-{
-    match settling {
-        Some(own) => own.number <= number && own.zone.at_or_below(zone),
-        None => false,
-    }
-}
-
-// Lets the permanent flush reach each name, unless another that takes its place covers all that it covers. It takes no memory.
-fn make_way(
-    owners: &mut Owners,
-    ends: &mut Ends,
-    stored: &mut u64,
-    settling: &mut Option<Settling>,
-    zone: &Name,
-    number: u64,
-)
-    requires low { IfSome settling.old (λ own. own.left ≤ length owners.old.entries) × HaveEnds owners.old.entries ends.old }
-    requires counted { stored.old ≡ stored_in owners.old }
-    ensures moved { (top : ℕ) → number ≤ top → AreUpTo top owners.old → IfSome settling.old (IsSettling top owners.old) →
-        IsMoved (λ q v. after_settle (is_at_or_below q.owner zone.now) number v) top settling.old
-        (Some (record { zone = zone.now; number = number; left = length owners.new.entries })) owners.old owners.new }
-    ensures settles { KeepSettling owners.old owners.new }
-    ensures counted { (stored.new ≡ stored_in owners.new) × (stored.new ≤ stored.old) }
-    ensures pairs { KeepPairs owners.old owners.new }
-    ensures ends { (kept : List KeptFlush) → AreEnds kept owners.old.entries ends.old → AreEnds kept owners.new.entries ends.new }
-    ensures names { (keys_of owners.new.entries ≡ keys_of owners.old.entries) × HaveEnds owners.new.entries ends.new }
-{
-    if is_outdone(settling, zone, number) {
+    if settlings.is_empty() {
         return;
     }
-    reach_all(owners, ends, stored, settling);
+    let own = &settlings[0];
+    let left = reach(owners, ends, stored, &own.zone, own.number, own.left, most);
+    step_first(settlings, left);
 }
 
-// Makes a flush of every type at or below a name permanent. It reaches the names later. The one before it now reaches those that it has
-// not reached, unless the new one covers all that it covers. It takes no memory.
-pub(crate) fn settle_zone(
-    owners: &mut Owners,
-    ends: &mut Ends,
-    stored: &mut u64,
-    settling: &mut Option<Settling>,
-    zone: Name,
-    number: u64,
-)
-    requires low { IfSome settling.old (λ own. own.left ≤ length owners.old.entries) × HaveEnds owners.old.entries ends.old }
-    requires counted { stored.old ≡ stored_in owners.old }
-    ensures moved { (top : ℕ) → number ≤ top → AreUpTo top owners.old → IfSome settling.old (IsSettling top owners.old) →
-        IsMoved (λ q v. after_settle (is_at_or_below q.owner zone) number v) top settling.old settling.new owners.old owners.new }
-    ensures settles { KeepSettling owners.old owners.new }
-    ensures counted { (stored.new ≡ stored_in owners.new) × (stored.new ≤ stored.old) }
-    ensures pairs { KeepPairs owners.old owners.new }
-    ensures ends { (kept : List KeptFlush) → AreEnds kept owners.old.entries ends.old → AreEnds kept owners.new.entries ends.new }
-    ensures names { (keys_of owners.new.entries ≡ keys_of owners.old.entries) × HaveEnds owners.new.entries ends.new }
+// Whether a flush of every type at or below a name covers all that another flush covers, and is not older.
+fn is_outdone(zone: &Name, number: u64, own: &Settling) -> bool
+    ensures { result ≡ is_outdone zone.now number own.now }
 {
-    make_way(owners, ends, stored, settling, &zone, number);
-    *settling = Some(Settling {
+    own.number <= number && own.zone.at_or_below(zone)
+}
+
+// Drops the flushes that such a flush outdoes.
+fn drop_outdone(settlings: &mut Vec<Settling>, zone: &Name, number: u64)
+    ensures items { settlings.new.items ≡ without_outdone zone.now number settlings.old.items }
+    ensures room { (length settlings.new.items ≤ length settlings.old.items)
+        × (vec_capacity settlings.new ≡ vec_capacity settlings.old) }
+{
+    settlings.retain(|own| !is_outdone(zone, number, own));
+}
+
+// Makes a flush of every type at or below a name permanent. It reaches the names later. Flushes go that it outdoes. It visits no name, and
+// takes no memory.
+pub(crate) fn settle_zone(owners: &Owners, settlings: &mut Vec<Settling>, zone: Name, number: u64)
+    requires room { length settlings.old.items < vec_capacity settlings.old }
+    ensures moved { (top : ℕ) → number ≤ top → AreUpTo top owners.now → AllByRecursion (IsSettling top owners.now) settlings.old.items →
+        IsMoved (λ q v. after_settle (is_at_or_below q.owner zone) number v) top
+        settlings.old.items settlings.new.items owners.now owners.now }
+    ensures room { (length settlings.new.items ≤ length settlings.old.items + 1)
+        × (vec_capacity settlings.new ≡ vec_capacity settlings.old) }
+{
+    drop_outdone(settlings, &zone, number);
+    settlings.push_reserved(Settling {
         zone,
         number,
         left: owners.len(),
@@ -224,17 +235,25 @@ pub(crate) fn settle_name(
     ensures counted { (stored.new ≡ stored_in owners.new) × (stored.new ≤ stored.old) }
     ensures pairs { KeepPairs owners.old owners.new }
     ensures ends { (kept : List KeptFlush) → AreEnds kept owners.old.entries ends.old → AreEnds kept owners.new.entries ends.new }
-    ensures names { (keys_of owners.new.entries ≡ keys_of owners.old.entries) × HaveEnds owners.new.entries ends.new }
+    ensures names { keys_of owners.new.entries ≡ keys_of owners.old.entries }
 {
     reset(owners, ends, name);
     settle_kinds(owners, stored, name, kinds, number);
 }
 
-// Keeps the place within the names, when one of them has gone.
-pub(crate) fn fit_place(owners: &Owners, settling: &mut Option<Settling>)
-    ensures { settling.new ≡ fitted_place (length owners.now.entries) settling.old }
-{
-    if let Some(own) = settling {
-        own.left = own.left.min(owners.len());
+impl Shelf {
+    // The version whose content a version of a name has, by the permanent flushes that have not reached each name.
+    pub(crate) fn settled(&self, owner: &Name, version: u64) -> u64
+        ensures { result ≡ settled_version self.now.settlings.items owner.now version }
+    {
+        settled_version(&self.settlings, owner, version)
+    }
+
+    // Whether a permanent flush of a zone has names to reach.
+    pub(crate) fn is_reaching(&self) -> bool
+        ensures some { result ≡ true → 0 < length self.now.settlings.items }
+        ensures none { result ≡ false → self.now.settlings.items ≡ [] }
+    {
+        !self.settlings.is_empty()
     }
 }

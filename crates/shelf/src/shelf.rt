@@ -1,6 +1,6 @@
 //! The shelf: cached cells, and the flushes that can be undone or redone.
 
-ghost use Rattle.std.specs.Prelude.{◌≡◌, ◌<◌, ◌≤◌, ◌+◌, ◌-◌, ◌^◌, ◌∷◌, ◌&&◌, [], ℕ, Bool, List, None, true, false, not, map, option_copied, position};
+ghost use Rattle.std.specs.Prelude.{◌≡◌, ◌<◌, ◌≤◌, ◌+◌, ◌^◌, ◌∷◌, ◌&&◌, [], ℕ, Bool, List, None, true, false, not, map, option_copied, position};
 ghost use Rattle.std.specs.Prelude.{IfErr, IsOk, OnOk, OnErr, if◌then◌else◌};
 ghost use Rattle.std.specs.List.{AllByRecursion};
 ghost use Rattle.std.specs.Map.{keys_of};
@@ -16,8 +16,8 @@ ghost use Rattle.cell_store.specs.Sweep.{alive_at};
 ghost use Rattle.shelf.specs.declared.shelf.KeptFlush.{KeptFlush};
 ghost use Rattle.shelf.specs.Kept.{with_shown, stands_first};
 ghost use Rattle.shelf.specs.Room.{fate_of, kind_fate, is_taken, is_wanted, room_for, IsFault};
-ghost use Rattle.shelf.specs.Settling.{names_left, reached_at_once};
-ghost use Rattle.shelf.specs.Sweep.{count_ended, AreAlive};
+ghost use Rattle.shelf.specs.Settling.{reached_at_once, steps_left, HaveStepped};
+ghost use Rattle.shelf.specs.Sweep.{AreAlive, EndNear};
 ghost use Rattle.shelf.specs.Told.{without};
 ghost use Rattle.ranked.specs.declared.find.Scope.{Scope};
 
@@ -25,7 +25,7 @@ use crate::ends::{Ends, drop_end, end_mixed, fit, no_ends, reset, touch};
 use crate::fault::StoreFault;
 use crate::flushing::{open_flush, reserve, settle_flush};
 use crate::room::Room;
-use crate::settling::{REACHED_AT_ONCE, Settling, fit_place, reach_some, settled_version};
+use crate::settling::{REACHED_AT_ONCE, Settling, reach_some, reserve_settlings};
 use cell_store::{
     NameSeed, OwnerCells, Owners, admit_at, at, cells_at, forget_place, has_place_in, held_in,
 };
@@ -61,8 +61,9 @@ pub struct Shelf {
     pub numbers: Vec<u64>,
     /// For each name, a moment before which a sweep finds nothing to remove there.
     pub ends: Ends,
-    /// A permanent flush of a zone that has not reached the cells of each name yet.
-    pub settling: Option<Settling>,
+    /// The permanent flushes of zones that have not reached the cells of each name yet, in the order of their numbers. There is room for
+    /// each kept flush, so that to make one permanent takes no memory.
+    pub settlings: Vec<Settling>,
 }
 
 impl KeptFlush {
@@ -123,7 +124,7 @@ impl Shelf {
             limit,
             numbers: Vec::new(alloc),
             ends: no_ends(alloc),
-            settling: None,
+            settlings: Vec::new(alloc),
         }
     }
 
@@ -173,7 +174,7 @@ impl Shelf {
         ensures { result ≡ turns_away
             (cell_at self.now (record { owner = find.now.owner; kind = kind }) version) (admission_of find.now find.now moment) }
     {
-        let version = settled_version(&self.settling, &find.owner, version);
+        let version = self.settled(&find.owner, version);
         match held_in(cells, kind, version, moment) {
             Some(shown) => find.rank.level() < shown.rank.level(),
             None => false,
@@ -334,7 +335,7 @@ impl Shelf {
         ensures same { OnErr result (IsSame self.old self.new) }
         ensures flushes { KeepsFlushes self.old self.new }
         ensures stored { self.new.stored ≤ self.old.stored + 1 }
-        ensures left { OnOk result (names_left self.new.settling ≡ names_left self.old.settling - reached_at_once) }
+        ensures left { OnOk result (HaveStepped reached_at_once self.old.settlings.items self.new.settlings.items) }
     {
         touch(&mut self.ends, place)?;
         let result = admit_at(
@@ -359,7 +360,7 @@ impl Shelf {
         ensures cells { (told : List Told) → IsShelfOf self.now told →
             held_now result ≡ shown_at (replayed_cell self.now.kept.items (record { owner = owner.now; kind = kind }) told) moment }
     {
-        let version = settled_version(&self.settling, owner, self.version(owner, kind));
+        let version = self.settled(owner, self.version(owner, kind));
         at(&self.owners, owner, kind, version, moment)
     }
 
@@ -374,7 +375,7 @@ impl Shelf {
         requires { option_copied cells ≡ get name_eq self.now.owners owner.now }
         ensures { held_now result ≡ shown_at (shown_cell self.now (record { owner = owner.now; kind = kind })) moment }
     {
-        let version = settled_version(&self.settling, owner, self.version(owner, kind));
+        let version = self.settled(owner, self.version(owner, kind));
         held_in(cells, kind, version, moment)
     }
 
@@ -436,6 +437,7 @@ impl Shelf {
         ensures stored { self.new.stored ≡ self.old.stored }
     {
         reserve(&mut self.numbers, self.kept.len())?;
+        reserve_settlings(&mut self.settlings, self.kept.len())?;
         reset(&self.owners, &mut self.ends, &flush.name);
         open_flush(&mut self.owners, &flush, self.top)?;
         self.kept.push(KeptFlush {
@@ -464,11 +466,11 @@ impl Shelf {
         let place = forget_place(&mut self.owners, &mut self.stored, owner);
         drop_end(&mut self.ends, place);
         self.ends.lasts.remove(&self.owners, place);
-        fit_place(&self.owners, &mut self.settling);
     }
 
     /// Makes a flush permanent if it is the oldest and in force. Else drops it for good. It takes no memory. A flush of a zone is permanent
-    /// at once, and reaches the names a few at a time: here, at later admissions, and the rest at a sweep.
+    /// at once, and reaches the names a few at a time: here, at later admissions, and the rest at a sweep. The oldest such flush comes
+    /// first, however many there are.
     pub fn settle(&mut self, number: u64)
         requires whole { IsShelf self.old }
         ensures whole { IsShelf self.new }
@@ -484,7 +486,7 @@ impl Shelf {
         self.reach_names();
     }
 
-    // Does that, and lets the flush reach no name.
+    // Does that, and lets no flush reach a name.
     fn settle_kept(&mut self, number: u64)
         requires whole { IsShelf self.old }
         ensures whole { IsShelf self.new }
@@ -503,7 +505,7 @@ impl Shelf {
         self.settle_cleared(number);
     }
 
-    // Lets the permanent flush reach some names more. It takes no memory.
+    // Lets the oldest permanent flush reach some names more. It takes no memory.
     pub(crate) fn reach_names(&mut self)
         requires whole { IsShelf self.old }
         ensures whole { IsShelf self.new }
@@ -511,15 +513,15 @@ impl Shelf {
         ensures flushes { KeepsFlushes self.old self.new }
         ensures stored { self.new.stored ≤ self.old.stored }
         ensures pairs { KeepPairs self.old.owners self.new.owners }
-        ensures left { names_left self.new.settling ≡ names_left self.old.settling - reached_at_once }
-        ensures ended { (t : ℕ) → count_ended t self.new.ends.moments + names_left self.new.settling
-            ≤ count_ended t self.old.ends.moments + names_left self.old.settling }
+        ensures left { HaveStepped reached_at_once self.old.settlings.items self.new.settlings.items }
+        ensures ended { EndNear
+            self.old.ends.moments self.new.ends.moments (steps_left self.old.settlings.items) (steps_left self.new.settlings.items) }
     {
         reach_some(
             &mut self.owners,
             &mut self.ends,
             &mut self.stored,
-            &mut self.settling,
+            &mut self.settlings,
             REACHED_AT_ONCE,
         );
     }
@@ -547,7 +549,7 @@ impl Shelf {
             &mut self.owners,
             &mut self.ends,
             &mut self.stored,
-            &mut self.settling,
+            &mut self.settlings,
             own.flush,
             own.number,
         );

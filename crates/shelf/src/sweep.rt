@@ -1,6 +1,6 @@
 //! The sweep: it removes expired finds, and the versions that no kept flush needs, at once or some names at a time.
 
-ghost use Rattle.std.specs.Prelude.{◌≡◌, ◌<◌, ◌≤◌, ◌+◌, ◌==◌, ℕ, Bool, None, true, false, is_some, length, map, slice_index_or, vec_capacity};
+ghost use Rattle.std.specs.Prelude.{◌≡◌, ◌<◌, ◌≤◌, ◌+◌, ◌==◌, [], ℕ, Bool, true, false, is_some, length, map, slice_index_or, vec_capacity};
 ghost use Rattle.indexmap.specs.IndexMap.{IndexMap};
 ghost use Rattle.dns_name.specs.Labels.{Labels};
 ghost use Rattle.dns_text.specs.declared.record.Question.{Question};
@@ -14,11 +14,11 @@ ghost use Rattle.cell_store.specs.declared.seed.NameSeed.{NameSeed};
 ghost use Rattle.cell_store.specs.Sweep.{alive_at};
 ghost use Rattle.shelf.specs.Clean.{AreEnds};
 ghost use Rattle.shelf.specs.Lasts.{IsShaped};
-ghost use Rattle.shelf.specs.Sweep.{asked_at, count_ended, numbers_of, unswept, AreAlive, AreLessened, IsSwept, IsSweptAt, IsUnderway};
+ghost use Rattle.shelf.specs.Settling.{reached_at_once};
+ghost use Rattle.shelf.specs.Sweep.{asked_at, count_ended, numbers_of, turn_at_most, unswept, AreAlive, AreLessened, IsSwept, IsSweptAt, IsUnderway};
 
 use crate::ends::{Ends, drop_at, end_all, put};
 use crate::oldest::last_end;
-use crate::settling::{is_reaching, reach_all};
 use crate::shelf::{KeptFlush, Shelf};
 use cell_store::{OwnerCells, Owners, drop_if_uncounted};
 use dns_name::Name;
@@ -133,7 +133,7 @@ fn visit(
         IsUnderway kept.now moment asked first most owners.old ends.old stored.old →
         IsUnderway kept.now moment asked first most owners.new ends.new stored.new }
     ensures ended { (asked : ℕ) → asked ≤ moment → asked < latest → slice_index_or ends.old.moments place 0 ≤ asked →
-        count_ended asked ends.new.moments < count_ended asked ends.old.moments }
+        count_ended asked ends.new.moments + 1 ≡ count_ended asked ends.old.moments }
     ensures capacity { vec_capacity numbers.new ≡ vec_capacity numbers.old }
 {
     let (end, mixed) = sweep_at(owners, stored, kept, numbers, place, moment);
@@ -189,6 +189,7 @@ pub(crate) fn sweep_few(
     ensures less { AreLessened kept.now moment owners.old owners.new }
     ensures ends { AreEnds kept.now owners.new.entries ends.new }
     ensures more { result ≡ true → count_ended moment ends.new.moments < count_ended moment ends.old.moments }
+    ensures short { count_ended moment ends.old.moments ≤ count_ended moment ends.new.moments + reached_at_once }
     ensures none { result ≡ false → count_ended moment ends.new.moments ≡ 0 }
     ensures alive { result ≡ false → AreAlive kept.now moment owners.new }
     ensures counted { (stored.new ≡ stored_in owners.new) × (stored.new ≤ stored.old) }
@@ -239,7 +240,7 @@ impl Shelf {
     ghost use Rattle.shelf.specs.Told.{IsShelf, KeepsFlushes, face_of};
 
     /// Drops the finds that are dead at a moment, the versions that no kept flush needs, and the names of which nothing is left.
-    /// A permanent flush of a zone reaches each name first. It takes no memory.
+    /// Each permanent flush of a zone reaches each name first. It takes no memory.
     pub fn sweep(&mut self, moment: u64)
         requires whole { IsShelf self.old }
         ensures whole { IsShelf self.new }
@@ -249,14 +250,11 @@ impl Shelf {
         ensures flushes { KeepsFlushes self.old self.new }
         ensures stored { self.new.stored ≤ self.old.stored }
         ensures pairs { KeepPairs self.old.owners self.new.owners }
-        ensures none { (self.new.settling ≡ None) × (unswept self.new.ends.moments self.new.settling moment ≡ 0) }
+        ensures none { (self.new.settlings.items ≡ []) × (unswept self.new.ends.moments self.new.settlings.items moment ≡ 0) }
     {
-        reach_all(
-            &mut self.owners,
-            &mut self.ends,
-            &mut self.stored,
-            &mut self.settling,
-        );
+        while self.is_reaching() {
+            self.reach_names();
+        }
         sweep_all(
             &mut self.owners,
             &mut self.ends,
@@ -268,21 +266,25 @@ impl Shelf {
     }
 
     /// Drops some of what a sweep at the moment drops, and returns whether there may be more. A permanent flush of a zone reaches some
-    /// more names first. It takes no memory. If it says that there may be more, less is left than before; if not, nothing is.
+    /// more names first. It takes no memory. If it says that there may be more, less is left than before; if not, nothing is. No turn is
+    /// long, but in the latest second: there a name is dead or never ends, and one turn visits each name.
     pub fn sweep_some(&mut self, moment: u64) -> bool
         requires whole { IsShelf self.old }
         ensures whole { IsShelf self.new }
         ensures faces { (chosen : ℕ → Bool) (q : Question) →
             alive_at moment (face_of self.new chosen q) ≡ alive_at moment (face_of self.old chosen q) }
         ensures more { result ≡ true →
-            unswept self.new.ends.moments self.new.settling moment < unswept self.old.ends.moments self.old.settling moment }
-        ensures none { result ≡ false → unswept self.new.ends.moments self.new.settling moment ≡ 0 }
+            unswept self.new.ends.moments self.new.settlings.items moment
+            < unswept self.old.ends.moments self.old.settlings.items moment }
+        ensures none { result ≡ false → unswept self.new.ends.moments self.new.settlings.items moment ≡ 0 }
+        ensures short { moment < latest →
+            unswept self.old.ends.moments self.old.settlings.items moment
+            ≤ unswept self.new.ends.moments self.new.settlings.items moment + turn_at_most }
         ensures alive { result ≡ false → AreAlive self.old.kept.items moment self.new.owners × AreNeeded moment self.new }
         ensures flushes { KeepsFlushes self.old self.new }
-        ensures stored { self.new.stored ≤ self.old.stored }
-        ensures pairs { KeepPairs self.old.owners self.new.owners }
+        ensures counted { (self.new.stored ≤ self.old.stored) × KeepPairs self.old.owners self.new.owners }
     {
-        if is_reaching(&self.settling) {
+        if self.is_reaching() {
             self.reach_names();
             return true;
         }
@@ -291,12 +293,6 @@ impl Shelf {
             self.sweep(moment);
             return false;
         }
-        reach_all(
-            &mut self.owners,
-            &mut self.ends,
-            &mut self.stored,
-            &mut self.settling,
-        );
         sweep_few(
             &mut self.owners,
             &mut self.ends,

@@ -27,22 +27,22 @@ use Rattle.shelf.specs.Sweep.{unswept}
 use Rattle.shelf.specs.Told.{chosen_version, shown_version}
 use Rattle.store.specs.declared.world.SavedFlush.{SavedFlush}
 
--- what a shelf holds, by names, the moments before which they need no sweep, which flushes it keeps, the permanent one that has not reached each name, the greatest number so far, how many places count, and how many may
+-- what a shelf holds, by names, the moments before which they need no sweep, which flushes it keeps, the permanent ones that have not reached each name, the greatest number so far, how many places count, and how many may
 pub record Shelved : Type 0 where
   pub names : List (Labels × OwnerCells)
   pub moments : List ℕ
   pub flushes : List KeptFlush
-  pub settling : Option Settling
+  pub settlings : List Settling
   pub top : ℕ
   pub stored : ℕ
   pub limit : ℕ
 
 abbrev pub shelved : Shelf → Shelved
-shelved shelf = record { names = shelf.owners.entries; moments = shelf.ends.moments; flushes = shelf.kept.items; settling = shelf.settling; top = shelf.top; stored = shelf.stored; limit = shelf.limit }
+shelved shelf = record { names = shelf.owners.entries; moments = shelf.ends.moments; flushes = shelf.kept.items; settlings = shelf.settlings.items; top = shelf.top; stored = shelf.stored; limit = shelf.limit }
 
 -- the cell of a question in a version
 abbrev pub cell_at : Shelved → Question → ℕ → Option (Admitted Find)
-cell_at shelf q v = cell_by_owner (lookup (name_eq q.owner) shelf.names) q.kind (settled_version shelf.settling q.owner v)
+cell_at shelf q v = cell_by_owner (lookup (name_eq q.owner) shelf.names) q.kind (settled_version shelf.settlings q.owner v)
 
 -- the cell of a question, if of the kept flushes just the chosen ones were in force
 abbrev pub cell_by : Shelved → (ℕ → Bool) → Question → Option (Admitted Find)
@@ -54,7 +54,7 @@ counts_in shelf pair = option_map_or (λ cells. has_place cells pair.1) (lookup 
 
 -- a bound of what a sweep at a moment has left to do
 abbrev pub unswept_in : Shelved → ℕ → ℕ
-unswept_in shelf t = unswept shelf.moments shelf.settling t
+unswept_in shelf t = unswept shelf.moments shelf.settlings t
 
 abbrev pub fault_told : StoreFault → WorldFault
 fault_told (store.Full stored) = world.Full stored

@@ -3,18 +3,15 @@ use Rattle.shelf.proofs.EndLaws.{ends_mixed}
 use Rattle.shelf.proofs.EvenLaws.{evens_length}
 use Rattle.shelf.specs.Told.{CanSettleFlush}
 use Rattle.shelf.proofs.FaceLaws.{all_removed, ascending_removed, all_first}
-use Rattle.shelf.proofs.SettlingLaws.{within_names}
 use Rattle.shelf.proofs.former.settle_oldest.Goals as goal
 
 pub settle_flush-requires : goal.settle_flush-requires
 settle_flush-requires c = record {
-  low = (
-    within_names c.args.shelf.now.top c.args.shelf.now.owners c.args.shelf.now.settling c.requires.whole.settling,
-    (
-      ap length (c.end_mixed.ensures c.requires.whole.ends.flags).moments ∙ (evens_length c.args.shelf.now.ends.moments c.args.shelf.now.ends.mixed.items ∙ c.requires.whole.ends.now.size),
-      (c.end_mixed.ensures c.requires.whole.ends.flags).flags,
-    ),
+  size = (
+    ap length (c.end_mixed.ensures c.requires.whole.ends.flags).moments ∙ (evens_length c.args.shelf.now.ends.moments c.args.shelf.now.ends.mixed.items ∙ c.requires.whole.ends.now.size),
+    (c.end_mixed.ensures c.requires.whole.ends.flags).flags,
   );
+  room = omega (arith, c.requires.whole.space);
   counted = c.requires.whole.counted;
   settles = all_first (λ own. CanSettleFlush c.args.shelf.now.owners own.number own.flush) c.args.shelf.now.kept.items c.remove-own.result (omega arith) c.remove-own.ensures.value c.requires.whole.settles;
 }
@@ -38,4 +35,5 @@ returns c =
       room = omega (arith, c.remove-own.ensures.len, whole.room);
       ends = c.settle_flush.ensures.ends c.remove-own.new.self.items (ends_mixed shelf.kept.items c.remove-own.new.self.items shelf.owners.entries shelf.ends c.end_mixed.new.ends whole.ends (c.end_mixed.ensures whole.ends.flags));
       settling = moved.settling;
+      space = omega (arith, c.settle_flush.ensures.space.0, c.settle_flush.ensures.space.1, c.remove-own.ensures.len, whole.space);
     }

@@ -10,7 +10,7 @@ use Rattle.shelf.proofs.kept.count_changes.Goals.{then-covers+then-not-is_alike,
 pub loop-own-preserved : goal.loop-own-preserved
 loop-own-preserved c =
     let q = c.args.question.now in
-    let f = settled_cell c.args.settling.now c.args.owners.now q in
+    let f = settled_cell c.args.settlings.now c.args.owners.now q in
     let i = c.loop-own.own-index in
     let kept = c.args.kept.now in
     let own = c.own-item.result in

@@ -7,4 +7,4 @@ use Rattle.shelf.proofs.kept.count_changes.Given as goal
 
 -- those of the versions so far
 abbrev pub invariant-loop-own : goal.invariant-loop-own
-invariant-loop-own l = IsCounted same_cell (settled_cell l.settling l.owners l.question) (numbers_of (take l.own-index l.kept) l.question) l.count l.last × (l.count ≤ l.own-index)
+invariant-loop-own l = IsCounted same_cell (settled_cell l.settlings l.owners l.question) (numbers_of (take l.own-index l.kept) l.question) l.count l.last × (l.count ≤ l.own-index)

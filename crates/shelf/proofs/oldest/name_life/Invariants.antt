@@ -8,4 +8,4 @@ use Rattle.shelf.proofs.oldest.name_life.Given as goal
 
 -- the end by the columns so far
 abbrev pub invariant-loop-own : goal.invariant-loop-own
-invariant-loop-own l = l.end ≡ fold (later_kind l.settling l.kept l.name l.cells) (life_end (whole_held l.cells.whole (settled_version l.settling l.name 0))) (take l.own-index l.cells.kinds.items)
+invariant-loop-own l = l.end ≡ fold (later_kind l.settlings l.kept l.name l.cells) (life_end (whole_held l.cells.whole (settled_version l.settlings l.name 0))) (take l.own-index l.cells.kinds.items)

@@ -1,11 +1,10 @@
-use Rattle.std.proofs.Common.{◌≡◌, ◌≤◌, ◌+◌, ℕ, List}
-use Rattle.std.specs.Map.{keys_of}
+use Rattle.std.proofs.Common.{◌≡◌, ◌≤◌, ℕ, List}
 use Rattle.cell_store.specs.Count.{stored_in, KeepPairs}
 use Rattle.cell_store.specs.Store.{AreUpTo, KeepSettling}
 use Rattle.shelf.specs.declared.shelf.KeptFlush.{KeptFlush}
 use Rattle.shelf.specs.Clean.{AreEnds, HaveEnds}
 use Rattle.shelf.specs.Settling.{IsReaching}
-use Rattle.shelf.specs.Sweep.{count_ended}
+use Rattle.shelf.specs.Sweep.{EndNear}
 use Rattle.shelf.proofs.settling.reach.Given as goal
 
 -- the flush has reached the names from the place on
@@ -20,8 +19,7 @@ invariant-loop-place l = record {
   pairs : KeepPairs l.fn.owners l.owners;
   ends : (kept : List KeptFlush) → AreEnds kept l.fn.owners.entries l.fn.ends → AreEnds kept l.owners.entries l.ends;
   size : HaveEnds l.owners.entries l.ends;
-  names : keys_of l.owners.entries ≡ keys_of l.fn.owners.entries;
-  ended : (t : ℕ) → count_ended t l.ends.moments + l.place ≤ count_ended t l.fn.ends.moments + l.left;
+  ended : EndNear l.fn.ends.moments l.ends.moments l.left l.place;
 }
 
 abbrev pub decreases-loop-place : goal.decreases-loop-place

@@ -1,29 +1,27 @@
-use Rattle.std.proofs.Common.{◌≡◌, ◌≤◌, ◌∙◌, ◌+◌, ◌-◌, Option, Some, refl, sym, ap, subst, arith}
-use Rattle.std.specs.Prelude.{IfSome}
-use Rattle.shelf.specs.declared.settling.Settling.{Settling}
-use Rattle.shelf.specs.Settling.{names_left, unmoved, IsMoved, IsSettling}
-use Rattle.shelf.specs.Sweep.{count_ended}
-use Rattle.shelf.proofs.SettlingLaws.{moved_some}
+use Rattle.std.proofs.Common.{length, arith}
+use Rattle.shelf.specs.Settling.{steps_left}
+use Rattle.shelf.proofs.SettlingLaws.{first_length, is_none, is_some, moved_same, moved_some, near_none, near_some, stepped_none, stepped_some}
 use Rattle.shelf.proofs.settling.reach_some.Goals as goal
 
-pub returns-in-Some-clause-moved : goal.returns-in-Some-clause-moved
-returns-in-Some-clause-moved c = λ top upto is.
-    let old = c.args.owners.now in
-    let new = c.reach-own.new.owners in
-    let was : Settling = record { zone = c.in-Some.own.zone; number = c.in-Some.own.number; left = c.in-Some.own.left } in
-    let now : Settling = record { zone = c.in-Some.own.zone; number = c.in-Some.own.number; left = c.reach-own.result } in
-    let there : c.args.settling.now ≡ Some was = cc in
-    subst (λ (s : Option Settling). IsMoved unmoved top s (Some now) old new) (sym there)
-    (moved_some top was now old new refl refl (omega (arith, c.reach-own.ensures.left.0)) c.reach-own.ensures.names (c.reach-own.ensures.reaching top upto) (subst (λ (s : Option Settling). IfSome s (IsSettling top old)) there is))
+pub returns-then-is_empty-clause-moved : goal.returns-then-is_empty-clause-moved
+returns-then-is_empty-clause-moved c = λ top upto all. moved_same top c.args.settlings.now.items c.args.owners.now upto all
 
-pub returns-in-Some-clause-left : goal.returns-in-Some-clause-left
-returns-in-Some-clause-left c =
-    let was : Settling = record { zone = c.in-Some.own.zone; number = c.in-Some.own.number; left = c.in-Some.own.left } in
-    let there : c.args.settling.now ≡ Some was = cc in
-    c.reach-own.ensures.left.0 ∙ sym (ap (λ (s : Option Settling). names_left s - c.args.most) there)
+pub returns-then-is_empty-clause-left : goal.returns-then-is_empty-clause-left
+returns-then-is_empty-clause-left c = (stepped_none c.args.most c.args.settlings.now.items (is_none _ (length c.args.settlings.now.items) c.is_empty.result c.is_empty.ensures (omega arith) c.if-is_empty.true), near_none c.args.ends.now.moments (steps_left c.args.settlings.now.items))
 
-pub returns-in-Some-clause-ended : goal.returns-in-Some-clause-ended
-returns-in-Some-clause-ended c = λ t.
-    let was : Settling = record { zone = c.in-Some.own.zone; number = c.in-Some.own.number; left = c.in-Some.own.left } in
-    let there : c.args.settling.now ≡ Some was = cc in
-    subst (λ (s : Option Settling). count_ended t c.reach-own.new.ends.moments + c.reach-own.result ≤ count_ended t c.args.ends.now.moments + names_left s) (sym there) (c.reach-own.ensures.ended t)
+pub reach-left-requires : goal.reach-left-requires
+reach-left-requires c = record { size = c.requires.size; counted = c.requires.counted }
+
+pub returns-clause-moved : goal.returns-clause-moved
+returns-clause-moved c = λ top upto all.
+    moved_some top c.reach-left.result c.index-own.result.now c.args.settlings.now.items c.step_first.new.settlings.items c.args.owners.now c.reach-left.new.owners (is_some _ (length c.args.settlings.now.items) c.is_empty.result c.is_empty.ensures (omega arith) c.if-is_empty.false) c.index-own.ensures c.step_first.ensures.items
+    (c.reach-left.ensures.reaching top upto) all
+
+pub returns-clause-room : goal.returns-clause-room
+returns-clause-room c = (first_length c.reach-left.result c.args.settlings.now.items c.step_first.new.settlings.items c.step_first.ensures.items, c.step_first.ensures.capacity)
+
+pub returns-clause-left : goal.returns-clause-left
+returns-clause-left c = (
+  stepped_some c.args.most c.reach-left.result c.index-own.result.now c.args.settlings.now.items c.step_first.new.settlings.items (is_some _ (length c.args.settlings.now.items) c.is_empty.result c.is_empty.ensures (omega arith) c.if-is_empty.false) c.index-own.ensures c.step_first.ensures.items c.reach-left.ensures.left,
+  near_some c.reach-left.result c.index-own.result.now c.args.settlings.now.items c.step_first.new.settlings.items c.args.ends.now.moments c.reach-left.new.ends.moments (is_some _ (length c.args.settlings.now.items) c.is_empty.result c.is_empty.ensures (omega arith) c.if-is_empty.false) c.index-own.ensures c.step_first.ensures.items c.reach-left.ensures.ended,
+)

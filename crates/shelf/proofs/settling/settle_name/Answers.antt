@@ -1,6 +1,3 @@
-use Rattle.std.proofs.Common.{length, ap, ◌∙◌, sym}
-use Rattle.std.proofs.Math.ListN.{length-set}
-use Rattle.cell_store.specs.Store.{name_place}
 use Rattle.shelf.proofs.EndLaws.{ends_reset}
 use Rattle.shelf.proofs.settling.settle_name.Goals as goal
 
@@ -12,7 +9,4 @@ returns-clause-ends c = λ kept is.
     ends_reset kept c.args.name.now c.args.owners.now.entries c.settle_kinds.new.owners.entries c.args.ends.now c.reset.new.ends is c.settle_kinds.ensures.entries.0 c.settle_kinds.ensures.fewer.1 c.reset.ensures
 
 pub returns-clause-names : goal.returns-clause-names
-returns-clause-names c = (
-  c.settle_kinds.ensures.entries.1,
-  (ap length c.reset.ensures.moments ∙ (length-set c.args.ends.now.moments (name_place c.args.name.now c.args.owners.now.entries) 0 ∙ (c.requires.size.0 ∙ sym c.settle_kinds.ensures.fewer.1)), c.reset.ensures.flags),
-)
+returns-clause-names c = c.settle_kinds.ensures.entries.1

@@ -1,10 +1,13 @@
-use Rattle.std.proofs.Common.{Some, sym, subst}
-use Rattle.dns_name.specs.Below.{is_at_or_below}
-use Rattle.cell_store.specs.Owner.{after_settle}
-use Rattle.shelf.specs.Settling.{IsMoved}
+use Rattle.std.proofs.Common.{List, [], ◌∷◌, ◌++◌, ap, ◌∙◌, arith}
+use Rattle.shelf.specs.declared.settling.Settling.{Settling}
+use Rattle.shelf.proofs.SettlingLaws.{moved_zone}
 use Rattle.shelf.proofs.settling.settle_zone.Goals as goal
 
 pub returns-clause-moved : goal.returns-clause-moved
-returns-clause-moved c = λ top older upto is.
-    subst (λ n. IsMoved (λ q v. after_settle (is_at_or_below q.owner c.args.zone) c.args.number v) top c.args.settling.now (Some (record { zone = c.args.zone; number = c.args.number; left = n })) c.args.owners.now c.make_way.new.owners)
-    (sym c.len.ensures.len) (c.make_way.ensures.moved top older upto is)
+returns-clause-moved c = λ top older upto all.
+    let own : Settling = record { zone = c.args.zone; number = c.args.number; left = c.len.result } in
+    moved_zone top c.args.zone c.args.number c.len.result c.args.settlings.now.items c.push_reserved.new.self.items c.args.owners.now older upto all c.len.ensures.len
+    (c.push_reserved.ensures.items ∙ ap (λ (l : List Settling). l ++ own ∷ []) c.drop_outdone.ensures.items)
+
+pub returns-clause-room : goal.returns-clause-room
+returns-clause-room c = (omega (arith, c.push_reserved.ensures.len, c.drop_outdone.ensures.room.0), c.push_reserved.ensures.capacity ∙ c.drop_outdone.ensures.room.1)

@@ -1,4 +1,4 @@
-use Rattle.std.proofs.Common.{◌≡◌, ◌≤◌, ◌+◌, vec_capacity}
+use Rattle.std.proofs.Common.{◌≡◌, ◌+◌, vec_capacity}
 use Rattle.shelf.specs.Sweep.{count_ended, IsUnderway}
 use Rattle.shelf.proofs.sweep.sweep_few.Given as goal
 
@@ -6,7 +6,7 @@ use Rattle.shelf.proofs.sweep.sweep_few.Given as goal
 abbrev pub invariant-loop-left : goal.invariant-loop-left
 invariant-loop-left l = record {
   underway : IsUnderway l.kept l.moment l.moment l.fn.owners l.fn.stored l.owners l.ends l.stored;
-  fewer : count_ended l.moment l.ends.moments + 256 ≤ count_ended l.moment l.fn.ends.moments + l.left;
+  fewer : count_ended l.moment l.ends.moments + 256 ≡ count_ended l.moment l.fn.ends.moments + l.left;
   capacity : vec_capacity l.numbers ≡ vec_capacity l.fn.numbers;
 }
 

@@ -1,4 +1,4 @@
-use Rattle.std.proofs.Common.{ℕ, List, ◌<◌, length, true, false, sym, ap, subst, arith}
+use Rattle.std.proofs.Common.{◌≡◌, ◌+◌, ℕ, List, ◌<◌, length, true, false, sym, ap, subst, arith}
 use Rattle.cell_store.specs.Store.{IsDroppedAt}
 use Rattle.shelf.specs.Sweep.{count_ended}
 use Rattle.shelf.specs.declared.lasts.Lasts.{Lasts}
@@ -36,7 +36,7 @@ returns-then-drop_if_uncounted-clause-on c = λ asked most first before small is
 pub returns-then-drop_if_uncounted-clause-ended : goal.returns-then-drop_if_uncounted-clause-ended
 returns-then-drop_if_uncounted-clause-ended c = λ asked before small is.
     let low : c.args.place < length c.args.ends.now.moments = omega (arith, c.requires.low.0, c.requires.low.1) in
-    subst (λ (l : List ℕ). count_ended asked l < count_ended asked c.args.ends.now.moments) (sym c.drop_at.ensures.moments) (ended_gone asked c.args.ends.now.moments c.args.place low is)
+    subst (λ (l : List ℕ). count_ended asked l + 1 ≡ count_ended asked c.args.ends.now.moments) (sym c.drop_at.ensures.moments) (ended_gone asked c.args.ends.now.moments c.args.place low is)
 
 pub returns-else-drop_if_uncounted-clause-on : goal.returns-else-drop_if_uncounted-clause-on
 returns-else-drop_if_uncounted-clause-on c = λ asked most first before small is.
@@ -52,6 +52,6 @@ returns-else-drop_if_uncounted-clause-ended c = λ asked before small is.
     subst (λ b. IsDroppedAt c.args.place c.sweep_at-end.new.owners.entries c.drop_if_uncounted.new.owners.entries b) c.if-drop_if_uncounted.false c.drop_if_uncounted.ensures.entries in
     let low : c.args.place < length c.args.ends.now.moments = omega (arith, c.requires.low.0, c.requires.low.1) in
     let low' : c.args.place < length c.sweep_at-end.new.owners.entries = omega (arith, c.requires.low.0, c.sweep_at-end.ensures.swept.size) in
-    subst (λ (l : List ℕ). count_ended asked l < count_ended asked c.args.ends.now.moments) (sym c.put.ensures.moments)
+    subst (λ (l : List ℕ). count_ended asked l + 1 ≡ count_ended asked c.args.ends.now.moments) (sym c.put.ensures.moments)
     (ended_set asked c.args.ends.now.moments c.args.place c.sweep_at-end.result.0 low is
     (later_of c.args.kept.now c.args.moment c.args.place c.sweep_at-end.result.0 asked c.sweep_at-end.new.owners.entries low' c.sweep_at-end.ensures.swept.next stays.1 before small))

@@ -10,12 +10,13 @@ use Rattle.shelf.specs.declared.ends.Ends.{Ends}
 use Rattle.shelf.specs.Clean.{dropped, AreBy, AreEnds}
 use Rattle.shelf.specs.Lasts.{AreWinners}
 use Rattle.shelf.proofs.EndLaws.{gone_ends, gone_low, gone_winners}
+use Rattle.shelf.specs.Settling.{settled_version}
 use Rattle.shelf.specs.Told.{chosen_version}
 use Rattle.dns_name.specs.Order.{name_eq}
 use Rattle.shelf.proofs.AboutLaws.{about_forgot}
 use Rattle.shelf.proofs.PlaceLaws.{fewer_left}
 use Rattle.shelf.proofs.FaceLaws.{settles_each}
-use Rattle.shelf.proofs.SettlingLaws.{forgot_face, forgot_settling}
+use Rattle.shelf.proofs.SettlingLaws.{forgot_settling}
 use Rattle.shelf.proofs.shelf.Shelf.forget.Goals as goal
 
 -- the place that the name had
@@ -45,7 +46,7 @@ remove-requires c =
 pub returns-clause-faces : goal.returns-clause-faces
 returns-clause-faces c = λ chosen q.
     let self = c.args.self.now in
-    forgot_face self.owners c.forget_place-place.new.owners c.args.owner.now (length c.forget_place-place.new.owners.entries) c.forget_place-place.ensures.cells self.settling c.fit_place.new.settling c.fit_place.ensures q (chosen_version self.kept.items q chosen)
+    c.forget_place-place.ensures.cells q (settled_version self.settlings.items q.owner (chosen_version self.kept.items q chosen))
 
 pub returns-clause-whole : goal.returns-clause-whole
 returns-clause-whole c =
@@ -66,7 +67,8 @@ returns-clause-whole c =
           (subst (λ (l : List (Labels × OwnerCells)). AreWinners l c.remove.new.self) c.forget_place-place.ensures.gone.2
           (c.remove.ensures.winners self.owners.entries c.args.owner.now c.forget_place-place.ensures.gone.0 c.forget_place-place.ensures.gone.2
           (gone_winners self.kept.items c.args.owner.now self.owners.entries self.ends c.drop_end.new.ends whole.ends (by c.args.owner.now self.owners.entries c.forget_place-place.result self.ends c.drop_end.new.ends c.forget_place-place.ensures.gone.0 c.drop_end.ensures)))));
-      settling = forgot_settling self.top self.owners c.forget_place-place.new.owners c.args.owner.now c.forget_place-place.ensures.cells c.forget_place-place.ensures.gone.2 self.settling c.fit_place.new.settling c.fit_place.ensures whole.settling;
+      settling = forgot_settling self.top self.owners c.forget_place-place.new.owners c.args.owner.now c.forget_place-place.ensures.cells c.forget_place-place.ensures.gone.2 self.settlings.items whole.settling;
+      space = whole.space;
     }
 
 pub returns-clause-stored : goal.returns-clause-stored

@@ -29,7 +29,7 @@ use Rattle.shelf.proofs.AboutLaws.{about_admitted}
 use Rattle.shelf.proofs.ShelfLaws.{told_more}
 use Rattle.shelf.proofs.ShelfLaws as shelf
 use Rattle.shelf.proofs.FaceLaws.{chosen_low, settles_kept}
-use Rattle.shelf.proofs.SettlingLaws.{admitted_settling, held_settling, size_more, version_low}
+use Rattle.shelf.proofs.SettlingLaws.{admitted_settling, held_settling, version_low}
 use Rattle.shelf.proofs.shelf.Shelf.hold.Goals as goal
 
 -- the place that a look-up has found, by the number of the moments
@@ -99,8 +99,9 @@ reach_names-requires c =
         small = c.requires.whole.small;
         room = c.requires.whole.room;
         ends = held_ends self c.admit_at-result.new.owners c.args.find c.args.find c.touch.new.ends c.fit.new.ends c.requires.whole.ends c.admit_at-result.ensures.bound.2 refl (touched_by self c.args.find c.args.place c.touch.new.ends c.requires.whole c.requires.room.0 c.in_ok-touch.ensures.ok) c.fit.ensures.ends c.follow.new.self c.follow.ensures.ends c.follow.ensures.winners;
-        settling = admitted_settling self.top self.owners c.admit_at-result.new.owners c.args.find.owner c.admit_at-result.ensures.bound.2.names (size_more self.owners.entries c.admit_at-result.new.owners.entries c.args.find.owner c.admit_at-result.ensures.bound.2.size)
-            c.args.find c.args.moment cells self.settling c.requires.whole.settling;
+        settling = admitted_settling self.top self.owners c.admit_at-result.new.owners c.args.find.owner c.admit_at-result.ensures.bound.2.names
+            c.args.find c.args.moment cells self.settlings.items c.requires.whole.settling;
+        space = c.requires.whole.space;
       };
     }
 
@@ -111,19 +112,19 @@ returns-clause-admitted c =
     let done : c.admit_at-result.result ≡ Ok c.in_ok-result.field-0 = cc in
     let cells = held_ok c.admit_at-result.result c.in_ok-result.field-0 c.admit_at-result.ensures.cells done in
     let kept = c.reach_names.ensures.flushes.0 in
-    let low = version_low self.owners self.top self.settling c.requires.whole.settling in
+    let low = version_low self.owners self.top self.settlings.items c.requires.whole.settling in
     record {
       cells = λ told is question version there.
           let was = subst (λ (l : List KeptFlush). is_version l question version ≡ true) kept there in
           c.reach_names.ensures.cells question version
-          ∙ (cells question (settled_version self.settling question.owner version) (low question.owner version (shelf.version_low self.kept.items self.top question version c.requires.whole.numbers was))
+          ∙ (cells question (settled_version self.settlings.items question.owner version) (low question.owner version (shelf.version_low self.kept.items self.top question version c.requires.whole.numbers was))
           ∙ (ap (λ (h : Option (Admitted Find)). cond (touches c.args.find question) (after_admission h new) h) (is question version was)
           ∙ sym (told_more question (only version) told (admitted c.args.find c.args.moment))));
       faces = λ chosen q.
           let version = chosen_version self.kept.items q chosen in
           ap (λ (l : List KeptFlush). cell_at c.reach_names.new.self q (chosen_version l q chosen)) kept
           ∙ (c.reach_names.ensures.cells q version
-          ∙ cells q (settled_version self.settling q.owner version) (low q.owner version (chosen_low self.top self.kept.items q chosen c.requires.whole.numbers)));
+          ∙ cells q (settled_version self.settlings.items q.owner version) (low q.owner version (chosen_low self.top self.kept.items q chosen c.requires.whole.numbers)));
       pairs = λ pair has. c.admit_at-result.ensures.bound.1 pair (c.reach_names.ensures.pairs pair has);
     }
 
@@ -149,7 +150,8 @@ returns-in_err-result-clause-whole c =
       room = c.requires.whole.room;
       ends = held_ends self c.admit_at-result.new.owners c.args.find c.args.find c.touch.new.ends c.fit.new.ends c.requires.whole.ends c.admit_at-result.ensures.bound.2 refl (touched_by self c.args.find c.args.place c.touch.new.ends c.requires.whole c.requires.room.0 c.in_ok-touch.ensures.ok) c.fit.ensures.ends c.follow.new.self c.follow.ensures.ends c.follow.ensures.winners;
       settling = held_settling self.owners c.admit_at-result.new.owners c.args.find c.args.moment self.top self.stored c.admit_at-result.new.stored c.admit_at-result.result c.admit_at-result.ensures.cells c.admit_at-result.ensures.err c.admit_at-result.ensures.bound.2.names
-          (size_more self.owners.entries c.admit_at-result.new.owners.entries c.args.find.owner c.admit_at-result.ensures.bound.2.size) self.settling c.requires.whole.settling;
+          self.settlings.items c.requires.whole.settling;
+      space = c.requires.whole.space;
     }
 
 pub returns-in_err-touch-clause-whole : goal.returns-in_err-touch-clause-whole
@@ -168,6 +170,7 @@ returns-in_err-touch-clause-whole c =
       room = whole.room;
       ends = ends_same self.kept.items self.owners.entries self.ends c.touch.new.ends c.in_err-touch.ensures.err whole.ends;
       settling = whole.settling;
+      space = whole.space;
     }
 
 pub returns-in_err-touch-clause-fault : goal.returns-in_err-touch-clause-fault

@@ -1,8 +1,14 @@
-use Rattle.std.proofs.Common.{◌≤◌, List, length, true, inl, refl, sym, ap, ◌∙◌, subst, arith}
+use Rattle.std.proofs.Common.{◌≡◌, ◌≤◌, ℕ, List, length, true, inl, refl, sym, ap, ◌∙◌, subst, arith}
 use Rattle.std.specs.List.{AllByRecursion}
+use Rattle.std.specs.Prelude.{Result, Ok, Err, OnErr}
+use Rattle.dns_text.specs.declared.record.Question.{Question}
+use Rattle.cell_store.specs.Count.{KeepPairs}
+use Rattle.cell_store.specs.Store.{AreSameCells}
+use Rattle.shelf.specs.declared.settling.Settling.{Settling}
 use Rattle.shelf.specs.declared.shelf.KeptFlush.{KeptFlush}
-use Rattle.shelf.specs.Settling.{settled_cell, settled_version}
-use Rattle.shelf.specs.Told.{cell_at, is_version, IsAscending, CanSettleFlush}
+use Rattle.shelf.specs.declared.shelf.Shelf.{Shelf}
+use Rattle.shelf.specs.Settling.{settled_cell, settled_version, IsSettling}
+use Rattle.shelf.specs.Told.{cell_at, chosen_version, is_version, IsAscending, IsSame, CanSettleFlush}
 use Rattle.shelf.specs.Clean.{AreEnds}
 use Rattle.shelf.proofs.EndLaws.{ends_kept, reset_ends, version_more}
 use Rattle.shelf.proofs.AboutLaws.{about_same}
@@ -22,12 +28,13 @@ returns-clause-flushed c =
     let self = c.args.self.now in
     record {
       cells = λ told is question version there.
-          c.open_flush.ensures.cells question (settled_version self.settling question.owner version)
-          ∙ flush_told (cell_at self) self.kept.items self.top told c.args.flush c.args.number (nothing_settled self.owners self.top self.settling c.requires.whole.upto) c.requires.whole.numbers c.requires.newest is question version
-          (ap (λ (l : List KeptFlush). is_version l question version) (sym c.in_ok-push.ensures.items) ∙ there);
+          ap (λ (l : List Settling). settled_cell l c.open_flush.new.owners question version) c.reserve_settlings.ensures.items
+          ∙ (c.open_flush.ensures.cells question (settled_version self.settlings.items question.owner version)
+          ∙ flush_told (cell_at self) self.kept.items self.top told c.args.flush c.args.number (nothing_settled self.owners self.top self.settlings.items c.requires.whole.upto) c.requires.whole.numbers c.requires.newest is question version
+          (ap (λ (l : List KeptFlush). is_version l question version) (sym c.in_ok-push.ensures.items) ∙ there));
       kept = c.in_ok-push.ensures.items;
-      faces = flush_face (cell_at self) (settled_cell self.settling c.open_flush.new.owners) self.kept.items c.push.new.self.items (record { flush = c.args.flush; number = c.args.number; shown = true })
-          (λ q. nothing_settled self.owners self.top self.settling c.requires.whole.upto q c.args.number c.requires.newest) (λ q v. c.open_flush.ensures.cells q (settled_version self.settling q.owner v)) c.in_ok-push.ensures.items;
+      faces = flush_face (cell_at self) (settled_cell c.reserve_settlings.new.settlings.items c.open_flush.new.owners) self.kept.items c.push.new.self.items (record { flush = c.args.flush; number = c.args.number; shown = true })
+          (λ q. nothing_settled self.owners self.top self.settlings.items c.requires.whole.upto q c.args.number c.requires.newest) (λ q v. ap (λ (l : List Settling). settled_cell l c.open_flush.new.owners q v) c.reserve_settlings.ensures.items ∙ c.open_flush.ensures.cells q (settled_version self.settlings.items q.owner v)) c.in_ok-push.ensures.items;
       top = refl;
       pairs = c.open_flush.ensures.pairs;
     }
@@ -51,8 +58,10 @@ returns-clause-whole c =
       room = omega (arith, c.in_ok-reserve.ensures.room, c.in_ok-push.ensures.len, c.len.ensures);
       ends = ends_kept self.kept.items c.push.new.self.items (λ q v there. ap (λ (l : List KeptFlush). is_version l q v) c.in_ok-push.ensures.items ∙ version_more self.kept.items own q v there) owners.entries c.reset.new.ends
           (reset_ends self owners c.args.flush c.reset.new.ends c.requires.whole.ends c.open_flush.ensures.entries.0 c.open_flush.ensures.entries.1 c.reset.ensures);
-      settling = newer_settling self.top c.args.number owners (omega (arith, c.requires.newest)) self.settling
-          (kept_settling self.top self.owners owners c.args.flush.name (inl c.open_flush.ensures.entries.2) (omega (arith, c.open_flush.ensures.entries.1)) c.open_flush.ensures.cells self.settling c.requires.whole.settling);
+      settling = subst (λ (l : List Settling). AllByRecursion (IsSettling c.args.number owners) l) (sym c.reserve_settlings.ensures.items)
+          (newer_settling self.top c.args.number owners (omega (arith, c.requires.newest)) self.settlings.items
+          (kept_settling self.top self.owners owners c.args.flush.name (inl c.open_flush.ensures.entries.2) c.open_flush.ensures.cells self.settlings.items c.requires.whole.settling));
+      space = omega (arith, c.in_ok-reserve_settlings.ensures.room, c.in_ok-push.ensures.len, c.len-2.ensures);
     }
 
 pub returns-in_err-push-clause-whole : goal.returns-in_err-push-clause-whole
@@ -73,7 +82,8 @@ returns-in_err-push-clause-whole c =
       room = omega (arith, ap length items, c.reserve.ensures.more, whole.room);
       ends = subst (λ (l : List KeptFlush). AreEnds l owners.entries c.reset.new.ends) (sym items)
           (reset_ends self owners c.args.flush c.reset.new.ends whole.ends c.open_flush.ensures.entries.0 c.open_flush.ensures.entries.1 c.reset.ensures);
-      settling = kept_settling self.top self.owners owners c.args.flush.name (inl c.open_flush.ensures.entries.2) (omega (arith, c.open_flush.ensures.entries.1)) c.open_flush.ensures.cells self.settling whole.settling;
+      settling = subst (λ (l : List Settling). AllByRecursion (IsSettling self.top owners) l) (sym c.reserve_settlings.ensures.items) (kept_settling self.top self.owners owners c.args.flush.name (inl c.open_flush.ensures.entries.2) c.open_flush.ensures.cells self.settlings.items whole.settling);
+      space = omega (arith, ap length items, ap length c.reserve_settlings.ensures.items, c.reserve_settlings.ensures.more, whole.space);
     }
 
 pub returns-in_err-open_flush-clause-whole : goal.returns-in_err-open_flush-clause-whole
@@ -92,5 +102,52 @@ returns-in_err-open_flush-clause-whole c =
       small = whole.small;
       room = omega (arith, c.reserve.ensures.more, whole.room);
       ends = reset_ends self owners c.args.flush c.reset.new.ends whole.ends c.open_flush.ensures.entries.0 c.open_flush.ensures.entries.1 c.reset.ensures;
-      settling = kept_settling self.top self.owners owners c.args.flush.name (inl c.open_flush.ensures.entries.2) (omega (arith, c.open_flush.ensures.entries.1)) c.open_flush.ensures.cells self.settling whole.settling;
+      settling = subst (λ (l : List Settling). AllByRecursion (IsSettling self.top owners) l) (sym c.reserve_settlings.ensures.items) (kept_settling self.top self.owners owners c.args.flush.name (inl c.open_flush.ensures.entries.2) c.open_flush.ensures.cells self.settlings.items whole.settling);
+      space = omega (arith, ap length c.reserve_settlings.ensures.items, c.reserve_settlings.ensures.more, whole.space);
     }
+
+pub returns-in_err-reserve_settlings-clause-whole : goal.returns-in_err-reserve_settlings-clause-whole
+returns-in_err-reserve_settlings-clause-whole c =
+    let self = c.args.self.now in
+    let whole = c.requires.whole in
+    record {
+      upto = whole.upto;
+      about = whole.about;
+      numbers = whole.numbers;
+      ascending = whole.ascending;
+      settles = whole.settles;
+      counted = whole.counted;
+      few = whole.few;
+      small = whole.small;
+      room = omega (arith, c.reserve.ensures.more, whole.room);
+      ends = whole.ends;
+      settling = subst (λ (l : List Settling). AllByRecursion (IsSettling self.top self.owners) l) (sym c.reserve_settlings.ensures.items) whole.settling;
+      space = omega (arith, ap length c.reserve_settlings.ensures.items, c.reserve_settlings.ensures.more, whole.space);
+    }
+
+-- the same cells and flushes, in a shelf that was refused memory
+same_shelf : (old new : Shelf) → new.settlings.items ≡ old.settlings.items → AreSameCells old.owners new.owners → new.kept.items ≡ old.kept.items → new.top ≡ old.top → new.stored ≡ old.stored → KeepPairs old.owners new.owners → IsSame old new
+same_shelf old new settlings cells kept top stored pairs = record {
+  cells = λ told is q v there. at q v ∙ is q v (ap (λ (l : List KeptFlush). is_version l q v) (sym kept) ∙ there);
+  faces = λ chosen q. ap (λ (l : List KeptFlush). cell_at new q (chosen_version l q chosen)) kept ∙ at q (chosen_version old.kept.items q chosen);
+  kept = kept;
+  top = top;
+  stored = stored;
+  pairs = pairs;
+}
+  where
+    at : (q : Question) (v : ℕ) → cell_at new q v ≡ cell_at old q v
+    at q v = ap (λ (l : List Settling). settled_cell l new.owners q v) settlings ∙ cells q (settled_version old.settlings.items q.owner v)
+
+on_err : {T E : Type 0} (P : Type 0) (r : Result T E) → P → OnErr r P
+on_err P (Ok done) is = tt
+on_err P (Err fault) is = is
+
+pub returns-in_err-reserve_settlings-clause-same : goal.returns-in_err-reserve_settlings-clause-same
+returns-in_err-reserve_settlings-clause-same c = on_err _ _ (same_shelf _ _ c.reserve_settlings.ensures.items (λ q v. refl) refl refl refl (λ pair has. has))
+
+pub returns-in_err-open_flush-clause-same : goal.returns-in_err-open_flush-clause-same
+returns-in_err-open_flush-clause-same c = on_err _ _ (same_shelf _ _ c.reserve_settlings.ensures.items c.open_flush.ensures.cells refl refl refl c.open_flush.ensures.pairs)
+
+pub returns-in_err-push-clause-same : goal.returns-in_err-push-clause-same
+returns-in_err-push-clause-same c = on_err _ _ (same_shelf _ _ c.reserve_settlings.ensures.items c.open_flush.ensures.cells c.in_err-push.ensures.items refl refl c.open_flush.ensures.pairs)

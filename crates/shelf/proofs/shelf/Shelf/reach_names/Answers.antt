@@ -1,16 +1,18 @@
 use Rattle.std.proofs.Common.{arith}
 use Rattle.shelf.proofs.FaceLaws.{settles_each}
-use Rattle.shelf.proofs.SettlingLaws.{within_names}
 use Rattle.shelf.proofs.shelf.Shelf.reach_names.Goals as goal
 
 pub reach_some-requires : goal.reach_some-requires
-reach_some-requires c = record {
-  low = (within_names c.args.self.now.top c.args.self.now.owners c.args.self.now.settling c.requires.whole.settling, (c.requires.whole.ends.now.size, c.requires.whole.ends.flags));
-  counted = c.requires.whole.counted;
-}
+reach_some-requires c = record { size = (c.requires.whole.ends.now.size, c.requires.whole.ends.flags); counted = c.requires.whole.counted }
 
 pub returns-clause-cells : goal.returns-clause-cells
 returns-clause-cells c = (c.reach_some.ensures.moved c.args.self.now.top c.requires.whole.upto c.requires.whole.settling).cells
+
+pub returns-clause-left : goal.returns-clause-left
+returns-clause-left c = c.reach_some.ensures.left.0
+
+pub returns-clause-ended : goal.returns-clause-ended
+returns-clause-ended c = c.reach_some.ensures.left.1
 
 pub returns-clause-whole : goal.returns-clause-whole
 returns-clause-whole c =
@@ -29,4 +31,5 @@ returns-clause-whole c =
       room = whole.room;
       ends = c.reach_some.ensures.ends self.kept.items whole.ends;
       settling = moved.settling;
+      space = omega (arith, c.reach_some.ensures.room.0, c.reach_some.ensures.room.1, whole.space);
     }

@@ -1,4 +1,4 @@
-use Rattle.std.proofs.Common.{◌≡◌, ◌≤◌, true, List, [], length, sym, ap, subst, arith}
+use Rattle.std.proofs.Common.{◌≡◌, ◌≤◌, true, None, List, [], length, refl, sym, ap, subst, arith}
 use Rattle.std.specs.Prelude.{IfSome}
 use Rattle.std.specs.List.{AllByRecursion}
 use Rattle.std.specs.Map.{lookup}
@@ -12,7 +12,13 @@ use Rattle.cell_store.specs.Store.{cell_by_owner}
 use Rattle.shelf.specs.declared.shelf.KeptFlush.{KeptFlush}
 use Rattle.shelf.specs.Clean.{AreEnds}
 use Rattle.shelf.specs.Told.{CanSettleFlush, IsAscending}
+use Rattle.shelf.specs.declared.settling.Settling.{Settling}
+use Rattle.shelf.specs.Settling.{settled_version, IsSettling}
 use Rattle.shelf.proofs.shelf.Shelf.seeded.Goals as goal
+
+pub returns-clause-cells : goal.returns-clause-cells
+returns-clause-cells c = λ q v there.
+    subst (λ (l : List (Labels × OwnerCells)). cell_by_owner (lookup (name_eq q.owner) l) q.kind (settled_version c.new-3.result.items q.owner v) ≡ None) (sym c.with_hasher.ensures.empty) refl
 
 pub returns-clause-whole : goal.returns-clause-whole
 returns-clause-whole c =
@@ -31,5 +37,6 @@ returns-clause-whole c =
       small = c.requires;
       room = omega (arith, ap length none);
       ends = subst (λ (l : List (Labels × OwnerCells)). AreEnds kept l c.no_ends.result) (sym empty) (c.no_ends.ensures kept);
-      settling = tt;
+      settling = subst (λ (l : List Settling). AllByRecursion (IsSettling 0 owners) l) (sym c.new-3.ensures.items) tt;
+      space = omega (arith, ap length none, ap length c.new-3.ensures.items);
     }

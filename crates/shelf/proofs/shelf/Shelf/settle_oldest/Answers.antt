@@ -4,18 +4,15 @@ use Rattle.shelf.proofs.EvenLaws.{evens_length}
 use Rattle.shelf.specs.Settling.{settled_cell}
 use Rattle.shelf.specs.Told.{cell_at, CanSettleFlush}
 use Rattle.shelf.proofs.FaceLaws.{removed_face, removed_kept, all_removed, ascending_removed, all_first}
-use Rattle.shelf.proofs.SettlingLaws.{within_names}
 use Rattle.shelf.proofs.shelf.Shelf.settle_oldest.Goals as goal
 
 pub settle_flush-requires : goal.settle_flush-requires
 settle_flush-requires c = record {
-  low = (
-    within_names c.args.self.now.top c.args.self.now.owners c.args.self.now.settling c.requires.whole.settling,
-    (
-      ap length (c.end_mixed.ensures c.requires.whole.ends.flags).moments ∙ (evens_length c.args.self.now.ends.moments c.args.self.now.ends.mixed.items ∙ c.requires.whole.ends.now.size),
-      (c.end_mixed.ensures c.requires.whole.ends.flags).flags,
-    ),
+  size = (
+    ap length (c.end_mixed.ensures c.requires.whole.ends.flags).moments ∙ (evens_length c.args.self.now.ends.moments c.args.self.now.ends.mixed.items ∙ c.requires.whole.ends.now.size),
+    (c.end_mixed.ensures c.requires.whole.ends.flags).flags,
   );
+  room = omega (arith, c.requires.whole.space);
   counted = c.requires.whole.counted;
   settles = all_first (λ own. CanSettleFlush c.args.self.now.owners own.number own.flush) c.args.self.now.kept.items c.remove-own.result (omega arith) c.remove-own.ensures.value c.requires.whole.settles;
 }
@@ -24,7 +21,7 @@ pub returns-clause-faces : goal.returns-clause-faces
 returns-clause-faces c =
     let self = c.args.self.now in
     let older = all_first (λ own. own.number ≤ self.top) self.kept.items c.remove-own.result (omega arith) c.remove-own.ensures.value c.requires.whole.numbers in
-    removed_face (cell_at self) (settled_cell c.settle_flush.new.settling c.settle_flush.new.owners) self.kept.items c.remove-own.new.self.items c.remove-own.result c.requires.whole.ascending c.remove-own.ensures.value c.remove-own.ensures.items
+    removed_face (cell_at self) (settled_cell c.settle_flush.new.settlings.items c.settle_flush.new.owners) self.kept.items c.remove-own.new.self.items c.remove-own.result c.requires.whole.ascending c.remove-own.ensures.value c.remove-own.ensures.items
     (c.settle_flush.ensures.moved self.top older c.requires.whole.upto c.requires.whole.settling).cells
 
 pub returns-clause-kept : goal.returns-clause-kept
@@ -49,4 +46,5 @@ returns-clause-whole c =
       room = omega (arith, c.remove-own.ensures.len, whole.room);
       ends = c.settle_flush.ensures.ends c.remove-own.new.self.items (ends_mixed self.kept.items c.remove-own.new.self.items self.owners.entries self.ends c.end_mixed.new.ends whole.ends (c.end_mixed.ensures whole.ends.flags));
       settling = moved.settling;
+      space = omega (arith, c.settle_flush.ensures.space.0, c.settle_flush.ensures.space.1, c.remove-own.ensures.len, whole.space);
     }

@@ -1,71 +1,101 @@
-use Rattle.std.proofs.Common.{Option, List, sym, ap, ◌∙◌, subst, arith}
-use Rattle.std.specs.Prelude.{IfSome}
+use Rattle.std.proofs.Common.{◌≡◌, List, [], true, refl, sym, ap, ◌∙◌, subst, arith}
+use Rattle.std.specs.List.{AllByRecursion}
 use Rattle.cell_store.specs.Sweep.{alive_at}
 use Rattle.shelf.specs.declared.settling.Settling.{Settling}
 use Rattle.shelf.specs.declared.shelf.KeptFlush.{KeptFlush}
 use Rattle.shelf.specs.declared.shelf.Shelf.{Shelf}
 use Rattle.shelf.specs.Clean.{AreEnds}
-use Rattle.shelf.specs.Settling.{settled_cell, IsSettling}
+use Rattle.shelf.specs.Settling.{reached_at_once, settled_cell, IsSettling}
 use Rattle.shelf.specs.Sweep.{AreAlive, AreLessened}
-use Rattle.shelf.specs.Told.{chosen_version}
+use Rattle.shelf.specs.Told.{chosen_version, is_version}
 use Rattle.shelf.proofs.FaceLaws.{settles_each}
 use Rattle.shelf.proofs.RoomLaws.{chosen_is_version}
-use Rattle.shelf.proofs.SettlingLaws.{within_names}
+use Rattle.shelf.proofs.SettlingLaws.{fewer_steps}
 use Rattle.shelf.proofs.NeedLaws.{needed}
 use Rattle.shelf.proofs.VisitLaws.{turn_none}
 use Rattle.shelf.proofs.shelf.Shelf.sweep.Goals as goal
 
-pub reach_all-requires : goal.reach_all-requires
-reach_all-requires c = record {
-  low = (within_names c.args.self.now.top c.args.self.now.owners c.args.self.now.settling c.requires.whole.settling, (c.requires.whole.ends.now.size, c.requires.whole.ends.flags));
-  counted = c.requires.whole.counted;
-}
+pub loop-self-init : goal.loop-self-init
+loop-self-init c = record { whole = c.requires.whole; cells = λ q v. refl; flushes = (refl, refl, refl); stored = omega arith; pairs = λ pair has. has }
+
+pub reach_names-requires : goal.reach_names-requires
+reach_names-requires c = record { whole = c.loop-self.invariant.whole }
+
+pub loop-self-preserved : goal.loop-self-preserved
+loop-self-preserved c =
+    let was = c.loop-self.invariant in
+    let now = c.reach_names.ensures in
+    record {
+      whole = now.whole;
+      cells = λ q v. now.cells q v ∙ was.cells q v;
+      flushes = (now.flushes.0 ∙ was.flushes.0, now.flushes.1 ∙ was.flushes.1, now.flushes.2 ∙ was.flushes.2);
+      stored = omega (arith, now.stored, was.stored);
+      pairs = λ pair has. was.pairs pair (now.pairs pair has);
+    }
+
+pub loop-self-smaller : goal.loop-self-smaller
+loop-self-smaller c =
+    fewer_steps reached_at_once c.loop-self.self.settlings.items c.reach_names.new.self.settlings.items (omega arith) (c.is_reaching.ensures.some c.loop-self-test.true) c.reach_names.ensures.left
 
 pub sweep_all-requires-clause-ends : goal.sweep_all-requires-clause-ends
 sweep_all-requires-clause-ends c =
-    subst (λ (l : List KeptFlush). AreEnds l c.reach_all.new.owners.entries c.reach_all.new.ends) (sym c.deref.ensures.value) (c.reach_all.ensures.ends c.args.self.now.kept.items c.requires.whole.ends)
+    subst (λ (l : List KeptFlush). AreEnds l c.loop-self.self.owners.entries c.loop-self.self.ends) (sym c.deref.ensures.value) c.loop-self.invariant.whole.ends
 
 pub returns-clause-faces : goal.returns-clause-faces
 returns-clause-faces c = λ chosen q.
     let self = c.args.self.now in
+    let middle = c.loop-self.self in
+    let none : c.loop-self.self.settlings.items ≡ [] = c.is_reaching.ensures.none c.loop-self-test.false in
     let v = chosen_version self.kept.items q chosen in
-    let moved = c.reach_all.ensures.moved self.top c.requires.whole.upto c.requires.whole.settling in
-    let less = subst (λ (l : List KeptFlush). AreLessened l c.args.moment c.reach_all.new.owners c.sweep_all.new.owners) c.deref.ensures.value c.sweep_all.ensures.less in
-    ap (λ (s : Option Settling). alive_at c.args.moment (settled_cell s c.sweep_all.new.owners q v)) c.reach_all.ensures.none
-    ∙ (less.cells q v (chosen_is_version self.kept.items q chosen)
-    ∙ (sym (ap (λ (s : Option Settling). alive_at c.args.moment (settled_cell s c.reach_all.new.owners q v)) c.reach_all.ensures.none)
-    ∙ ap (alive_at c.args.moment) (moved.cells q v)))
+    let kept = c.loop-self.invariant.flushes.0 in
+    let there : is_version c.loop-self.self.kept.items q (chosen_version c.args.self.now.kept.items q chosen) ≡ true =
+    ap (λ (l : List KeptFlush). is_version l q (chosen_version c.args.self.now.kept.items q chosen)) kept ∙ chosen_is_version self.kept.items q chosen in
+    let less = subst (λ (l : List KeptFlush). AreLessened l c.args.moment c.loop-self.self.owners c.sweep_all.new.owners) c.deref.ensures.value c.sweep_all.ensures.less in
+    ap (λ (l : List KeptFlush). alive_at c.args.moment (settled_cell middle.settlings.items c.sweep_all.new.owners q (chosen_version l q chosen))) kept
+    ∙ (ap (λ (s : List Settling). alive_at c.args.moment (settled_cell s c.sweep_all.new.owners q v)) none
+    ∙ (less.cells q v there
+    ∙ (sym (ap (λ (s : List Settling). alive_at c.args.moment (settled_cell s middle.owners q v)) none)
+    ∙ ap (alive_at c.args.moment) (c.loop-self.invariant.cells q v))))
 
 pub returns-clause-whole : goal.returns-clause-whole
 returns-clause-whole c =
-    let self = c.args.self.now in
-    let whole = c.requires.whole in
-    let moved = c.reach_all.ensures.moved self.top whole.upto whole.settling in
-    let less = subst (λ (l : List KeptFlush). AreLessened l c.args.moment c.reach_all.new.owners c.sweep_all.new.owners) c.deref.ensures.value c.sweep_all.ensures.less in
+    let middle = c.loop-self.self in
+    let whole = c.loop-self.invariant.whole in
+    let none : c.loop-self.self.settlings.items ≡ [] = c.is_reaching.ensures.none c.loop-self-test.false in
+    let less = subst (λ (l : List KeptFlush). AreLessened l c.args.moment c.loop-self.self.owners c.sweep_all.new.owners) c.deref.ensures.value c.sweep_all.ensures.less in
     record {
-      upto = less.upto self.top moved.upto;
-      about = less.about (moved.about whole.about);
+      upto = less.upto middle.top whole.upto;
+      about = less.about whole.about;
       numbers = whole.numbers;
       ascending = whole.ascending;
-      settles = settles_each c.reach_all.new.owners c.sweep_all.new.owners self.kept.items less.settles (settles_each self.owners c.reach_all.new.owners self.kept.items c.reach_all.ensures.settles whole.settles);
+      settles = settles_each middle.owners c.sweep_all.new.owners middle.kept.items less.settles whole.settles;
       counted = c.sweep_all.ensures.counted.0;
-      few = omega (arith, c.sweep_all.ensures.counted.1, c.reach_all.ensures.counted.1, whole.few);
+      few = omega (arith, c.sweep_all.ensures.counted.1, whole.few);
       small = whole.small;
       room = omega (arith, c.sweep_all.ensures.capacity, whole.room);
       ends = subst (λ (l : List KeptFlush). AreEnds l c.sweep_all.new.owners.entries c.sweep_all.new.ends) c.deref.ensures.value c.sweep_all.ensures.ends;
-      settling = subst (λ (s : Option Settling). IfSome s (IsSettling self.top c.sweep_all.new.owners)) (sym c.reach_all.ensures.none) tt;
+      settling = subst (λ (s : List Settling). AllByRecursion (IsSettling middle.top c.sweep_all.new.owners) s) (sym none) tt;
+      space = whole.space;
     }
 
+pub returns-clause-stored : goal.returns-clause-stored
+returns-clause-stored c = omega (arith, c.sweep_all.ensures.counted.1, c.loop-self.invariant.stored)
+
+pub returns-clause-flushes : goal.returns-clause-flushes
+returns-clause-flushes c = c.loop-self.invariant.flushes
+
 pub returns-clause-pairs : goal.returns-clause-pairs
-returns-clause-pairs c = λ pair has. c.reach_all.ensures.pairs pair (c.sweep_all.ensures.less.pairs pair has)
+returns-clause-pairs c = λ pair has. c.loop-self.invariant.pairs pair (c.sweep_all.ensures.less.pairs pair has)
 
 pub returns-clause-none : goal.returns-clause-none
 returns-clause-none c =
-    (c.reach_all.ensures.none, turn_none c.args.moment c.sweep_all.new.ends.moments c.reach_all.new.settling c.reach_all.ensures.none c.sweep_all.ensures.none)
+    let none : c.loop-self.self.settlings.items ≡ [] = c.is_reaching.ensures.none c.loop-self-test.false in
+    (none, turn_none c.args.moment c.sweep_all.new.ends.moments c.loop-self.self.settlings.items none c.sweep_all.ensures.none)
 
 pub returns-clause-alive : goal.returns-clause-alive
 returns-clause-alive c =
-    let self = c.args.self.now in
-    let alive = subst (λ (l : List KeptFlush). AreAlive l c.args.moment c.sweep_all.new.owners) c.deref.ensures.value (c.sweep_all.ensures.alive) in
-    let swept : Shelf = record { alloc = self.alloc; owners = c.sweep_all.new.owners; kept = self.kept; top = self.top; stored = c.sweep_all.new.stored; limit = self.limit; numbers = c.sweep_all.new.numbers; ends = c.sweep_all.new.ends; settling = c.reach_all.new.settling } in
-    (alive, needed swept c.args.moment c.reach_all.ensures.none alive)
+    let middle = c.loop-self.self in
+    let none : c.loop-self.self.settlings.items ≡ [] = c.is_reaching.ensures.none c.loop-self-test.false in
+    let alive = subst (λ (l : List KeptFlush). AreAlive l c.args.moment c.sweep_all.new.owners) c.deref.ensures.value c.sweep_all.ensures.alive in
+    let swept : Shelf = record { alloc = middle.alloc; owners = c.sweep_all.new.owners; kept = middle.kept; top = middle.top; stored = c.sweep_all.new.stored; limit = middle.limit; numbers = c.sweep_all.new.numbers; ends = c.sweep_all.new.ends; settlings = middle.settlings } in
+    (subst (λ (l : List KeptFlush). AreAlive l c.args.moment c.sweep_all.new.owners) c.loop-self.invariant.flushes.0 alive, needed swept c.args.moment none alive)

@@ -34,4 +34,5 @@ returns-clause-whole c = λ is.
       ends = ends_kept kept c.set_shown.new.kept.items (λ q v there. ap (λ (l : List KeptFlush). is_version l q v) c.set_shown.ensures ∙ (same_version c.args.number true kept q v ∙ there))
           c.args.self.now.owners.entries c.args.self.now.ends is.ends;
       settling = is.settling;
+      space = omega (arith, ap length c.set_shown.ensures, length_shown c.args.number true kept, is.space);
     }

@@ -11,9 +11,9 @@ returns-clause-row c = rw (← c.self.view_is) (λ kept h.
 pub returns-clause-counts : goal.returns-clause-counts
 returns-clause-counts c = rw (← c.self.view_is) ((
   omega (arith, c.sweep_some.ensures.flushes.1),
-  c.sweep_some.ensures.stored,
+  c.sweep_some.ensures.counted.0,
   c.sweep_some.ensures.flushes.2,
-  λ pair has. c.sweep_some.ensures.pairs pair has,
+  λ pair has. c.sweep_some.ensures.counted.1 pair has,
 ))
 
 pub returns-clause-more : goal.returns-clause-more
