@@ -286,6 +286,7 @@ pub fn drop_if_uncounted(owners: &mut Owners, place: usize) -> bool
     ensures left { AreLeft owners.old owners.new }
     ensures counted { stored_in owners.new ≡ stored_in owners.old }
     ensures entries { IsDroppedAt place owners.old.entries owners.new.entries result }
+    ensures gone { IfSome (slice_get owners.old.entries place) (λ entry. result ≡ true → get name_eq owners.new entry.0 ≡ None) }
 {
     match owners.get_index(place) {
         Some((_, cells)) if cells.counted() == 0 => {}

@@ -213,7 +213,7 @@ past_reached zone number place owners past q v far =
     let none : get name_eq owners q.owner ≡ None = absent owners.entries q.owner (omega (arith, past, far)) in
     ap (λ (o : Option OwnerCells). cell_by_owner o q.kind (after_settle (is_at_or_below q.owner zone) number v)) none ∙ sym (ap (λ (o : Option OwnerCells). cell_by_owner o q.kind v) none)
 
-reached_low : {S : Type 0} (zone : Labels) (number left : ℕ) (owners : IndexMap Labels OwnerCells S) → AreReached zone number left owners → (q : Question) (v : ℕ) → min left (length owners.entries) ≤ name_place q.owner owners.entries
+pub reached_low : {S : Type 0} (zone : Labels) (number left : ℕ) (owners : IndexMap Labels OwnerCells S) → AreReached zone number left owners → (q : Question) (v : ℕ) → min left (length owners.entries) ≤ name_place q.owner owners.entries
     → cell_of owners q (after_settle (is_at_or_below q.owner zone) number v) ≡ cell_of owners q v
 reached_low zone number left owners is q v far = elim (lt_or (name_place q.owner owners.entries) left) [
   | inr done ↦ is q v done
@@ -497,10 +497,10 @@ at_most test (x ∷ entries) (suc i) e is passes = split (test x.0) (at_most tes
     split false later = omega (arith, later)
 
 -- The entry at a place passes a test.
-record IsThere (test : Labels → Bool) (entries : List (Labels × OwnerCells)) (place : ℕ) : Type 0 where
-  entry : Labels × OwnerCells
-  read : slice_get entries place ≡ Some entry
-  passes : test entry.0 ≡ true
+pub record IsThere (test : Labels → Bool) (entries : List (Labels × OwnerCells)) (place : ℕ) : Type 0 where
+  pub entry : Labels × OwnerCells
+  pub read : slice_get entries place ≡ Some entry
+  pub passes : test entry.0 ≡ true
 
 there : (test : Labels → Bool) (entries : List (Labels × OwnerCells)) → position_or_len test (keys_of entries) < length entries → IsThere test entries (position_or_len test (keys_of entries))
 there test [] low = absurd (omega (arith, low))
@@ -528,7 +528,7 @@ module _ (owner name : Labels) (apart : name_eq owner name ≡ false) (entries :
       let names : name ≡ it.entry.0 = name_eq_exact name it.entry.0 it.passes in
       false≢true (sym apart ∙ (ap (name_eq owner) (names ∙ sym owns) ∙ name_equiv.refl owner))
 
-  swapped_place : min left (length (swap_remove entries place d)) ≤ name_place name (swap_remove entries place d) → left ≤ name_place name entries
+  pub swapped_place : min left (length (swap_remove entries place d)) ≤ name_place name (swap_remove entries place d) → left ≤ name_place name entries
   swapped_place far = elim (lt_or (name_place name entries) left) [
     | inr done ↦ done
     | inl before ↦

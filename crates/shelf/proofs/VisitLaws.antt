@@ -30,12 +30,13 @@ use Rattle.shelf.specs.declared.settling.Settling.{Settling}
 use Rattle.shelf.specs.Settling.{reached_at_once, steps_left, HaveStepped}
 use Rattle.shelf.specs.Sweep.{asked_at, count_ended, one_ended, turn_at_most, unswept, AreAlive, AreLessened, EndNear, IsDue, IsLessened, IsNext, IsSwept, IsSweptAt, IsUnderway}
 use Rattle.shelf.specs.First.{life_at}
-use Rattle.shelf.specs.Lasts.{AreLow, AreWinners}
+use Rattle.shelf.specs.Lasts.{AreWinners}
 use Rattle.shelf.specs.declared.lasts.Lasts.{Lasts}
-use Rattle.shelf.proofs.EndLaws.{end_zero, ends_zero, keyed_map, keyed_set, keyed_swap, keyed_zero, low_by}
+use Rattle.shelf.proofs.DropLaws.{ends_gone, keyed_gone}
+use Rattle.shelf.proofs.EndLaws.{end_zero, ends_zero, keyed_map, keyed_set, keyed_zero, low_by}
 use Rattle.shelf.proofs.ListLaws.{always_some, some_map}
-use Rattle.shelf.proofs.LowLaws.{life_like, low_put, low_put_ever, low_swap}
-use Rattle.shelf.proofs.WinnerLaws.{winners_named, winners_same}
+use Rattle.shelf.proofs.LowLaws.{low_put, low_put_ever}
+use Rattle.shelf.proofs.WinnerLaws.{winners_named}
 use Rattle.shelf.proofs.SweepLaws.{less_left, less_more, less_same, not_dead, swept_less}
 
 -- ---- one name
@@ -212,32 +213,12 @@ module _ {S : Type 0} (kept : List KeptFlush) (t place end : ℕ) (mixed : Bool)
       → (asked most : ℕ) (first : IndexMap Labels OwnerCells S) → IsUnderway kept t asked first most old ends was → IsUnderway kept t asked first most new (noting lasts) stored
   on_gone by d entries lasts seconds tree asked most first is = record {
     less = less_more kept t first old new is.less less;
-    ends = record {
-      now = subst (λ (l : List ℕ). AreKeyed (IsEnd kept) new.entries l) (sym by.moments) (moved (IsEnd kept) ends.moments size is.ends.now);
-      ever = subst (λ (l : List ℕ). AreKeyed (IsEnd []) new.entries l) (sym by.unmixed) (moved (IsEnd []) (evens ends) is.ends.ever.size is.ends.ever);
-      flags = by.flags;
-      low = sunk kept ends.moments after.moments size by.moments is.ends.winners.size is.ends.low;
-      low_ever = sunk [] (evens ends) (evens after) is.ends.ever.size by.unmixed is.ends.winners.size is.ends.low_ever;
-      winners = tree middle.entries d entries (winners_same middle.entries ends.lasts after.lasts by.lasts (winners_named old.entries middle.entries ends.lasts named is.ends.winners));
-    };
-    due = subst (λ (l : List ℕ). AreKeyed (IsDue kept t asked) new.entries l) (sym by.moments) (moved (IsDue kept t asked) ends.moments size is.due);
+    ends = ends_gone old.entries middle.entries new.entries place d low swept.others named entries kept ends after lasts by seconds tree is.ends;
+    due = subst (λ (l : List ℕ). AreKeyed (IsDue kept t asked) new.entries l) (sym by.moments)
+        (keyed_gone old.entries middle.entries new.entries place d low swept.others named entries (IsDue kept t asked) ends.moments is.due);
     counted = counted ∙ sym count;
     fewer = omega (arith, fewer, is.fewer);
   }
-    where
-      swap : List ℕ → List ℕ
-      swap l = swap_remove l place 0
-
-      sunk : (flushes : List KeptFlush) (l now : List ℕ) → length l ≡ length old.entries → now ≡ swap l → length ends.lasts.ends.items ≡ length old.entries → AreLow flushes old.entries l ends.lasts.ends.items → AreLow flushes new.entries now lasts.ends.items
-      sunk flushes l now long moments wide was = subst (λ (e : List (Labels × OwnerCells)). AreLow flushes e now lasts.ends.items) (sym entries)
-          (low_by flushes (swap_remove middle.entries place d) swap swap l now ends.lasts.ends.items lasts.ends.items moments (seconds ∙ ap swap by.lasts.0)
-          (low_swap flushes middle.entries l ends.lasts.ends.items place d (long ∙ sym swept.size) (wide ∙ sym swept.size) (omega (arith, swept.size, low))
-          (λ i off some. omega (arith, was i some, life_like flushes old.entries middle.entries i i (swept.others i off)))))
-
-      moved : (P : Labels × OwnerCells → ℕ → Type 0) (l : List ℕ) → length l ≡ length old.entries → AreKeyed P old.entries l → AreKeyed P new.entries (swap_remove l place 0)
-      moved P l long keyed = subst (λ (e : List (Labels × OwnerCells)). AreKeyed P e (swap_remove l place 0)) (sym entries)
-          (keyed_swap P middle.entries l place d (long ∙ sym swept.size)
-          (λ i off. subst (λ (o : Option (Labels × OwnerCells)). IfSome o (λ e. P e (get_or l i 0))) (sym (swept.others i off)) (keyed.each i)) (omega (arith, swept.size, low)))
 
 -- ---- fewer names have ended
 
@@ -264,6 +245,13 @@ ended_more asked ends place end low = omega (arith, sum_by-set (one_ended asked)
 -- and one fewer
 pub ended_fewer : (asked : ℕ) (ends : List ℕ) (place end : ℕ) → place < length ends → count_ended asked ends ≤ count_ended asked (set ends place end) + 1
 ended_fewer asked ends place end low = omega (arith, sum_by-set (one_ended asked) ends place end 0 low, ended_most asked (get_or ends place 0))
+
+-- a name has gone
+pub ended_drop : (asked : ℕ) (ends : List ℕ) (place : ℕ) → place < length ends → (count_ended asked (swap_remove ends place 0) ≤ count_ended asked ends) × (count_ended asked ends ≤ count_ended asked (swap_remove ends place 0) + 1)
+ended_drop asked ends place low = (
+  omega (arith, sum_by-swap_remove (one_ended asked) ends place 0 low),
+  omega (arith, sum_by-swap_remove (one_ended asked) ends place 0 low, ended_most asked (get_or ends place 0)),
+)
 
 -- no name has ended
 pub ended_zero : (asked : ℕ) (ends : List ℕ) → ((i : ℕ) → i < length ends → asked < get_or ends i 0) → count_ended asked ends ≡ 0

@@ -9,7 +9,7 @@ use Rattle.cell_store.specs.Sweep.{alive_at, is_dead}
 use Rattle.shelf.specs.declared.ends.Ends.{Ends}
 use Rattle.shelf.specs.declared.shelf.KeptFlush.{KeptFlush}
 use Rattle.shelf.specs.Kept.{is_version}
-use Rattle.shelf.specs.Lasts.{AreLow, AreSameLasts, AreWinners}
+use Rattle.shelf.specs.Lasts.{AreLow, AreSameLasts, AreWinners, IsShaped}
 
 -- Some version of a type has a find that is alive at a moment.
 abbrev pub IsAlive : List KeptFlush → Labels → ℕ → OwnerCells → ℕ → Type 0
@@ -82,6 +82,7 @@ pub record AreEnds (kept : List KeptFlush) (entries : List (Labels × OwnerCells
   pub low_ever : AreLow [] entries (evens ends) ends.lasts.ends.items
   pub winners : AreWinners entries ends.lasts
 
--- There is a moment for each entry, and a flag for each moment.
+-- There is a moment and a second for each entry, and a flag for each moment.
 abbrev pub HaveEnds : List (Labels × OwnerCells) → Ends → Type 0
-HaveEnds entries ends = (length ends.moments ≡ length entries) × (length ends.mixed.items ≡ length ends.moments)
+HaveEnds entries ends =
+    (length ends.moments ≡ length entries) × (length ends.mixed.items ≡ length ends.moments) × (length ends.lasts.ends.items ≡ length entries) × IsShaped ends.lasts

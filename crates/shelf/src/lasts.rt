@@ -233,6 +233,7 @@ impl Lasts {
         ensures ends { self.new.ends.items ≡ swap_remove self.old.ends.items place 0 }
         ensures winners { (old : List (Labels × OwnerCells)) (d : Labels × OwnerCells) →
             owners.now.entries ≡ swap_remove old place d → AreWinners old self.old → AreWinners owners.now.entries self.new }
+        ensures shape { IsShaped self.new }
     {
         let last = self.ends.len() - 1;
         self.ends[place] = self.ends[last];

@@ -2,21 +2,21 @@
 
 ghost use Rattle.std.specs.Prelude.{◌≡◌, ◌<◌, ◌≤◌, ◌+◌, ◌-◌, ◌^◌, ◌==◌, ◌&&◌, [], ℕ, true, false, List, length, vec_capacity, OnOk};
 ghost use Rattle.std.specs.List.{list_any, AllByRecursion};
-ghost use Rattle.std.specs.Map.{keys_of};
+ghost use Rattle.dns_name.specs.Labels.{Labels};
 ghost use Rattle.dns_name.specs.Below.{is_at_or_below};
 ghost use Rattle.dns_name.specs.Order.{name_eq};
-ghost use Rattle.dns_text.specs.declared.record.Question.{Question};
 ghost use Rattle.cell_store.specs.Count.{stored_in, KeepPairs};
 ghost use Rattle.cell_store.specs.Owner.{after_settle};
-ghost use Rattle.cell_store.specs.Store.{cell_of, AreUpTo, CanSettleAt, KeepSettling, KeepUpTo};
+ghost use Rattle.cell_store.specs.declared.owner.OwnerCells.{OwnerCells};
+ghost use Rattle.cell_store.specs.Store.{AreLeft, AreSameCells, AreUpTo, CanSettleAt, KeepSettling, StayButAt};
 ghost use Rattle.shelf.specs.declared.shelf.KeptFlush.{KeptFlush};
 ghost use Rattle.shelf.specs.Clean.{AreEnds, HaveEnds};
 ghost use Rattle.shelf.specs.Sweep.{EndNear};
-ghost use Rattle.shelf.specs.Settling.{first_at, is_outdone, settled_version, steps_left, unmoved, with_left, without_outdone, HaveStepped, IsMoved, IsReaching, IsSettling};
+ghost use Rattle.shelf.specs.Settling.{first_at, is_outdone, settled_version, steps_left, unmoved, with_left, without_outdone, AreReached, HaveStepped, IsMoved, IsReaching, IsSettling};
 
-use crate::ends::{Ends, put, reset};
+use crate::ends::{Ends, drop_at, put};
 use crate::shelf::Shelf;
-use cell_store::{Owners, settle_at, settle_kinds};
+use cell_store::{Owners, drop_if_uncounted, settle_at, settle_kinds};
 use dns_name::{Name, NoMemory};
 
 /// The names that a permanent flush reaches at one call, so that no call is long.
@@ -70,7 +70,29 @@ fn later(covered: bool, number: u64, version: u64) -> u64
     }
 }
 
-// Lets a flush reach the name at a place, if there is one. The next sweep visits the name if the flush covers it. It takes no memory.
+// Removes the name at a place if no place of it counts. Else the next sweep visits it. It takes no memory. The entry may have changed
+// since the moments were right.
+fn drop_or_end(owners: &mut Owners, ends: &mut Ends, place: usize)
+    requires low { place < length owners.old.entries }
+    requires size { HaveEnds owners.old.entries ends.old }
+    ensures cells { AreSameCells owners.old owners.new × AreLeft owners.old owners.new }
+    ensures counted { stored_in owners.new ≡ stored_in owners.old }
+    ensures reached { (zone : Labels) (number left : ℕ) → AreReached zone number left owners.old → AreReached zone number left owners.new }
+    ensures ends { (kept : List KeptFlush) (before : List (Labels × OwnerCells)) → StayButAt place before owners.old.entries →
+        AreEnds kept before ends.old → AreEnds kept owners.new.entries ends.new }
+    ensures size { HaveEnds owners.new.entries ends.new }
+    ensures ended { EndNear ends.old.moments ends.new.moments (place + 1) place }
+{
+    if drop_if_uncounted(owners, place) {
+        drop_at(ends, place);
+        ends.lasts.swap_remove(owners, place);
+        return;
+    }
+    put(ends, place, 0, false);
+}
+
+// Lets a flush reach the name at a place, if there is one. If the flush covers the name, the name goes, or the next sweep visits it. It
+// takes no memory.
 fn reach_at(
     owners: &mut Owners,
     ends: &mut Ends,
@@ -96,7 +118,7 @@ fn reach_at(
     if !settle_at(owners, stored, place, zone, number) {
         return;
     }
-    put(ends, place, 0, false);
+    drop_or_end(owners, ends, place);
 }
 
 // Lets a flush reach so many names more, from the place `left` down. The next sweep visits those that it covers. It takes no memory.
@@ -217,7 +239,8 @@ pub(crate) fn settle_zone(owners: &Owners, settlings: &mut Vec<Settling>, zone: 
     });
 }
 
-// Makes a flush of some types of a name permanent. The next sweep visits the name. It takes no memory.
+// Makes a flush of some types of a name permanent. If no place of the name counts then, it goes. Else the next sweep visits it. It takes no
+// memory.
 pub(crate) fn settle_name(
     owners: &mut Owners,
     ends: &mut Ends,
@@ -229,16 +252,20 @@ pub(crate) fn settle_name(
     requires settles { AllByRecursion (λ kind. CanSettleAt number kind name.now owners.old) kinds.now }
     requires counted { stored.old ≡ stored_in owners.old }
     requires size { HaveEnds owners.old.entries ends.old }
-    ensures cells { (q : Question) (v : ℕ) → cell_of owners.new q v ≡
-        cell_of owners.old q (after_settle (name_eq name.now q.owner && list_any (λ kind. kind == q.kind) kinds.now) number v) }
-    ensures kept { KeepUpTo owners.old owners.new × KeepSettling owners.old owners.new }
+    ensures moved { (top : ℕ) (settlings : List Settling) → AreUpTo top owners.old → AllByRecursion (IsSettling top owners.old) settlings →
+        IsMoved (λ q v. after_settle (name_eq name.now q.owner && list_any (λ kind. kind == q.kind) kinds.now) number v) top
+        settlings settlings owners.old owners.new }
+    ensures settles { KeepSettling owners.old owners.new }
     ensures counted { (stored.new ≡ stored_in owners.new) × (stored.new ≤ stored.old) }
     ensures pairs { KeepPairs owners.old owners.new }
     ensures ends { (kept : List KeptFlush) → AreEnds kept owners.old.entries ends.old → AreEnds kept owners.new.entries ends.new }
-    ensures names { keys_of owners.new.entries ≡ keys_of owners.old.entries }
 {
-    reset(owners, ends, name);
+    let place = owners.get_index_of(name);
     settle_kinds(owners, stored, name, kinds, number);
+    match place {
+        Some(place) => drop_or_end(owners, ends, place),
+        None => {}
+    }
 }
 
 impl Shelf {

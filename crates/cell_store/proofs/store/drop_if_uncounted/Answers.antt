@@ -1,8 +1,8 @@
-use Rattle.std.proofs.Common.{◌≡◌, Option, Some, None, ap, sym, ◌∙◌, subst}
+use Rattle.std.proofs.Common.{◌≡◌, Option, Some, None, true, cond, ap, sym, ◌∙◌, subst}
 use Rattle.std.specs.Prelude.{IfSome, swap_remove}
-use Rattle.indexmap.specs.IndexMap.{Updates}
+use Rattle.indexmap.specs.IndexMap.{get, Updates}
 use Rattle.dns_name.specs.Labels.{Labels}
-use Rattle.dns_name.specs.Order.{name_eq}
+use Rattle.dns_name.specs.Order.{name_eq, name_equiv}
 use Rattle.cell_store.specs.declared.owner.OwnerCells.{OwnerCells}
 use Rattle.cell_store.specs.Count.{count_entries}
 use Rattle.cell_store.proofs.HeldLaws.{count_dropped, dropped_cells, left_removed}
@@ -34,3 +34,11 @@ returns-clause-entries c =
     let gone = c.swap_remove_index.ensures.entry ∙ sym c.in-Some.ensures.entry in
     let entries = subst (λ (o : Option (Labels × OwnerCells)). IfSome o (λ p. c.swap_remove_index.new.self.entries ≡ swap_remove c.args.owners.now.entries c.args.place p)) gone c.swap_remove_index.ensures.entries in
     ((c.in-Some.field-0-0.now, c.in-Some.cells.now), entries)
+
+pub returns-clause-gone : goal.returns-clause-gone
+returns-clause-gone c =
+    let gone = c.swap_remove_index.ensures.entry ∙ sym c.in-Some.ensures.entry in
+    let updates = subst (λ (o : Option (Labels × OwnerCells)). IfSome o (λ p. Updates name_eq c.args.owners.now c.swap_remove_index.new.self p.0 None)) gone c.swap_remove_index.ensures.updates in
+    let none : get name_eq c.swap_remove_index.new.self c.in-Some.field-0-0.now ≡ None =
+    updates.0 c.in-Some.field-0-0.now ∙ ap (λ b. cond b None (get name_eq c.args.owners.now c.in-Some.field-0-0.now)) (name_equiv.refl c.in-Some.field-0-0.now) in
+    subst (λ (o : Option (Labels × OwnerCells)). IfSome o (λ e. true ≡ true → get name_eq c.swap_remove_index.new.self e.0 ≡ None)) c.in-Some.ensures.entry (λ removed. none)

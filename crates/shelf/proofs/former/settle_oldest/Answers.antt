@@ -1,6 +1,7 @@
 use Rattle.std.proofs.Common.{◌≤◌, length, ap, ◌∙◌, arith}
 use Rattle.shelf.proofs.EndLaws.{ends_mixed}
 use Rattle.shelf.proofs.EvenLaws.{evens_length}
+use Rattle.shelf.proofs.WinnerLaws.{shaped_same}
 use Rattle.shelf.specs.Told.{CanSettleFlush}
 use Rattle.shelf.proofs.FaceLaws.{all_removed, ascending_removed, all_first}
 use Rattle.shelf.proofs.former.settle_oldest.Goals as goal
@@ -10,6 +11,8 @@ settle_flush-requires c = record {
   size = (
     ap length (c.end_mixed.ensures c.requires.whole.ends.flags).moments ∙ (evens_length c.args.shelf.now.ends.moments c.args.shelf.now.ends.mixed.items ∙ c.requires.whole.ends.now.size),
     (c.end_mixed.ensures c.requires.whole.ends.flags).flags,
+    ap length (c.end_mixed.ensures c.requires.whole.ends.flags).lasts.0 ∙ c.requires.whole.ends.winners.size,
+    shaped_same c.args.shelf.now.ends.lasts c.end_mixed.new.ends.lasts (c.end_mixed.ensures c.requires.whole.ends.flags).lasts c.requires.whole.ends.winners.shape,
   );
   room = omega (arith, c.requires.whole.space);
   counted = c.requires.whole.counted;

@@ -1,15 +1,12 @@
-use Rattle.std.proofs.Common.{◌≡◌, ◌+◌, ◌<◌, ◌≤◌, ℕ, List, length, sym, ap, ◌∙◌, subst, arith}
-use Rattle.std.proofs.Math.ListN.{length-set}
+use Rattle.std.proofs.Common.{◌≡◌, ◌+◌, [], sym, ◌∙◌, subst, arith}
 use Rattle.indexmap.specs.IndexMap.{IndexMap}
 use Rattle.dns_name.specs.Labels.{Labels}
 use Rattle.cell_store.specs.declared.owner.OwnerCells.{OwnerCells}
 use Rattle.cell_store.specs.declared.seed.NameSeed.{NameSeed}
 use Rattle.shelf.specs.Clean.{AreEnds, HaveEnds}
-use Rattle.shelf.specs.Sweep.{count_ended}
-use Rattle.shelf.proofs.EndLaws.{ends_put}
-use Rattle.shelf.proofs.WinnerLaws.{alike}
-use Rattle.shelf.proofs.SettlingLaws.{reach_one, reach_past, same_length}
-use Rattle.shelf.proofs.VisitLaws.{ended_fewer, ended_more}
+use Rattle.shelf.proofs.DropLaws.{reach_kept}
+use Rattle.shelf.proofs.SettlingLaws.{reach_one, reach_past, reach_then, same_length}
+use Rattle.shelf.proofs.SweepLaws.{less_left}
 use Rattle.shelf.proofs.settling.reach_at.Goals as goal
 
 pub returns-then-place-len-clause-reaching : goal.returns-then-place-len-clause-reaching
@@ -22,8 +19,13 @@ returns-then-place-len-clause-ended c = λ t. (omega arith, omega arith)
 pub settle_at-requires : goal.settle_at-requires
 settle_at-requires c = record { low = omega (arith, c.len.ensures.len, c.if-place-len.false); counted = c.requires.counted }
 
-pub put-requires : goal.put-requires
-put-requires c = record { low = omega (arith, c.len.ensures.len, c.if-place-len.false, c.requires.size.0); flags = c.requires.size.1 }
+pub drop_or_end-requires : goal.drop_or_end-requires
+drop_or_end-requires c =
+    let size = same_length c.args.owners.now.entries c.settle_at.new.owners.entries c.settle_at.ensures.entries.names in
+    record {
+      low = omega (arith, c.len.ensures.len, c.if-place-len.false, size);
+      size = (c.requires.size.0 ∙ sym size, c.requires.size.1, c.requires.size.2 ∙ sym size, c.requires.size.3);
+    }
 
 -- the flush does not cover the name
 pub returns-then-not-settle_at-clause-reaching : goal.returns-then-not-settle_at-clause-reaching
@@ -45,22 +47,31 @@ returns-then-not-settle_at-clause-ended c = λ t. (omega arith, omega arith)
 
 pub returns-clause-reaching : goal.returns-clause-reaching
 returns-clause-reaching c = λ top upto.
-    reach_one c.args.zone.now c.args.number top c.args.place c.args.owners.now c.settle_at.new.owners c.settle_at.ensures.entries.names (c.settle_at.ensures.kept.0 top upto) (c.settle_at.ensures.cells top upto)
+    let olds = c.args.owners.now in
+    let middle = c.settle_at.new.owners in
+    let news = c.drop_or_end.new.owners in
+    let less = less_left [] 0 middle news c.drop_or_end.ensures.cells.0 c.drop_or_end.ensures.cells.1 in
+    let low = c.settle_at.ensures.kept.0 top upto in
+    reach_then c.args.zone.now c.args.number top (c.args.place + 1) c.args.place c.args.place olds middle news
+    (reach_one c.args.zone.now c.args.number top c.args.place olds middle c.settle_at.ensures.entries.names low (c.settle_at.ensures.cells top upto))
+    (reach_kept middle news top (less.upto top low) c.drop_or_end.ensures.cells.0 c.drop_or_end.ensures.reached c.args.zone.now c.args.number c.args.place)
+
+pub returns-clause-settles : goal.returns-clause-settles
+returns-clause-settles c = λ number kind name is.
+    (less_left [] 0 c.settle_at.new.owners c.drop_or_end.new.owners c.drop_or_end.ensures.cells.0 c.drop_or_end.ensures.cells.1).settles number kind name (c.settle_at.ensures.kept.1 number kind name is)
+
+pub returns-clause-counted : goal.returns-clause-counted
+returns-clause-counted c = (c.settle_at.ensures.counted.0 ∙ sym c.drop_or_end.ensures.counted, c.settle_at.ensures.counted.1)
+
+pub returns-clause-pairs : goal.returns-clause-pairs
+returns-clause-pairs c = λ pair has.
+    c.settle_at.ensures.pairs pair ((less_left [] 0 c.settle_at.new.owners c.drop_or_end.new.owners c.drop_or_end.ensures.cells.0 c.drop_or_end.ensures.cells.1).pairs pair has)
 
 pub returns-clause-ends : goal.returns-clause-ends
-returns-clause-ends c = λ kept is.
-    let low : c.args.place < length c.args.owners.now.entries = omega (arith, c.len.ensures.len, c.if-place-len.false) in
-    ends_put kept c.args.owners.now.entries c.settle_at.new.owners.entries c.args.ends.now c.put.new.ends c.args.place is c.settle_at.ensures.entries.others c.settle_at.ensures.entries.names low
-    (record { moments = c.put.ensures.moments; unmixed = c.put.ensures.unmixed; flags = c.put.ensures.flags; lasts = alike c.put.new.ends.lasts c.args.ends.now.lasts c.put.ensures.lasts })
+returns-clause-ends c = λ kept is. c.drop_or_end.ensures.ends kept c.args.owners.now.entries c.settle_at.ensures.entries is
 
 pub returns-clause-size : goal.returns-clause-size
-returns-clause-size c =
-    let size = same_length c.args.owners.now.entries c.settle_at.new.owners.entries c.settle_at.ensures.entries.names in
-    (ap length c.put.ensures.moments ∙ (length-set c.args.ends.now.moments c.args.place 0 ∙ (c.requires.size.0 ∙ sym size)), c.put.ensures.flags)
+returns-clause-size c = c.drop_or_end.ensures.size
 
 pub returns-clause-ended : goal.returns-clause-ended
-returns-clause-ended c = λ t.
-    let low : c.args.place < length c.args.ends.now.moments = omega (arith, c.len.ensures.len, c.if-place-len.false, c.requires.size.0) in
-    let more = subst (λ (l : List ℕ). count_ended t l ≤ count_ended t c.args.ends.now.moments + 1) (sym c.put.ensures.moments) (ended_more t c.args.ends.now.moments c.args.place 0 low) in
-    let fewer = subst (λ (l : List ℕ). count_ended t c.args.ends.now.moments ≤ count_ended t l + 1) (sym c.put.ensures.moments) (ended_fewer t c.args.ends.now.moments c.args.place 0 low) in
-    (omega (arith, more), omega (arith, fewer))
+returns-clause-ended c = c.drop_or_end.ensures.ended

@@ -22,3 +22,8 @@ returns-clause-winners c = λ old d entries is.
     swap_right was (record { ends = c.truncate.new.self; winners = c.mend_gap.new.winners }) c.truncate-2.new.self.items c.deref.result.now c.deref.ensures.value c.mend_gap.ensures.size c.mend_gap.ensures.within
     old c.args.owners.now.entries d c.args.place n entries is (sym at)
     (c.truncate.ensures.items ∙ (ap (λ x. take n (set ends c.args.place x)) v ∙ ap (λ k. take k (set ends c.args.place (get_or ends (length ends - 1) 0))) one)) c.truncate-2.ensures.items c.mend_gap.ensures.right
+
+pub returns-clause-shape : goal.returns-clause-shape
+returns-clause-shape c =
+    let was = c.args.self.now in
+    (omega (arith, c.mend_gap.ensures.size, c.truncate.ensures.len, c.truncate-2.ensures.len, c.len-last.ensures, was.ends.ok.0, c.requires.low, c.requires.shape.0), c.mend_gap.ensures.within)

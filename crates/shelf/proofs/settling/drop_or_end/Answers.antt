@@ -1,0 +1,99 @@
+use Rattle.std.proofs.Common.{◌≡◌, ◌+◌, ◌<◌, ◌≤◌, ℕ, List, true, false, length, get_or, Some, sym, ap, ◌∙◌, subst, arith}
+use Rattle.std.specs.Prelude.{slice_get}
+use Rattle.std.proofs.Math.ListN.{length-set}
+use Rattle.dns_name.specs.Labels.{Labels}
+use Rattle.cell_store.specs.declared.owner.OwnerCells.{OwnerCells}
+use Rattle.cell_store.specs.Store.{IsDroppedAt}
+use Rattle.shelf.specs.declared.lasts.Lasts.{Lasts}
+use Rattle.shelf.specs.Clean.{AreEnds}
+use Rattle.shelf.specs.Lasts.{IsShaped}
+use Rattle.shelf.specs.Sweep.{count_ended}
+use Rattle.shelf.proofs.DropLaws.{dropped_reached, ends_gone, gone_at, same_reached, swapped_size}
+use Rattle.shelf.proofs.EndLaws.{ends_put}
+use Rattle.shelf.proofs.ListLaws.{get_some}
+use Rattle.shelf.proofs.SettlingLaws.{same_length}
+use Rattle.shelf.proofs.VisitLaws.{ended_drop, ended_fewer, ended_more}
+use Rattle.shelf.proofs.WinnerLaws.{alike, shaped_same}
+use Rattle.shelf.proofs.settling.drop_or_end.Goals as goal
+
+pub drop_at-requires : goal.drop_at-requires
+drop_at-requires c = record { low = omega (arith, c.requires.low, c.requires.size.0); flags = c.requires.size.1 }
+
+pub put-requires : goal.put-requires
+put-requires c = record { low = omega (arith, c.requires.low, c.requires.size.0); flags = c.requires.size.1 }
+
+pub swap_remove-requires : goal.swap_remove-requires
+swap_remove-requires c = record {
+  shape = shaped_same c.args.ends.now.lasts c.drop_at.new.ends.lasts c.drop_at.ensures.lasts c.requires.size.3;
+  low = omega (arith, ap length c.drop_at.ensures.lasts.0, c.requires.size.2, c.requires.low);
+}
+
+-- the name goes
+pub returns-then-drop_if_uncounted-clause-reached : goal.returns-then-drop_if_uncounted-clause-reached
+returns-then-drop_if_uncounted-clause-reached c = λ zone number left is.
+    let olds = c.args.owners.now.entries in
+    let gone : IsDroppedAt c.args.place c.args.owners.now.entries c.drop_if_uncounted.new.owners.entries true =
+    subst (λ b. IsDroppedAt c.args.place c.args.owners.now.entries c.drop_if_uncounted.new.owners.entries b) c.if-drop_if_uncounted.true c.drop_if_uncounted.ensures.entries in
+    let there : slice_get c.args.owners.now.entries c.args.place ≡ Some (get_or c.args.owners.now.entries c.args.place gone.0) = get_some olds c.args.place gone.0 c.requires.low in
+    dropped_reached c.args.owners.now c.drop_if_uncounted.new.owners c.args.place (get_or olds c.args.place gone.0) gone.0 c.requires.low there gone.1 c.drop_if_uncounted.ensures.cells
+    (gone_at olds c.drop_if_uncounted.new.owners c.args.place (get_or olds c.args.place gone.0) c.drop_if_uncounted.result there c.if-drop_if_uncounted.true c.drop_if_uncounted.ensures.gone) zone number left is
+
+pub returns-then-drop_if_uncounted-clause-ends : goal.returns-then-drop_if_uncounted-clause-ends
+returns-then-drop_if_uncounted-clause-ends c = λ kept before stay is.
+    let gone : IsDroppedAt c.args.place c.args.owners.now.entries c.drop_if_uncounted.new.owners.entries true =
+    subst (λ b. IsDroppedAt c.args.place c.args.owners.now.entries c.drop_if_uncounted.new.owners.entries b) c.if-drop_if_uncounted.true c.drop_if_uncounted.ensures.entries in
+    let low : c.args.place < length before = omega (arith, c.requires.low, same_length before c.args.owners.now.entries stay.names) in
+    ends_gone before c.args.owners.now.entries c.drop_if_uncounted.new.owners.entries c.args.place gone.0 low stay.others stay.names gone.1 kept c.args.ends.now c.drop_at.new.ends c.swap_remove.new.self
+    c.drop_at.ensures c.swap_remove.ensures.ends c.swap_remove.ensures.winners is
+
+pub returns-then-drop_if_uncounted-clause-size : goal.returns-then-drop_if_uncounted-clause-size
+returns-then-drop_if_uncounted-clause-size c =
+    let gone : IsDroppedAt c.args.place c.args.owners.now.entries c.drop_if_uncounted.new.owners.entries true =
+    subst (λ b. IsDroppedAt c.args.place c.args.owners.now.entries c.drop_if_uncounted.new.owners.entries b) c.if-drop_if_uncounted.true c.drop_if_uncounted.ensures.entries in
+    let names = swapped_size c.args.owners.now.entries c.args.place gone.0 in
+    let moments = swapped_size c.args.ends.now.moments c.args.place 0 in
+    let seconds = swapped_size c.drop_at.new.ends.lasts.ends.items c.args.place 0 in (
+      omega (arith, ap length gone.1, names, ap length c.drop_at.ensures.moments, moments, c.requires.size.0),
+      c.drop_at.ensures.flags,
+      omega (arith, ap length gone.1, names, ap length c.swap_remove.ensures.ends, seconds, ap length c.drop_at.ensures.lasts.0, c.requires.size.2),
+      c.swap_remove.ensures.shape,
+    )
+
+pub returns-then-drop_if_uncounted-clause-ended : goal.returns-then-drop_if_uncounted-clause-ended
+returns-then-drop_if_uncounted-clause-ended c = λ t.
+    let by = ended_drop t c.args.ends.now.moments c.args.place (omega (arith, c.requires.low, c.requires.size.0)) in
+    let now = ap (count_ended t) c.drop_at.ensures.moments in
+    (omega (arith, by.0, now), omega (arith, by.1, now))
+
+-- it stays
+pub returns-clause-reached : goal.returns-clause-reached
+returns-clause-reached c = λ zone number left is.
+    let stays : IsDroppedAt c.args.place c.args.owners.now.entries c.drop_if_uncounted.new.owners.entries false =
+    subst (λ b. IsDroppedAt c.args.place c.args.owners.now.entries c.drop_if_uncounted.new.owners.entries b) c.if-drop_if_uncounted.false c.drop_if_uncounted.ensures.entries in
+    same_reached c.args.owners.now c.drop_if_uncounted.new.owners stays.0 c.drop_if_uncounted.ensures.cells zone number left is
+
+pub returns-clause-ends : goal.returns-clause-ends
+returns-clause-ends c = λ kept before stay is.
+    let stays : IsDroppedAt c.args.place c.args.owners.now.entries c.drop_if_uncounted.new.owners.entries false =
+    subst (λ b. IsDroppedAt c.args.place c.args.owners.now.entries c.drop_if_uncounted.new.owners.entries b) c.if-drop_if_uncounted.false c.drop_if_uncounted.ensures.entries in
+    let low : c.args.place < length before = omega (arith, c.requires.low, same_length before c.args.owners.now.entries stay.names) in
+    subst (λ (l : List (Labels × OwnerCells)). AreEnds kept l c.put.new.ends) (sym stays.0)
+    (ends_put kept before c.args.owners.now.entries c.args.ends.now c.put.new.ends c.args.place is stay.others stay.names low
+    (record { moments = c.put.ensures.moments; unmixed = c.put.ensures.unmixed; flags = c.put.ensures.flags; lasts = alike c.put.new.ends.lasts c.args.ends.now.lasts c.put.ensures.lasts }))
+
+pub returns-clause-size : goal.returns-clause-size
+returns-clause-size c =
+    let stays : IsDroppedAt c.args.place c.args.owners.now.entries c.drop_if_uncounted.new.owners.entries false =
+    subst (λ b. IsDroppedAt c.args.place c.args.owners.now.entries c.drop_if_uncounted.new.owners.entries b) c.if-drop_if_uncounted.false c.drop_if_uncounted.ensures.entries in (
+      ap length c.put.ensures.moments ∙ (length-set c.args.ends.now.moments c.args.place 0 ∙ (c.requires.size.0 ∙ sym (ap length stays.0))),
+      c.put.ensures.flags,
+      ap (λ (l : Lasts). length l.ends.items) c.put.ensures.lasts ∙ (c.requires.size.2 ∙ sym (ap length stays.0)),
+      subst (λ (l : Lasts). IsShaped l) (sym c.put.ensures.lasts) c.requires.size.3,
+    )
+
+pub returns-clause-ended : goal.returns-clause-ended
+returns-clause-ended c = λ t.
+    let low : c.args.place < length c.args.ends.now.moments = omega (arith, c.requires.low, c.requires.size.0) in
+    let more = subst (λ (l : List ℕ). count_ended t l ≤ count_ended t c.args.ends.now.moments + 1) (sym c.put.ensures.moments) (ended_more t c.args.ends.now.moments c.args.place 0 low) in
+    let fewer = subst (λ (l : List ℕ). count_ended t c.args.ends.now.moments ≤ count_ended t l + 1) (sym c.put.ensures.moments) (ended_fewer t c.args.ends.now.moments c.args.place 0 low) in
+    (omega (arith, more), omega (arith, fewer))
