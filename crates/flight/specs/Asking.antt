@@ -22,7 +22,7 @@ use Rattle.flight.specs.Origin.{Origin, origin_of}
 use Rattle.flight.specs.Told.{IsOutcome}
 
 -- what counts of a question while it waits
-abbrev pub origin_in : {K : Type 0} → (K → ℕ) → Asking K → Origin
+abbrev pub origin_in : {G K : Type 0} → (K → ℕ) → Asking G K → Origin
 origin_in network asking = origin_of asking.began asking.query.question.owner (network asking.client)
 
 -- The client may have sent these octets, they are this query, and the task is for its question.

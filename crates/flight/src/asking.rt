@@ -7,20 +7,21 @@ ghost use Rattle.flight.specs.Flight.{Answered};
 
 use crate::line::InFlight;
 use crate::numbered::Numbered;
+use crate::worker_task::WorkerTask;
 use dns_wire::Query;
 use history::Event;
-use iterate::{Input, Task};
+use iterate::Input;
 
 /// A client's question and its task.
 #[derive(Drop)]
-pub(crate) struct Asking<K> {
+pub(crate) struct Asking<G, K> {
     pub(crate) client: K,
     pub(crate) query: Query,
     /// The port of name servers with which the task began.
     pub(crate) port: u16,
     /// The moment at which it began, in milliseconds.
     pub(crate) began: u64,
-    pub(crate) task: Task,
+    pub(crate) task: WorkerTask<G>,
     /// The number of the desk's latest call when this question last called it.
     pub(crate) seen: u64,
 }

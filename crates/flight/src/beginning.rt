@@ -15,10 +15,11 @@ use crate::line::InFlight;
 use crate::numbered::Numbered;
 use crate::outside::{Client, Outside};
 use crate::telling::tell;
+use crate::worker_task::WorkerTask;
 use command_text::Clock;
 use dns_wire::Query;
 use history::{Reply, Seen};
-use iterate::{Input, Task, first_look, resolved_law, settled};
+use iterate::{Input, first_look, resolved_law, settled};
 use local_zone::Local;
 use rand_core::Rng;
 
@@ -49,7 +50,7 @@ impl<D: Numbered, L: InFlight, C: Clock, G: Rng, K: Client> Flight<D, L, C, G, K
         desk: &mut D,
         outside: &mut O,
         now: u64,
-        asking: Asking<K>,
+        asking: Asking<G, K>,
         octets: &[u8],
     )
         requires asked { IsAskedBy K.sent asking.port octets.now asking.client asking.query asking.task }
@@ -186,7 +187,7 @@ impl<D: Numbered, L: InFlight, C: Clock, G: Rng, K: Client> Flight<D, L, C, G, K
             outside.fail(client, octets, Cause::no_memory());
             return;
         };
-        let Ok(task) = Task::begun(self.alloc, question, port, moment) else {
+        let Ok(task) = WorkerTask::begun(self.alloc, question, port, moment) else {
             outside.fail(client, octets, Cause::no_memory());
             return;
         };

@@ -14,6 +14,7 @@ use crate::numbered::Numbered;
 use crate::outside::{Client, Outside};
 use crate::table::{LAST_BEGINNING, Table};
 use command_text::Clock;
+use rand_core::Rng;
 
 /// The reason for a SERVFAIL that is not the answer to the question.
 #[derive(Clone, Copy, PartialEq, Eq)]
@@ -54,10 +55,10 @@ impl Cause {
     }
 
     /// The table has no place for an exchange of a question.
-    pub(crate) fn too_many<D: Numbered, L: InFlight, C: Clock, K: Client>(
-        table: &Table<D, L, C, K>,
+    pub(crate) fn too_many<D: Numbered, L: InFlight, C: Clock, G: Rng, K: Client>(
+        table: &Table<D, L, C, G, K>,
         now: u64,
-        asking: &Asking<K>,
+        asking: &Asking<G, K>,
     ) -> Cause
         requires { ¬ (HasPlace (max now table.now.latest) (origin_in K.network asking.now) table.now.asker table.now.jobs.slots
             table.now.limit) }
@@ -72,10 +73,10 @@ impl Cause {
     }
 
     /// A question began too long ago to begin an exchange now.
-    pub(crate) fn too_long<D: Numbered, L: InFlight, C: Clock, K: Client>(
-        table: &Table<D, L, C, K>,
+    pub(crate) fn too_long<D: Numbered, L: InFlight, C: Clock, G: Rng, K: Client>(
+        table: &Table<D, L, C, G, K>,
         now: u64,
-        asking: &Asking<K>,
+        asking: &Asking<G, K>,
     ) -> Cause
         requires { asking.now.began + LAST_BEGINNING < max now table.now.latest }
         ensures { result.why ≡ TooLong }
@@ -89,9 +90,9 @@ impl Cause {
     }
 
     /// A question keeps too much to wait beside those in the table.
-    pub(crate) fn too_large<D: Numbered, L: InFlight, C: Clock, K: Client>(
-        table: &Table<D, L, C, K>,
-        asking: &Asking<K>,
+    pub(crate) fn too_large<D: Numbered, L: InFlight, C: Clock, G: Rng, K: Client>(
+        table: &Table<D, L, C, G, K>,
+        asking: &Asking<G, K>,
     ) -> Cause
         requires { KeepsTooMuch (kept_in asking.now.task.steps.items) table.now.jobs.slots }
         ensures { result.why ≡ TooLarge }
@@ -104,8 +105,8 @@ impl Cause {
     }
 
     /// Of the questions in the table, which keep too much together, none keeps more than that under a key.
-    pub(crate) fn keeps_most<D: Numbered, L: InFlight, C: Clock, K: Client>(
-        table: &Table<D, L, C, K>,
+    pub(crate) fn keeps_most<D: Numbered, L: InFlight, C: Clock, G: Rng, K: Client>(
+        table: &Table<D, L, C, G, K>,
         key: usize,
     ) -> Cause
         requires much { MOST_AT_REST < kept_by table.now.jobs.slots }
@@ -132,11 +133,14 @@ impl Cause {
     }
 
     /// The desk knows of fewer calls than a question does, or the port of name servers is another than that with which it began.
-    pub(crate) fn elsewhere<D: Numbered, L: InFlight, C: Clock, K: Client, O: Outside<D, L, C, K>>(
-        desk: &D,
-        outside: &O,
-        asking: &Asking<K>,
-    ) -> Cause
+    pub(crate) fn elsewhere<
+        D: Numbered,
+        L: InFlight,
+        C: Clock,
+        G: Rng,
+        K: Client,
+        O: Outside<D, L, C, K>,
+    >(desk: &D, outside: &O, asking: &Asking<G, K>) -> Cause
         requires { (D.seen desk.now < asking.now.seen) ⊎ (asking.now.port ≢ O.server_port outside.now) }
         ensures { result.why ≡ Elsewhere }
     {

@@ -31,7 +31,7 @@ impl<D: Numbered, L: InFlight, C: Clock, G: Rng, K: Client> Flight<D, L, C, G, K
         desk: &mut D,
         outside: &mut O,
         now: u64,
-        job: Job<D, L, C, K>,
+        job: Job<D, L, C, G, K>,
     )
         ensures port { O.server_port outside.new ≡ O.server_port outside.old }
         ensures ends { Ends K.sent O.posts 0 (outstanding self.old + 1) (O.outbox outside.old) (outstanding self.new) (O.outbox outside.new) }
@@ -62,7 +62,7 @@ impl<D: Numbered, L: InFlight, C: Clock, G: Rng, K: Client> Flight<D, L, C, G, K
         desk: &mut D,
         outside: &mut O,
         now: u64,
-        asking: Asking<K>,
+        asking: Asking<G, K>,
         octets: Octets,
         heard: Listened,
     )
@@ -86,7 +86,7 @@ impl<D: Numbered, L: InFlight, C: Clock, G: Rng, K: Client> Flight<D, L, C, G, K
             Listened::Nothing => Input::Failed,
             Listened::Broken => Input::Failed,
             Listened::NoMemory => {
-                refuse::<D, L, C, K, O>(outside, asking, octets.as_slice(), Cause::no_memory());
+                refuse::<D, L, C, G, K, O>(outside, asking, octets.as_slice(), Cause::no_memory());
                 return;
             }
             Listened::Anew => {
@@ -95,8 +95,8 @@ impl<D: Numbered, L: InFlight, C: Clock, G: Rng, K: Client> Flight<D, L, C, G, K
             }
         };
         if desk.seen() < asking.seen || outside.server_port() != asking.port {
-            let cause = Cause::elsewhere::<D, L, C, K, O>(desk, outside, &asking);
-            refuse::<D, L, C, K, O>(outside, asking, octets.as_slice(), cause);
+            let cause = Cause::elsewhere::<D, L, C, G, K, O>(desk, outside, &asking);
+            refuse::<D, L, C, G, K, O>(outside, asking, octets.as_slice(), cause);
             return;
         }
         self.drive(desk, outside, now, asking, octets.as_slice(), input);
@@ -108,7 +108,7 @@ impl<D: Numbered, L: InFlight, C: Clock, G: Rng, K: Client> Flight<D, L, C, G, K
         desk: &mut D,
         outside: &mut O,
         now: u64,
-        asking: Asking<K>,
+        asking: Asking<G, K>,
         octets: &[u8],
         first: Input,
     )
@@ -126,7 +126,7 @@ impl<D: Numbered, L: InFlight, C: Clock, G: Rng, K: Client> Flight<D, L, C, G, K
         loop {
             let moment = self.clock.now();
             let Ok(want) = asking.task.step(moment, &mut self.ids, input) else {
-                refuse::<D, L, C, K, O>(outside, asking, octets, Cause::no_memory());
+                refuse::<D, L, C, G, K, O>(outside, asking, octets, Cause::no_memory());
                 return;
             };
             match want {
@@ -156,7 +156,7 @@ impl<D: Numbered, L: InFlight, C: Clock, G: Rng, K: Client> Flight<D, L, C, G, K
                     let room = match self.table.make_room(now, &asking, octets) {
                         Ok(room) => room,
                         Err(cause) => {
-                            refuse::<D, L, C, K, O>(outside, asking, octets, cause);
+                            refuse::<D, L, C, G, K, O>(outside, asking, octets, cause);
                             return;
                         }
                     };

@@ -33,7 +33,7 @@ pub struct Flight<D: Numbered, L: InFlight, C: Clock, G: Rng, K: Client> {
     pub(crate) clock: C,
     /// Draws the identifiers of queries.
     pub(crate) ids: G,
-    pub(crate) table: Table<D, L, C, K>,
+    pub(crate) table: Table<D, L, C, G, K>,
 }
 
 impl<D: Numbered, L: InFlight, C: Clock, G: Rng, K: Client> Model for Flight<D, L, C, G, K> {
@@ -214,6 +214,6 @@ impl<D: Numbered, L: InFlight, C: Clock, G: Rng, K: Client> Flight<D, L, C, G, K
         let Some(job) = self.table.take(key) else {
             unreachable!()
         };
-        give_up::<D, L, C, K, O>(outside, job, cause);
+        give_up::<D, L, C, G, K, O>(outside, job, cause);
     }
 }

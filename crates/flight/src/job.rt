@@ -7,12 +7,13 @@ use crate::outside::Client;
 use crate::zone::zone_octets;
 use command_text::Clock;
 use dns_text::Octets;
+use rand_core::Rng;
 use std::marker::{Model, PhantomData};
 
 /// A question that waits for the reply of one exchange. Contracts see that exchange, and what counts of the question.
 #[derive(Drop)]
-pub(crate) struct Job<D: Numbered, L: InFlight, C: Clock, K: Client> {
-    pub(crate) asking: Asking<K>,
+pub(crate) struct Job<D: Numbered, L: InFlight, C: Clock, G: Rng, K: Client> {
+    pub(crate) asking: Asking<G, K>,
     /// What the client sent.
     pub(crate) octets: Octets,
     pub(crate) line: L,
@@ -25,7 +26,7 @@ pub(crate) struct Job<D: Numbered, L: InFlight, C: Clock, K: Client> {
     pub(crate) clock: PhantomData<C>,
 }
 
-impl<D: Numbered, L: InFlight, C: Clock, K: Client> Model for Job<D, L, C, K> {
+impl<D: Numbered, L: InFlight, C: Clock, G: Rng, K: Client> Model for Job<D, L, C, G, K> {
     ghost use Rattle.std.specs.Prelude.{◌≡◌};
     ghost use Rattle.flight.specs.Asking.{origin_in, IsAskedBy};
     ghost use Rattle.flight.specs.Flight.{Awaits};
@@ -48,7 +49,7 @@ impl<D: Numbered, L: InFlight, C: Clock, K: Client> Model for Job<D, L, C, K> {
         × (job.kept ≡ kept_in job.asking.task.steps.items) };
 }
 
-impl<D: Numbered, L: InFlight, C: Clock, K: Client> Job<D, L, C, K> {
+impl<D: Numbered, L: InFlight, C: Clock, G: Rng, K: Client> Job<D, L, C, G, K> {
     ghost use Rattle.std.specs.Prelude.{◌≡◌};
     ghost use Rattle.flight.specs.Asking.{origin_in};
     ghost use Rattle.flight.specs.Places.{is_in_network, is_in_zone};
@@ -61,7 +62,7 @@ impl<D: Numbered, L: InFlight, C: Clock, K: Client> Job<D, L, C, K> {
     }
 
     /// Whether its name is in the same zone as that of another question.
-    pub(crate) fn is_in_zone_of(&self, other: &Asking<K>) -> bool
+    pub(crate) fn is_in_zone_of(&self, other: &Asking<G, K>) -> bool
         ensures { result ≡ is_in_zone (origin_in K.network other.now).zone self.now.origin }
     {
         let zone = zone_octets(&self.asking.query.question.owner);
@@ -69,7 +70,7 @@ impl<D: Numbered, L: InFlight, C: Clock, K: Client> Job<D, L, C, K> {
     }
 
     /// Whether its client is of the same network as that of another question.
-    pub(crate) fn is_in_network_of(&self, other: &Asking<K>) -> bool
+    pub(crate) fn is_in_network_of(&self, other: &Asking<G, K>) -> bool
         ensures { result ≡ is_in_network (origin_in K.network other.now).network self.now.origin }
     {
         self.asking.client.network() == other.client.network()

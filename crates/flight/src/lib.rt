@@ -18,6 +18,8 @@ mod outside;
 mod cause;
 // The zone of a question's name.
 mod zone;
+// The task of a question in a worker.
+mod worker_task;
 // A client's question and its task.
 mod asking;
 // What the questions that wait keep in memory.

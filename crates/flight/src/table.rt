@@ -23,6 +23,7 @@ use crate::outside::Client;
 use command_text::Clock;
 use dns_text::Octets;
 use front_workers::PATIENCE_SECONDS;
+use rand_core::Rng;
 use slab::Slab;
 use std::alloc::Global;
 use std::collections::VecDeque;
@@ -72,9 +73,9 @@ pub(crate) struct Room {
 /// The questions that wait. All exchanges have the same patience, so the queue is in the order in which they began. It may
 /// still name exchanges that have ended.
 #[derive(Drop)]
-pub(crate) struct Table<D: Numbered, L: InFlight, C: Clock, K: Client> {
+pub(crate) struct Table<D: Numbered, L: InFlight, C: Clock, G: Rng, K: Client> {
     alloc: Global,
-    pub(crate) jobs: Slab<Job<D, L, C, K>>,
+    pub(crate) jobs: Slab<Job<D, L, C, G, K>>,
     waits: VecDeque<Wait>,
     /// The latest moment at which an exchange began.
     latest: u64,
@@ -87,9 +88,9 @@ pub(crate) struct Table<D: Numbered, L: InFlight, C: Clock, K: Client> {
     ghost within: { IsWithin jobs.slots kept },
 }
 
-impl<D: Numbered, L: InFlight, C: Clock, K: Client> Table<D, L, C, K> {
+impl<D: Numbered, L: InFlight, C: Clock, G: Rng, K: Client> Table<D, L, C, G, K> {
     /// An empty table for at most `limit` questions.
-    pub(crate) fn new(alloc: Global, limit: usize) -> Table<D, L, C, K>
+    pub(crate) fn new(alloc: Global, limit: usize) -> Table<D, L, C, G, K>
         ensures jobs { result.jobs.slots ≡ [] }
         ensures waits { result.waits.items ≡ [] }
         ensures latest { result.latest ≡ 0 }
@@ -110,7 +111,7 @@ impl<D: Numbered, L: InFlight, C: Clock, K: Client> Table<D, L, C, K> {
     }
 
     /// Notes that a question asks for a place.
-    fn note(&mut self, now: u64, asking: &Asking<K>)
+    fn note(&mut self, now: u64, asking: &Asking<G, K>)
         ensures jobs { self.new.jobs ≡ self.old.jobs }
         ensures waits { self.new.waits ≡ self.old.waits }
         ensures latest { self.new.latest ≡ self.old.latest }
@@ -125,7 +126,7 @@ impl<D: Numbered, L: InFlight, C: Clock, K: Client> Table<D, L, C, K> {
     }
 
     /// Whether no network but that of a question has asked for a place for long enough.
-    fn is_alone(&self, now: u64, asking: &Asking<K>) -> bool
+    fn is_alone(&self, now: u64, asking: &Asking<G, K>) -> bool
         ensures { IsTrue result ↔ IsAlone (max now self.now.latest) (K.network asking.now.client) self.now.asker }
     {
         self.asker.network == asking.client.network()
@@ -133,7 +134,7 @@ impl<D: Numbered, L: InFlight, C: Clock, K: Client> Table<D, L, C, K> {
     }
 
     /// Whether a question may begin an exchange beside those under way. They are looked through only if few places are free.
-    fn has_place(&self, now: u64, asking: &Asking<K>) -> bool
+    fn has_place(&self, now: u64, asking: &Asking<G, K>) -> bool
         ensures { IsTrue result ↔ HasPlace (max now self.now.latest) (origin_in K.network asking.now) self.now.asker
             self.now.jobs.slots self.now.limit }
     {
@@ -175,7 +176,7 @@ impl<D: Numbered, L: InFlight, C: Clock, K: Client> Table<D, L, C, K> {
     pub(crate) fn make_room(
         &mut self,
         now: u64,
-        asking: &Asking<K>,
+        asking: &Asking<G, K>,
         octets: &[u8],
     ) -> Result<Room, Cause>
         ensures room { OnOk result (HasRoomFor self.new.jobs 1) }
@@ -230,7 +231,7 @@ impl<D: Numbered, L: InFlight, C: Clock, K: Client> Table<D, L, C, K> {
     }
 
     /// Keeps a question whose exchange begins now.
-    pub(crate) fn keep(&mut self, job: Job<D, L, C, K>)
+    pub(crate) fn keep(&mut self, job: Job<D, L, C, G, K>)
         requires in_time { job.since ≤ job.origin.began + LAST_BEGINNING }
         requires room { HasRoomFor self.old.jobs 1 }
         requires queue_room { deque_len self.old.waits < deque_capacity self.old.waits }
@@ -250,7 +251,7 @@ impl<D: Numbered, L: InFlight, C: Clock, K: Client> Table<D, L, C, K> {
     }
 
     /// Takes out the question under a key.
-    pub(crate) fn take(&mut self, key: usize) -> Option<Job<D, L, C, K>>
+    pub(crate) fn take(&mut self, key: usize) -> Option<Job<D, L, C, G, K>>
         ensures job { result ≡ get self.old.jobs key }
         ensures updates { Updates self.old.jobs self.new.jobs key None }
         ensures frees { IfSome result (λ job. FreesKey self.old.jobs self.new.jobs key job) }
@@ -266,7 +267,7 @@ impl<D: Numbered, L: InFlight, C: Clock, K: Client> Table<D, L, C, K> {
     }
 
     /// Puts back the question that was taken out last.
-    pub(crate) fn put_back(&mut self, job: Job<D, L, C, K>)
+    pub(crate) fn put_back(&mut self, job: Job<D, L, C, G, K>)
         requires room { HasRoomFor self.old.jobs 1 }
         requires queued { IsTrue (is_queued self.old.waits.items self.old.jobs.vacant_key job.since) }
         requires in_time { job.since ≤ job.origin.began + LAST_BEGINNING }
@@ -296,7 +297,7 @@ impl<D: Numbered, L: InFlight, C: Clock, K: Client> Table<D, L, C, K> {
 
     /// Drops the first entry of the queue, whose time is up. The question under its key may be another by now: it is taken
     /// out only if its own time is up.
-    pub(crate) fn pass(&mut self, wait: Wait, now: u64) -> Option<Job<D, L, C, K>>
+    pub(crate) fn pass(&mut self, wait: Wait, now: u64) -> Option<Job<D, L, C, G, K>>
         requires { IsFirstDue PATIENCE now self.old.waits.items wait }
         ensures waits { self.old.waits.items ≡ wait ∷ self.new.waits.items }
         ensures due { IfSome result (λ job. (get self.old.jobs wait.key ≡ Some job) × (job.since + PATIENCE ≤ now)) }

@@ -24,6 +24,7 @@ use command_text::Clock;
 use dns_wire::{Query, Rcode, fault_reply};
 use front_workers::write_answer;
 use iterate::Answer;
+use rand_core::Rng;
 use std::alloc::Global;
 
 /// The header that reports a fault of the client's octets. It takes no memory.
@@ -36,9 +37,9 @@ pub(crate) fn fault_of(octets: &[u8], rcode: Rcode) -> [u8; 12]
 }
 
 /// Sends a client SERVFAIL for a cause.
-pub(crate) fn refuse<D: Numbered, L: InFlight, C: Clock, K: Client, O: Outside<D, L, C, K>>(
+pub(crate) fn refuse<D: Numbered, L: InFlight, C: Clock, G: Rng, K: Client, O: Outside<D, L, C, K>>(
     outside: &mut O,
-    asking: Asking<K>,
+    asking: Asking<G, K>,
     octets: &[u8],
     cause: Cause,
 )
@@ -49,11 +50,14 @@ pub(crate) fn refuse<D: Numbered, L: InFlight, C: Clock, K: Client, O: Outside<D
 }
 
 /// Ends a question that waits, because it keeps too much in memory: its exchange ends, and its client gets SERVFAIL.
-pub(crate) fn give_up<D: Numbered, L: InFlight, C: Clock, K: Client, O: Outside<D, L, C, K>>(
-    outside: &mut O,
-    job: Job<D, L, C, K>,
-    cause: Cause,
-)
+pub(crate) fn give_up<
+    D: Numbered,
+    L: InFlight,
+    C: Clock,
+    G: Rng,
+    K: Client,
+    O: Outside<D, L, C, K>,
+>(outside: &mut O, job: Job<D, L, C, G, K>, cause: Cause)
     ensures port { O.server_port outside.new ≡ O.server_port outside.old }
     ensures ends { Ends K.sent O.posts 0 1 (O.outbox outside.old) 0 (O.outbox outside.new) }
     ensures accounted { IsAccounted 0 1 (O.counts outside.old) 0 (O.counts outside.new) }
