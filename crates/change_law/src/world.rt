@@ -1,6 +1,6 @@
 //! The world: its face, and the changes that it keeps.
 
-ghost use Rattle.std.specs.Prelude.{◌≡◌, ◌<◌, ℕ, Bool, true, false, List, Option, IfOk, IfSome, IfNone, IsOk, OnOk, OnErr, IsErrOf};
+ghost use Rattle.std.specs.Prelude.{◌≡◌, ◌<◌, ℕ, Bool, true, false, List, Option, IfOk, IfErr, IfSome, IfNone, IsOk, OnOk, OnErr, IsErrOf};
 ghost use Rattle.dns_name.specs.Labels.{Labels};
 ghost use Rattle.dns_text.specs.declared.record.Question.{Question};
 ghost use Rattle.ranked.specs.declared.find.Scope.{Scope};
@@ -79,6 +79,9 @@ pub trait World: Drop {
         ensures row { OnOk result (IsEachRowFrom table keeps face moment (face_with has_cells find moment) self.old self.new) }
         ensures err { OnErr result (IsRefused table keeps face newest stored counts self.old self.new) }
         ensures full { (n : ℕ) → IsErrOf result (WorldFault.Full n) → (stored self.old ≡ n) × (limit self.old ≡ n) }
+
+        // A world that stores as many cells as it may refuses no find for want of memory: it is full.
+        ensures at_limit { stored self.old ≡ limit self.old → IfErr result (λ fault. fault ≡ WorldFault.Full (stored self.old)) }
 
         // A find is not refused if one of its pair is alive, by whichever choice of the kept changes.
         ensures free { (kept : List (KeptChange Self.Saved)) → keeps self.old kept →

@@ -102,6 +102,7 @@ impl Book for ShelfBook {
     ghost use Rattle.history.specs.declared.event.Event.{Event};
     ghost use Rattle.history.specs.Answers.{Answers, Follows, history_after};
     ghost use Rattle.history.specs.History.{past_of};
+    ghost use Rattle.world_book.specs.Book.{IsByLimit};
     ghost use Rattle.world_book.specs.Versions.{count_pairs, pairs_left, AreAliveAfter, ForgetsOldest};
 
     ghost stands_for = { λ book history. ⟦<WorldBook<StoreChange> as Book>⟧.stands_for book.book history };
@@ -131,11 +132,11 @@ impl Book for ShelfBook {
         ensures settings { ⟦<WorldBook<StoreChange> as Book>⟧.settings self.new.book
             ≡ ⟦<WorldBook<StoreChange> as Book>⟧.settings self.old.book }
 
-        // It is full only if of the finds that were admitted, and whose owner was not forgotten since, as many differ in owner or scope
-        // as there may be cells.
-        ensures many { (h : List Event) → ⟦<WorldBook<StoreChange> as Book>⟧.stands_for self.old.book h →
-            (n : ℕ) → IsErrOf result (StepFault.Full n) →
-            (⟦<WorldBook<StoreChange> as Book>⟧.settings self.old.book).cells ≤ count_pairs (pairs_left h) }
+        // It is full only if as many finds as there may be cells differ in owner or scope. If it stores as many cells as there may be, it
+        // refuses no admission for want of memory.
+        ensures by_limit { IfErr result (λ fault. IsByLimit (⟦<WorldBook<StoreChange> as Book>⟧.stands_for self.old.book)
+            (⟦<WorldBook<StoreChange> as Book>⟧.stored self.old.book)
+            (⟦<WorldBook<StoreChange> as Book>⟧.settings self.old.book).cells event fault) }
 
         // A sweep, a forget, an undo or a redo that reaches a flush, an undo of a command that removed nothing, and an admission whose
         // pair is alive in some version need no memory.
@@ -168,6 +169,11 @@ impl Book for ShelfBook {
         // pair is alive in some version need no memory.
         ensures free { ⟦<WorldBook<StoreChange> as Book>⟧.is_free self.old.book event →
             IfErr result (λ fault. (fault ≡ StepFault.BadMoment) ⊎ (fault ≡ StepFault.CountEnded)) }
+
+        // A fault comes from the limit of cells as in `step`.
+        ensures by_limit { IfErr result (λ fault. IsByLimit (⟦<WorldBook<StoreChange> as Book>⟧.stands_for self.old.book)
+            (⟦<WorldBook<StoreChange> as Book>⟧.stored self.old.book)
+            (⟦<WorldBook<StoreChange> as Book>⟧.settings self.old.book).cells event fault) }
     {
         match self.book.follow(event) {
             Ok(()) => Ok(()),

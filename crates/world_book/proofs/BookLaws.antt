@@ -12,7 +12,7 @@ use Rattle.ranked.specs.Equal.{scope_eq}
 use Rattle.ranked.specs.declared.find.Find.{Find}
 use Rattle.ranked.specs.declared.find.Scope.{Scope}
 use Rattle.change_law.specs.declared.world.World.{Ghosts}
-use Rattle.change_law.specs.Pairs.{AddsPairs, CountsAmong, CountsNoneOf, pair_eq, pair_of}
+use Rattle.change_law.specs.Pairs.{AddsPairs, CountsAmong, CountsNoneOf, count_pairs, pair_eq, pair_of}
 use Rattle.undo_journal.specs.Journal.{Changes}
 use Rattle.undo_journal.specs.Needs.{is_needy}
 use Rattle.course.specs.CourseLaws.{same_at}
@@ -28,7 +28,7 @@ use Rattle.history.specs.declared.tables.Tables.{Tables}
 use Rattle.history.specs.Answers.{Answers}
 use Rattle.history.specs.Event.{moment_of, is_admission}
 use Rattle.history.specs.History.{Past, past_of, nothing, followed_by}
-use Rattle.world_book.specs.Book.{BookState, IsBookOf, IsPassed, IsUntouched}
+use Rattle.world_book.specs.Book.{BookState, IsBookOf, IsByLimit, IsPassed, IsUntouched}
 use Rattle.world_book.specs.Deeds.{empty_face}
 use Rattle.world_book.specs.Step.{ForgetsPairs, IsFaultOf}
 use Rattle.world_book.specs.Removals.{HasRemoved, IsFreeAfter}
@@ -101,6 +101,16 @@ never_full {A} answer n untimely is =
     elim (subst (λ (r : Result A StepFault). IfErr r (λ fault. (fault ≡ BadMoment) ⊎ (fault ≡ CountEnded))) is untimely) [
       | inl early ↦ absurd (cc)
       | inr ended ↦ absurd (cc)
+    ]
+
+-- Neither the moment nor the count of events is about the limit of cells.
+pub untimely_by_limit : {A : Type 0} (stands : List Event → Type 0) (stored limit : ℕ) (event : Event) (answer : Result A StepFault) →
+    IfErr answer (λ fault. (fault ≡ BadMoment) ⊎ (fault ≡ CountEnded)) → IfErr answer (λ fault. IsByLimit stands stored limit event fault)
+untimely_by_limit stands stored limit event (Ok taken) untimely = tt
+untimely_by_limit stands stored limit event (Err fault) untimely =
+    elim untimely [
+      | inl early ↦ subst (λ (f : StepFault). IsByLimit stands stored limit event f) (sym early) tt
+      | inr ended ↦ subst (λ (f : StepFault). IsByLimit stands stored limit event f) (sym ended) tt
     ]
 
 module _ {W S : Type 0} (by : Ghosts W Tables S Command) where
@@ -236,6 +246,14 @@ module _ {W S : Type 0} (by : Ghosts W Tables S Command) where
       (record { moment = timely; count_goes_on = subst (λ (n : ℕ). n < MOST_EVENTS) so.count counted }, is.0, sym is.2 ∙ so.most, subst (λ (n : ℕ). n ≤ count_by is_admission h) is.1 so.few)
   faulted book event BadMoment timely counted is h so = absurd is
   faulted book event CountEnded timely counted is h so = absurd is
+
+  pub by_limit : (book : BookState W S) (event : Event) (fault : StepFault) → IsFaultOf by book.world event fault →
+      ((finds : List Find) → CountsAmong by.counts (map pair_of finds) book.world → by.stored book.world ≤ count_pairs (map pair_of finds)) →
+      IsByLimit (BookOf book) (by.stored book.world) book.settings.cells event fault
+  by_limit book event NoMemory is most = λ h so admits full. is admits (full ∙ sym so.most)
+  by_limit book event (Full n) is most = λ h so. omega (arith, is.1, is.2, so.most, most (finds_left h) so.pairs)
+  by_limit book event BadMoment is most = tt
+  by_limit book event CountEnded is most = tt
 
   -- a book to which nothing has happened
   pub begins : (world : W) (settings : Settings) → by.has_cells ≡ true → IsUntouched by empty_face settings.cells world → 1 ≤ settings.journal →

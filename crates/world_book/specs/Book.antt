@@ -1,5 +1,5 @@
 -- What a book keeps, and which histories it represents.
-use Rattle.std.specs.Prelude.{◌≡◌, ◌≤◌, ◌⊎◌, ℕ, Bool, true, List, [], length, count_by, refl, Result, IfErr, OnErr}
+use Rattle.std.specs.Prelude.{◌≡◌, ◌≢◌, ◌≤◌, ◌⊎◌, ℕ, Bool, true, List, [], length, count_by, refl, Result, IfErr, OnErr, IsTrue}
 use Rattle.std.specs.Coded.{Coded, code_by, coded×, coded_ℕ}
 use Rattle.change_law.specs.declared.world.World.{Ghosts}
 use Rattle.change_law.specs.Face.{Face, IsSame}
@@ -10,7 +10,7 @@ use Rattle.history.specs.declared.event.Event.{Event}
 use Rattle.history.specs.declared.event.Settings.{Settings}
 use Rattle.history.specs.declared.tables.Tables.{Tables}
 use Rattle.history.specs.declared.book.StepFault.{StepFault}
-use Rattle.history.specs.declared.book.StepFault.TheVariants.{BadMoment, CountEnded}
+use Rattle.history.specs.declared.book.StepFault.TheVariants.{BadMoment, CountEnded, Full, NoMemory}
 use Rattle.history.specs.declared.limits.TheConstants.{MOST_EVENTS}
 use Rattle.history.specs.Answers.{Follows, history_after}
 use Rattle.history.specs.Event.{is_admission}
@@ -18,7 +18,7 @@ use Rattle.history.specs.History.{past_of}
 use Rattle.world_book.specs.Removals.{HasRemoved}
 use Rattle.world_book.specs.Step.{IsSound}
 use Rattle.world_book.specs.Tied.{IsTied, undo_may_need}
-use Rattle.world_book.specs.Versions.{pairs_left}
+use Rattle.world_book.specs.Versions.{count_pairs, pairs_left}
 
 -- a world, the changes of its journal, the settings, the greatest moment and the count of events
 pub record BookState (W S : Type 0) : Type 0 where
@@ -51,6 +51,14 @@ pub record IsBookOf {W S : Type 0} (by : Ghosts W Tables S Command) (book : Book
   pub most : by.limit book.world ≡ book.settings.cells
   pub some_commands : 1 ≤ book.settings.journal
   pub needs : (ticket : ℕ) → undo_may_need by book.changes ticket ≡ true → HasRemoved book.settings.journal history ticket
+
+-- What the limit of cells decides of a fault, at a book that stands for some histories and stores so many cells. It is full only if of the
+-- finds that were admitted, and whose owner was not forgotten since, as many differ in owner or scope as the limit. It finds no memory for
+-- an admission only if it does not store as many cells as the limit.
+abbrev pub IsByLimit : (List Event → Type 0) → ℕ → ℕ → Event → StepFault → Type 0
+IsByLimit stands stored limit event (Full n) = (h : List Event) → stands h → limit ≤ count_pairs (pairs_left h)
+IsByLimit stands stored limit event NoMemory = (h : List Event) → stands h → IsTrue (is_admission event) → stored ≢ limit
+IsByLimit stands stored limit event _ = Unit {0}
 
 -- A book took an event that changes nothing but the clock, or it was not timely. Nobody reads the reply.
 pub record IsPassed {W S A : Type 0} (by : Ghosts W Tables S Command) (book : BookState W S) (event : Event) (answer : Result A StepFault) (book' : BookState W S) : Type 0 where

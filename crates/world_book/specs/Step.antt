@@ -1,5 +1,5 @@
 -- What a step does to a world under its journal.
-use Rattle.std.specs.Prelude.{◌≡◌, ◌≤◌, ◌+◌, ℕ, Bool, List, Some, IsTrue}
+use Rattle.std.specs.Prelude.{◌≡◌, ◌≢◌, ◌≤◌, ◌+◌, ℕ, Bool, List, Some, IsTrue}
 use Rattle.dns_name.specs.Labels.{Labels}
 use Rattle.change_law.specs.declared.world.World.{Ghosts}
 use Rattle.change_law.specs.Pairs.{AddsPairs, CountsNoneOf}
@@ -50,9 +50,9 @@ abbrev pub reply_of_fate : Fate → Reply
 reply_of_fate fate.Taken = Taken
 reply_of_fate fate.Outranked = Outranked
 
--- A step found no memory, or it was an admission to a world that stores as many cells as it may.
+-- A step found no memory, but not for an admission to a world that stores as many cells as it may. Or it was such an admission.
 abbrev pub IsFaultOf : {W T S D : Type 0} → Ghosts W T S D → W → Event → StepFault → Type 0
-IsFaultOf by world event NoMemory = Unit {0}
+IsFaultOf by world event NoMemory = IsTrue (is_admission event) → by.stored world ≢ by.limit world
 IsFaultOf by world event (Full n) = IsTrue (is_admission event) × (by.stored world ≡ n) × (by.limit world ≡ n)
 IsFaultOf by world event _ = ⊥
 

@@ -49,6 +49,7 @@ impl<C: BookChange> WorldBook<C> {
         requires untouched { IsUntouched C.World.World empty_face settings.cells world }
         ensures empty { IfOk result (λ b. ⟦<WorldBook<C> as Book>⟧.stands_for b []) }
         ensures settings { IfOk result (λ b. ⟦<WorldBook<C> as Book>⟧.settings b ≡ settings) }
+        ensures world { IfOk result (λ b. b.world ≡ world) }
     {
         let journal = Journal::new(alloc, settings.journal)?;
         Ok(WorldBook {
@@ -105,7 +106,7 @@ impl<C: BookChange> Book for WorldBook<C> {
     ghost use Rattle.history.specs.declared.event.Event.{Event};
     ghost use Rattle.history.specs.Answers.{Answers, Follows, history_after};
     ghost use Rattle.history.specs.History.{past_of};
-    ghost use Rattle.world_book.specs.Book.{IsBookOf};
+    ghost use Rattle.world_book.specs.Book.{IsBookOf, IsByLimit};
     ghost use Rattle.world_book.specs.Removals.{IsFreeAfter};
     ghost use Rattle.world_book.specs.Versions.{pairs_left, AreAliveAfter, ForgetsOldest};
 
@@ -135,10 +136,10 @@ impl<C: BookChange> Book for WorldBook<C> {
         ensures same_store { OnErr result (C.World.stored self.new.world ≡ C.World.stored self.old.world) }
         ensures settings { self.new.settings ≡ self.old.settings }
 
-        // It is full only if of the finds that were admitted, and whose owner was not forgotten since, as many differ in owner or scope
-        // as there may be cells.
-        ensures many { (h : List Event) → IsBookOf C.World.World self.old h → (n : ℕ) → IsErrOf result (StepFault.Full n) →
-            self.old.settings.cells ≤ count_pairs (pairs_left h) }
+        // It is full only if as many finds as there may be cells differ in owner or scope. If it stores as many cells as there may be, it
+        // refuses no admission for want of memory.
+        ensures by_limit { IfErr result (λ fault. IsByLimit (IsBookOf C.World.World self.old)
+            (C.World.stored self.old.world) self.old.settings.cells event fault) }
 
         // An event that needs no memory is refused only by the clock and the count of events.
         ensures free { (h : List Event) × IsBookOf C.World.World self.old h × IsFreeAfter self.old.settings.journal h event →
@@ -186,6 +187,10 @@ impl<C: BookChange> Book for WorldBook<C> {
         // An event that needs no memory is refused only by the clock and the count of events.
         ensures free { (h : List Event) × IsBookOf C.World.World self.old h × IsFreeAfter self.old.settings.journal h event →
             IfErr result (λ fault. (fault ≡ StepFault.BadMoment) ⊎ (fault ≡ StepFault.CountEnded)) }
+
+        // A fault comes from the limit of cells as in `step`.
+        ensures by_limit { IfErr result (λ fault. IsByLimit (IsBookOf C.World.World self.old)
+            (C.World.stored self.old.world) self.old.settings.cells event fault) }
     {
         match event {
             Event::Look { moment, ask } => self.pass_look(moment, &ask),

@@ -1,14 +1,15 @@
-use Rattle.std.proofs.Common.{◌≡◌, ◌∙◌, ap, sym, subst, arith}
+use Rattle.std.proofs.Common.{◌≡◌, ◌∙◌, ap, sym, subst, arith, inl, inr}
 use Rattle.std.specs.Prelude.{position}
 use Rattle.std.specs.Map.{keys_of}
-use Rattle.std.proofs.lemmas.Bool.{false≢true}
+use Rattle.std.proofs.lemmas.Bool.{cases_Bool, false≢true}
 use Rattle.change_law.specs.Pairs.{pair_of}
 use Rattle.store.proofs.PairLaws.{adds_pair, adds_none, alive_there}
 use Rattle.dns_name.specs.Order.{name_eq}
 use Rattle.ranked.specs.declared.find.Find.{Find}
 use Rattle.change_law.specs.Face.{fate_in}
-use Rattle.shelf.specs.Room.{fate_of}
-use Rattle.store.specs.World.{Shelved, shelved, shown_face}
+use Rattle.shelf.specs.declared.fault.StoreFault.TheVariants as store
+use Rattle.shelf.specs.Room.{fate_of, needs_place}
+use Rattle.store.specs.World.{Shelved, fault_told, shelved, shown_face}
 use Rattle.store.specs.WorldLaws.{row_admitted, row_same, same_fate}
 use Rattle.store.proofs.world.ShelfWorldWorld.admit.Goals as goal
 
@@ -48,6 +49,15 @@ returns-in-Err-clause-counts c = rw (← c.self.view_is) ((
 pub returns-in-Err-clause-free : goal.returns-in-Err-clause-free
 returns-in-Err-clause-free c = rw (← c.self.view_is) (λ kept h alive.
     absurd (false≢true (c.in-Err.ensures.room.alive (alive_there c.self.inside.shelf kept c.args.moment (pair_of c.args.find) alive))))
+
+pub returns-in-Err-clause-at_limit : goal.returns-in-Err-clause-at_limit
+returns-in-Err-clause-at_limit c = rw (← c.self.view_is) (λ full.
+    elim (cases_Bool (needs_place c.self.inside.shelf c.args.find c.args.moment)) [
+      | inl needed ↦
+          let is : c.in-Err.fault ≡ store.Full c.self.inside.shelf.stored = cc (c.in-Err.ensures.room.full (full, needed)) in
+          c.fault_told.ensures ∙ ap fault_told is
+      | inr unneeded ↦ absurd (false≢true (c.in-Err.ensures.room.unneeded unneeded))
+    ])
 
 pub fate_at-fate-requires : goal.fate_at-fate-requires
 fate_at-fate-requires c =

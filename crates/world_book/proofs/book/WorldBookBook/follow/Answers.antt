@@ -4,7 +4,7 @@ use Rattle.std.specs.Prelude.{◌⊎◌, IfErr}
 use Rattle.history.specs.Answers.{Follows, history_after}
 use Rattle.history.specs.declared.event.Event.{Event}
 use Rattle.world_book.specs.Book.{IsBookOf}
-use Rattle.world_book.proofs.BookLaws.{never_full}
+use Rattle.world_book.proofs.BookLaws.{never_full, untimely_by_limit}
 use Rattle.world_book.proofs.book.WorldBookBook.follow.Goals as goal
 
 pub returns-in-Look-clause-answers : goal.returns-in-Look-clause-answers
@@ -49,3 +49,11 @@ returns-in-Sweep-clause-free g c = λ free. c.pass_sweep.ensures.untimely
 
 pub returns-in-Ok-clause-answers : goal.returns-in-Ok-clause-answers
 returns-in-Ok-clause-answers g c = λ h so. (c.in-Ok.ensures.answers h so).0
+
+pub returns-in-Look-clause-by_limit : goal.returns-in-Look-clause-by_limit
+returns-in-Look-clause-by_limit g c =
+    untimely_by_limit (λ (h : List Event). IsBookOf g.C.World.World c.args.self.now h) (g.C.World.World.stored c.args.self.now.world) c.args.self.now.settings.cells c.args.event c.pass_look.result c.pass_look.ensures.untimely
+
+pub returns-in-Sweep-clause-by_limit : goal.returns-in-Sweep-clause-by_limit
+returns-in-Sweep-clause-by_limit g c =
+    untimely_by_limit (λ (h : List Event). IsBookOf g.C.World.World c.args.self.now h) (g.C.World.World.stored c.args.self.now.world) c.args.self.now.settings.cells c.args.event c.pass_sweep.result c.pass_sweep.ensures.untimely

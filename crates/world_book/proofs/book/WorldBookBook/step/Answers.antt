@@ -3,7 +3,7 @@ use Rattle.std.proofs.lemmas.Bool.{false≢true}
 use Rattle.history.specs.declared.limits.TheConstants.{MOMENT_END, MOST_EVENTS}
 use Rattle.history.specs.Event.{moment_of}
 use Rattle.world_book.specs.Book.{BookState}
-use Rattle.world_book.proofs.BookLaws.{answered, free_here, goes_on, room_made, stays}
+use Rattle.world_book.proofs.BookLaws.{answered, by_limit, free_here, goes_on, room_made, stays}
 use Rattle.world_book.proofs.book.WorldBookBook.step.Goals as goal
 
 pub returns-in-Ok-clause-answers : goal.returns-in-Ok-clause-answers
@@ -40,3 +40,9 @@ returns-in-Err-clause-free g c =
     let book : BookState g.row.C-World.Denot g.row.C-World-Saved.Denot = record { world = j.world; changes = j.journal; settings = j.settings; moment = j.moment; count = j.count } in
     let is : c.max-clock.result ≡ max j.moment (moment_of c.args.event) = c.max-clock.ensures ∙ ap (λ (m : ℕ). max j.moment m) c.moment-2.ensures in
     rw (← c.self.view_is) (λ free. absurd (false≢true (free_here g.C.World.World book c.max-clock.result c.args.event is c.in-Err.ensures.free free.0 free.1 free.2)))
+
+pub returns-in-Err-clause-by_limit : goal.returns-in-Err-clause-by_limit
+returns-in-Err-clause-by_limit g c =
+    let j = c.self.inside in
+    let book : BookState g.row.C-World.Denot g.row.C-World-Saved.Denot = record { world = j.world; changes = j.journal; settings = j.settings; moment = j.moment; count = j.count } in
+    rw (← c.self.view_is) (by_limit g.C.World.World book c.args.event c.in-Err.fault c.in-Err.ensures.faults c.stored-stored.ensures.most)
