@@ -7,6 +7,7 @@ use Rattle.change_law.specs.declared.fault.WorldFault.{WorldFault}
 use Rattle.change_law.specs.declared.fault.WorldFault.TheVariants as world
 use Rattle.change_law.specs.Choice.{is_done}
 use Rattle.change_law.specs.Face.{Face}
+use Rattle.std.specs.HashMap.{hasher_of}
 use Rattle.std.specs.Map.{lookup}
 use Rattle.std.specs.Option.{option_map_or}
 use Rattle.dns_name.specs.Labels.{Labels}
@@ -15,6 +16,7 @@ use Rattle.ranked.specs.declared.find.Find.{Find}
 use Rattle.ranked.specs.declared.find.Scope.{Scope}
 use Rattle.ranked.specs.declared.cell.Admitted.{Admitted}
 use Rattle.cell_store.specs.declared.owner.OwnerCells.{OwnerCells}
+use Rattle.cell_store.specs.declared.seed.NameSeed.{NameSeed}
 use Rattle.cell_store.specs.Store.{cell_by_owner}
 use Rattle.cell_store.specs.Count.{has_place}
 use Rattle.shelf.specs.declared.fault.StoreFault.{StoreFault}
@@ -27,9 +29,10 @@ use Rattle.shelf.specs.Sweep.{unswept}
 use Rattle.shelf.specs.Told.{chosen_version, shown_version}
 use Rattle.store.specs.declared.world.SavedFlush.{SavedFlush}
 
--- what a shelf holds, by names, the moments before which they need no sweep, which flushes it keeps, the permanent ones that have not reached each name, the greatest number so far, how many places count, and how many may
+-- what a shelf holds, by names, the seed of their hashes, the moments before which they need no sweep, which flushes it keeps, the permanent ones that have not reached each name, the greatest number so far, how many places count, and how many may
 pub record Shelved : Type 0 where
   pub names : List (Labels × OwnerCells)
+  pub seed : NameSeed
   pub moments : List ℕ
   pub flushes : List KeptFlush
   pub settlings : List Settling
@@ -38,7 +41,7 @@ pub record Shelved : Type 0 where
   pub limit : ℕ
 
 abbrev pub shelved : Shelf → Shelved
-shelved shelf = record { names = shelf.owners.entries; moments = shelf.ends.moments; flushes = shelf.kept.items; settlings = shelf.settlings.items; top = shelf.top; stored = shelf.stored; limit = shelf.limit }
+shelved shelf = record { names = shelf.owners.entries; seed = hasher_of shelf.owners; moments = shelf.ends.moments; flushes = shelf.kept.items; settlings = shelf.settlings.items; top = shelf.top; stored = shelf.stored; limit = shelf.limit }
 
 -- the cell of a question in a version
 abbrev pub cell_at : Shelved → Question → ℕ → Option (Admitted Find)

@@ -45,14 +45,15 @@ pub struct Store {
 }
 
 impl Store {
-    ghost use Rattle.std.specs.Prelude.{◌≤◌, ◌^◌};
+    ghost use Rattle.std.specs.Prelude.{◌≡◌, ◌≤◌, ◌^◌};
     ghost use Rattle.world_book.specs.Book.{IsUntouched};
     ghost use Rattle.world_book.specs.Deeds.{empty_face};
 
     /// Empty tables and an empty cache that may store so many cells. The cache's index hashes with this seed.
     pub fn new(alloc: Global, limit: u64, seed: NameSeed) -> Store
         requires { limit ≤ 2 ^ 62 }
-        ensures { IsUntouched ⟦<Store as World>⟧ empty_face limit result }
+        ensures untouched { IsUntouched ⟦<Store as World>⟧ empty_face limit result }
+        ensures seed { result.cells.seed ≡ seed }
     {
         Store {
             tables: TableWorld::new(alloc),

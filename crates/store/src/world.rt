@@ -81,7 +81,8 @@ impl ShelfWorld {
     /// The same, but its index hashes with a seed that the program drew, since strangers choose the names.
     pub fn seeded(alloc: Global, limit: u64, seed: NameSeed) -> ShelfWorld
         requires { limit ≤ 2 ^ 62 }
-        ensures { IsUntouched ⟦<ShelfWorld as World>⟧ empty_cells limit result }
+        ensures untouched { IsUntouched ⟦<ShelfWorld as World>⟧ empty_cells limit result }
+        ensures seed { result.seed ≡ seed }
     {
         let shelf = Shelf::seeded(alloc, limit, seed);
         // It is called for its clause `none`: no place counts yet.

@@ -28,3 +28,4 @@ pub mod Stored
 pub mod Replayed
 pub mod PlainPast
 pub mod PlainBook
+pub mod ShelfBook

@@ -2,6 +2,7 @@
 
 ghost use Rattle.std.specs.Prelude.{◌≡◌, ◌≤◌, ◌^◌, ◌↔◌, [], IfOk, IsErr, IsErrOf};
 ghost use Rattle.history.specs.Event.{AreSettings, lagging_of};
+ghost use Rattle.undo_book.specs.ShelfBook.{seed_of};
 
 use cell_store::NameSeed;
 use dns_name::{Name, NoMemory};
@@ -37,6 +38,7 @@ impl ShelfBook {
         ensures empty { IfOk result (λ b. ⟦<ShelfBook as Book>⟧.stands_for b []) }
         ensures settings { IfOk result (λ b. ⟦<ShelfBook as Book>⟧.settings b ≡ settings) }
         ensures refused { IsErrOf result MakeFault.BadSettings ↔ ¬ (AreSettings settings) }
+        ensures seed { IfOk result (λ b. seed_of b ≡ seed) }
     {
         if !are_settings(&settings) {
             return Err(MakeFault::BadSettings);
@@ -64,6 +66,7 @@ impl ShelfBook {
         ensures empty { IfOk result (λ b. ⟦<ShelfBook as Book>⟧.stands_for b []) }
         ensures settings { IfOk result (λ b. ⟦<ShelfBook as Book>⟧.settings b ≡ lagging_of settings.now) }
         ensures refused { IsErrOf result MakeFault.BadSettings ↔ ¬ (AreSettings settings.now) }
+        ensures seed { IfOk result (λ b. seed_of b ≡ seed) }
     {
         if !are_settings(settings) {
             return Err(MakeFault::BadSettings);
@@ -85,6 +88,7 @@ impl ShelfBook {
         ensures empty { IfOk result (λ b. ⟦<ShelfBook as Book>⟧.stands_for b []) }
         ensures settings { IfOk result (λ b. ⟦<ShelfBook as Book>⟧.settings b ≡ settings) }
         ensures no_memory { IsErr result → IsErrOf result MakeFault.NoMemory }
+        ensures seed { IfOk result (λ b. seed_of b ≡ seed) }
     {
         let store = Store::new(alloc, settings.cells as u64, seed);
         match WorldBook::new(alloc, settings, store) {

@@ -4,8 +4,8 @@ use Rattle.store.specs.World.{mark}
 use Rattle.store.specs.WorldLaws.{empty_faces}
 use Rattle.store.proofs.world.ShelfWorld.seeded.Goals as goal
 
-pub returns : goal.returns
-returns c = record {
+pub returns-clause-untouched : goal.returns-clause-untouched
+returns-clause-untouched c = record {
   keeps = record { agree = sym (ap (λ (flushes : List KeptFlush). map mark flushes) c.seeded-shelf.ensures.kept); numbers = tt };
   faces = λ chosen. empty_faces c.seeded-shelf.result c.seeded-shelf.ensures.kept c.seeded-shelf.ensures.cells chosen;
   newest = c.seeded-shelf.ensures.top;
@@ -13,3 +13,6 @@ returns c = record {
   limit = c.seeded-shelf.ensures.limit;
   pairs = c.admitted_law.ensures.none c.seeded-shelf.result c.seeded-shelf.ensures.whole c.seeded-shelf.ensures.stored;
 }
+
+pub returns-clause-seed : goal.returns-clause-seed
+returns-clause-seed c = c.seeded-shelf.ensures.seed
