@@ -1,5 +1,5 @@
 -- How a find is handed to a book, which may be full.
-use Rattle.std.proofs.Common.{◌≡◌, ℕ, ◌+◌, ◌<◌, ◌≤◌, List, [], ◌∷◌, ◌++◌, length, map, min, take, get_or, false, Some, None, Result, Ok, Err, IfOk, sym, ap, ◌∙◌, subst, refl, arith}
+use Rattle.std.proofs.Common.{◌≡◌, ℕ, ◌+◌, ◌<◌, ◌≤◌, List, [], ◌∷◌, ◌++◌, length, map, min, take, get_or, Bool, true, false, Some, None, Result, Ok, Err, IfOk, sym, ap, ◌∙◌, subst, refl, arith}
 use Rattle.std.specs.Global.{Box}
 use Rattle.std.specs.List.{Contains}
 use Rattle.std.proofs.lemmas.Bool.{false≢true}
@@ -22,6 +22,7 @@ use Rattle.history.specs.declared.event.Reply.TheVariants.{Seen, Swept, Forgotte
 use Rattle.history.specs.declared.event.Seen.TheVariants.{Oldest as SeenOldest}
 use Rattle.iterate.specs.declared.answer.Answer.TheVariants.{Reply as Replies}
 use Rattle.iterate.specs.declared.path.Path.{Path}
+use Rattle.iterate.specs.declared.phase.Advance.{Advance}
 use Rattle.iterate.specs.declared.phase.Attempt.{Attempt}
 use Rattle.iterate.specs.declared.phase.Attempt.TheVariants as attempt
 use Rattle.iterate.specs.declared.phase.Phase.TheVariants.{Admitting, Ended}
@@ -34,7 +35,7 @@ use Rattle.iterate.specs.Exchanges.{Exchange, exchange, Adds, sends}
 use Rattle.iterate.specs.Measure.{top, attempts_left, left_of_finds, left_of_hearing}
 use Rattle.iterate.specs.Phase.{Goes, IsHearing, IsTold, Suits, idle}
 use Rattle.iterate.specs.Resolved.{Fails}
-use Rattle.iterate.specs.Room.{is_room, MadeRoom, FoundFull, IsFull, IsSwept, IsFullAgain, IsNamed, IsForgotten, MayHand, IsHanded, IsAsked, IsHandedBy, IsTrying, IsHanding, AsksNext, IsNoneOldest, SaysFull}
+use Rattle.iterate.specs.Room.{is_room, MadeRoom, FoundFull, IsFull, IsSwept, IsFullAgain, IsNamed, IsForgotten, MayHand, IsHanded, IsAsked, IsHandedBy, IsTrying, IsHanding, IsTaken, IsRefusal, NamesNone, IsHandedNext, HandsOn, AsksNext, IsNoneOldest, SaysFull}
 use Rattle.iterate.specs.Searching.{IsPath, hunt_of, question_of}
 use Rattle.iterate.specs.Shown.{IsMisanswered}
 use Rattle.iterate.specs.Wanted.{IsHarvested, MayCall}
@@ -302,3 +303,39 @@ none_oldest_asks find moment input want none = tt
 pub each_ok : {A E : Type 0} (r : Result A E) (P : A → Type 0) → ((x : A) → P x) → IfOk r P
 each_ok (Ok x) P all = all x
 each_ok (Err e) P all = tt
+
+-- ---- a find is done with
+
+-- A flag that is not false is true.
+pub lawful : (b : Bool) → (b ≡ false → ⊥) → b ≡ true
+lawful true other = refl
+lawful false other = absurd (other refl)
+
+-- A book may reply so to an admission.
+pub taken : (find : Find) (input : Input) → IsTaken input → (Suits (Book (Admit 0 find)) input → IsMisanswered (Admit 0 find) input) → ⊥
+taken find (Reply reply) is bad = bad tt is
+taken find (Refused fault) is bad = bad tt
+taken find input is bad = absurd is
+
+-- A book may refuse a sweep.
+pub sweep_refused : (input : Input) → IsRefusal input → (Suits (Book (Sweep 0)) input → IsMisanswered (Sweep 0) input) → ⊥
+sweep_refused (Refused fault) is bad = bad tt
+sweep_refused input is bad = absurd is
+
+-- A book may refuse to forget a name.
+pub forget_refused : (owner : Labels) (input : Input) → IsRefusal input → (Suits (Book (Forget 0 owner)) input → IsMisanswered (Forget 0 owner) input) → ⊥
+forget_refused owner (Refused fault) is bad = bad tt
+forget_refused owner input is bad = absurd is
+
+-- A book may name none to forget.
+pub none_named : (input : Input) → NamesNone input → (Suits (Book (Look 0 Oldest)) input → IsMisanswered (Look 0 Oldest) input) → ⊥
+none_named (Refused fault) is bad = bad tt
+none_named (Reply (Seen (SeenOldest None))) is bad = bad tt tt
+none_named input is bad = absurd is
+
+-- All this is asked next for the finds.
+pub hands_on : {E : Type 0} (finds : List Find) (allowed next : ℕ) (tried : Attempt) (moment : ℕ) (input : Input) (r : Result Advance E)
+    → ((find : Find) → IsHanded finds allowed next find → IfOk r (λ t. AsksNext tried find moment input t.want))
+    → ((find : Find) → IsHandedNext finds allowed next tried input find → IfOk r (λ t. t.want ≡ Book (Admit moment find))) → IfOk r (λ t. HandsOn finds allowed next tried moment input t.want)
+hands_on finds allowed next tried moment input (Ok t) room further = record { room = room; further = further }
+hands_on finds allowed next tried moment input (Err e) room further = tt

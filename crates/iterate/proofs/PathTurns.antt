@@ -318,3 +318,21 @@ listing port question log moment id path name same u = record {
   fits = (u.askable, record { moment = moment; wanted = ap (λ (n : Labels). Book (Look moment (ServersFor n))) same });
   falls = looks_less path 1 2 (omega arith) (omega arith);
 }
+
+-- A look shows one set.
+pub same_set : (seen : SeenValue) (told other : AnswerSet) → IsSetSeen seen told → IsSetSeen seen other → told ≡ other
+same_set (Held shown) told other is also = is.1 ∙ sym also.1
+same_set (LocalSeen (local.Data records)) told other is also = is ∙ sym also
+same_set (LocalSeen (local.NoData soa)) told other is also = absurd is
+same_set (LocalSeen (local.NoName soa)) told other is also = absurd is
+same_set (LocalSeen local.Refuse) told other is also = absurd is
+same_set (LocalSeen local.Drop) told other is also = absurd is
+same_set (LocalSeen local.Pass) told other is also = absurd is
+same_set Unknown told other is also = absurd is
+same_set (Zones zones) told other is also = absurd is
+same_set (Records records) told other is also = absurd is
+same_set (Stubs stubs) told other is also = absurd is
+same_set (Commands commands) told other is also = absurd is
+same_set (BuriedSeen buried) told other is also = absurd is
+same_set (Servers servers) told other is also = absurd is
+same_set (Oldest name) told other is also = absurd is

@@ -183,7 +183,7 @@ kept_steps {moment} {id} {input} {was} {want} before after next same asks made k
       steps = k.steps;
       wants = subst (λ (xs : List Step). MayWant before.port before.question (exchanges_of xs) moment (id_drawn id.before) next.want) (sym k.steps) made.wants;
       drawn = made.drawn;
-      room = subst (λ (p : Phase). AsksOn p moment input next.want) same asks;
+      asks = subst (λ (p : Phase). AsksOn p moment input next.want) same asks;
       fit = wanted_is_fit before.port before.question _ moment _ next.want made.wants;
       left = subst (λ (p : Phase). left_in p < left_in before.phase) (sym k.phase) (subst (λ (p : Phase). left_in next.phase < left_in p) same made.falls);
       few = subst (λ (xs : List Step). sent_in xs ≤ 64) (sym k.steps) made.few;

@@ -1,27 +1,34 @@
--- How a book that is full makes room for a find: it is swept, and then the name is forgotten whose data end first.
-use Rattle.std.specs.Prelude.{◌≡◌, ℕ, ◌<◌, Bool, true, false, List, ◌∷◌, Some, drop}
+-- What a task asks next. A book that is full makes room for a find: it is swept, and then the name is forgotten whose data end first.
+use Rattle.std.specs.Prelude.{◌≡◌, ℕ, ◌+◌, ◌<◌, Bool, true, false, List, ◌∷◌, Some, None, drop, length}
 use Rattle.dns_name.specs.Labels.{Labels}
+use Rattle.dns_query.specs.Query.{alias_question}
 use Rattle.dns_query.specs.declared.verdict.Says.{Says}
 use Rattle.dns_query.specs.declared.verdict.Says.TheVariants.{Denies}
 use Rattle.ranked.specs.declared.find.Find.{Find}
 use Rattle.history.specs.declared.book.StepFault.TheVariants.{Full}
 use Rattle.history.specs.declared.desk.DeskFault.TheVariants.{Step}
-use Rattle.history.specs.declared.event.Ask.TheVariants.{Oldest}
+use Rattle.history.specs.declared.event.Ask.TheVariants.{Answer as Asked, Oldest}
 use Rattle.history.specs.declared.event.Event.{Event}
 use Rattle.history.specs.declared.event.Event.TheVariants.{Admit, Look, Sweep, Forget}
 use Rattle.history.specs.declared.event.Reply.TheVariants.{Seen, Swept, Forgotten}
+use Rattle.history.specs.declared.event.Seen.{Seen as SeenValue}
 use Rattle.history.specs.declared.event.Seen.TheVariants.{Oldest as SeenOldest}
-use Rattle.iterate.specs.declared.limits.TheConstants.{MOST_FINDS}
+use Rattle.iterate.specs.declared.answer.AnswerSet.{AnswerSet}
+use Rattle.iterate.specs.declared.limits.TheConstants.{MOST_ALIASES, MOST_FINDS}
+use Rattle.iterate.specs.declared.path.Path.{Path}
 use Rattle.iterate.specs.declared.phase.Attempt.{Attempt}
 use Rattle.iterate.specs.declared.phase.Attempt.TheVariants as attempt
 use Rattle.iterate.specs.declared.phase.Phase.{Phase}
-use Rattle.iterate.specs.declared.phase.Phase.TheVariants.{Admitting}
+use Rattle.iterate.specs.declared.phase.Phase.TheVariants.{Admitting, Aliasing}
 use Rattle.iterate.specs.declared.want.Allowance.{Allowance}
 use Rattle.iterate.specs.declared.want.Input.{Input}
 use Rattle.iterate.specs.declared.want.Input.TheVariants.{Reply, Refused, Came}
 use Rattle.iterate.specs.declared.want.Want.{Want}
 use Rattle.iterate.specs.declared.want.Want.TheVariants.{Book}
 use Rattle.iterate.specs.Exchanges.{Exchange, exchange, Adds, AddsLook}
+use Rattle.iterate.specs.Looked.{IsReplied, IsSetSeen}
+use Rattle.iterate.specs.Shown.{IsAdmitted}
+use Rattle.iterate.specs.Told.{IsTarget}
 
 -- ---- the last exchanges
 
@@ -140,11 +147,6 @@ AsksNext attempt.Oldest find moment (Reply (Seen (SeenOldest (Some owner)))) wan
 AsksNext attempt.Forget find moment (Reply Forgotten) want = want ≡ Book (Admit moment find)
 AsksNext tried find moment input want = Unit {0}
 
--- So it is with the next want of a task in this phase, for the find that is being handed over.
-abbrev pub AsksOn : Phase → ℕ → Input → Want → Type 0
-AsksOn (Admitting search heard allowed next tried) moment input want = (find : Find) → IsHanded heard.value.harvest.chosen allowed next find → AsksNext tried find moment input want
-AsksOn phase moment input want = Unit {0}
-
 -- what came of a look for the name to forget first names none
 abbrev pub IsNoneOldest : Input → Type 0
 IsNoneOldest (Reply (Seen (SeenOldest (Some owner)))) = ⊥
@@ -154,3 +156,58 @@ IsNoneOldest input = Unit {0}
 abbrev pub SaysFull : Input → Type 0
 SaysFull (Refused (Step (Full stored))) = Unit {0}
 SaysFull input = ⊥
+
+-- A book took a find that was handed over, or it outranks or refuses it.
+abbrev pub IsTaken : Input → Type 0
+IsTaken (Reply reply) = IsAdmitted reply
+IsTaken (Refused fault) = Unit {0}
+IsTaken input = ⊥
+
+-- A book refused what it was asked.
+abbrev pub IsRefusal : Input → Type 0
+IsRefusal (Refused fault) = Unit {0}
+IsRefusal input = ⊥
+
+-- A book has no name to forget, or does not say which.
+abbrev pub NamesNone : Input → Type 0
+NamesNone (Refused fault) = Unit {0}
+NamesNone (Reply (Seen (SeenOldest None))) = Unit {0}
+NamesNone input = ⊥
+
+-- A find is done with: it was taken, outranked or refused, and no more room is made for it.
+abbrev pub IsDone : Attempt → Input → Type 0
+IsDone attempt.Admit input = IsTaken input × (¬ (SaysFull input))
+IsDone attempt.Sweep input = IsRefusal input
+IsDone attempt.Again input = IsTaken input × (¬ (SaysFull input))
+IsDone attempt.Oldest input = NamesNone input
+IsDone attempt.Forget input = IsRefusal input
+IsDone attempt.Last input = IsTaken input
+
+-- The find at this place was handed over and is done with, and this is the one behind it.
+pub record IsHandedNext (finds : List Find) (allowed next : ℕ) (tried : Attempt) (input : Input) (behind : Find) : Type 0 where
+  pub find : Find
+  pub handed : IsHanded finds allowed next find
+  pub done : IsDone tried input
+  pub then_handed : IsHanded finds allowed (next + 1) behind
+
+-- The finds of a response are handed over one by one, in order: room is made for the one at this place, and once it is done with, the one behind it is handed over.
+pub record HandsOn (finds : List Find) (allowed next : ℕ) (tried : Attempt) (moment : ℕ) (input : Input) (want : Want) : Type 0 where
+  pub room : (find : Find) → IsHanded finds allowed next find → AsksNext tried find moment input want
+  pub further : (find : Find) → IsHandedNext finds allowed next tried input find → want ≡ Book (Admit moment find)
+
+-- ---- aliases
+
+-- A look at an alias of the last name saw one, this is its target (RFC 1034, section 3.6.2), and not too many were followed.
+pub record LeadsOn (path : Path) (input : Input) (to : Labels) : Type 0 where
+  pub seen : SeenValue
+  pub told : AnswerSet
+  pub replied : IsReplied (alias_question path.last.owner) input seen
+  pub is_set : IsSetSeen seen told
+  pub target : IsTarget told to
+  pub few : length path.sets.items < MOST_ALIASES
+
+-- What a task in this phase wants next: all finds of a response are handed over before it is acted on, and an alias is followed to the question about its target.
+abbrev pub AsksOn : Phase → ℕ → Input → Want → Type 0
+AsksOn (Admitting search heard allowed next tried) moment input want = HandsOn heard.value.harvest.chosen allowed next tried moment input want
+AsksOn (Aliasing path) moment input want = (to : Labels) → LeadsOn path input to → want ≡ Book (Look moment (Asked (record { owner = to; kind = path.last.kind })))
+AsksOn phase moment input want = Unit {0}

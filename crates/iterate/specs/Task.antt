@@ -64,8 +64,8 @@ pub record StepsOn (before : State) (input : Input) (moment : ℕ) (ids : Drawin
   pub wants : MayWant before.port before.question (exchanges_of after.steps.items) moment (id_drawn ids.before) want
   -- A query takes one word of the generator, and nothing else takes any.
   pub drawn : ids.after ≡ stream_behind want ids.before
-  -- Where the book was full, room is made for the find that was handed to it.
-  pub room : AsksOn before.phase moment input want
+  -- Each chosen find of a response is handed to the book, with room made where it was full, and an alias that a look saw is followed.
+  pub asks : AsksOn before.phase moment input want
   -- The answer can be written.
   pub fit : (answer : Answer) → want ≡ Finish answer → IsFit answer
   -- It ends.

@@ -15,7 +15,7 @@ ghost use Rattle.iterate.specs.Exchanges.{Exchange};
 ghost use Rattle.iterate.specs.Measure.{left_of_finds, left_of_hearing};
 ghost use Rattle.iterate.specs.Phase.{Advances, IsHearing, IsTold, Suits, drawing};
 ghost use Rattle.iterate.specs.Resolved.{Fails};
-ghost use Rattle.iterate.specs.Room.{AsksNext, IsHanded, IsHandedBy, IsNoneOldest, MadeRoom, SaysFull};
+ghost use Rattle.iterate.specs.Room.{AsksNext, IsHanded, IsHandedBy, IsHandedNext, IsNoneOldest, MadeRoom, SaysFull};
 ghost use Rattle.iterate.specs.Shown.{IsMisanswered};
 
 use crate::concluding::conclude;
@@ -259,6 +259,8 @@ fn handed<R: Rng>(
 ) -> Result<Advance, NoMemory>
     ensures asks { (find : Find) → IsHanded heard.value.harvest.chosen allowed next find
         → IfOk result (λ told. AsksNext Attempt.Admit find moment input.now told.want) }
+    ensures further { (find : Find) → IsHandedNext heard.value.harvest.chosen allowed next Attempt.Admit input.now find
+        → IfOk result (λ told. told.want ≡ Book (Admit moment find)) }
     ensures goes { (question : Question) (log : List Exchange)
         → IsTold port question log search.value heard.value allowed next Attempt.Admit input.now
         → IfOk result (Advances port question log moment (drawing (R.stream ids.old) (R.stream ids.new))
@@ -294,6 +296,8 @@ fn swept<R: Rng>(
 ) -> Result<Advance, NoMemory>
     ensures asks { (find : Find) → IsHanded heard.value.harvest.chosen allowed next find
         → IfOk result (λ told. AsksNext Attempt.Sweep find moment input.now told.want) }
+    ensures further { (find : Find) → IsHandedNext heard.value.harvest.chosen allowed next Attempt.Sweep input.now find
+        → IfOk result (λ told. told.want ≡ Book (Admit moment find)) }
     ensures goes { (question : Question) (log : List Exchange)
         → IsTold port question log search.value heard.value allowed next Attempt.Sweep input.now
         → IfOk result (Advances port question log moment (drawing (R.stream ids.old) (R.stream ids.new))
@@ -332,6 +336,8 @@ fn handed_again<R: Rng>(
 ) -> Result<Advance, NoMemory>
     ensures asks { (find : Find) → IsHanded heard.value.harvest.chosen allowed next find
         → IfOk result (λ told. AsksNext Attempt.Again find moment input.now told.want) }
+    ensures further { (find : Find) → IsHandedNext heard.value.harvest.chosen allowed next Attempt.Again input.now find
+        → IfOk result (λ told. told.want ≡ Book (Admit moment find)) }
     ensures goes { (question : Question) (log : List Exchange)
         → IsTold port question log search.value heard.value allowed next Attempt.Again input.now
         → IfOk result (Advances port question log moment (drawing (R.stream ids.old) (R.stream ids.new))
@@ -367,6 +373,8 @@ fn oldest_came<R: Rng>(
     input: &Input,
 ) -> Result<Advance, NoMemory>
     ensures asks { (find : Find) → IfOk result (λ told. AsksNext Attempt.Oldest find moment input.now told.want) }
+    ensures further { (find : Find) → IsHandedNext heard.value.harvest.chosen allowed next Attempt.Oldest input.now find
+        → IfOk result (λ told. told.want ≡ Book (Admit moment find)) }
     ensures goes { (question : Question) (log : List Exchange)
         → IsTold port question log search.value heard.value allowed next Attempt.Oldest input.now
         → IfOk result (Advances port question log moment (drawing (R.stream ids.old) (R.stream ids.new))
@@ -412,6 +420,8 @@ fn forgotten<R: Rng>(
 ) -> Result<Advance, NoMemory>
     ensures asks { (find : Find) → IsHanded heard.value.harvest.chosen allowed next find
         → IfOk result (λ told. AsksNext Attempt.Forget find moment input.now told.want) }
+    ensures further { (find : Find) → IsHandedNext heard.value.harvest.chosen allowed next Attempt.Forget input.now find
+        → IfOk result (λ told. told.want ≡ Book (Admit moment find)) }
     ensures goes { (question : Question) (log : List Exchange)
         → IsTold port question log search.value heard.value allowed next Attempt.Forget input.now
         → IfOk result (Advances port question log moment (drawing (R.stream ids.old) (R.stream ids.new))
@@ -448,7 +458,9 @@ fn handed_last<R: Rng>(
     next: usize,
     input: &Input,
 ) -> Result<Advance, NoMemory>
-    ensures { (question : Question) (log : List Exchange)
+    ensures further { (find : Find) → IsHandedNext heard.value.harvest.chosen allowed next Attempt.Last input.now find
+        → IfOk result (λ told. told.want ≡ Book (Admit moment find)) }
+    ensures goes { (question : Question) (log : List Exchange)
         → IsTold port question log search.value heard.value allowed next Attempt.Last input.now
         → IfOk result (Advances port question log moment (drawing (R.stream ids.old) (R.stream ids.new))
         (left_of_finds search.value.path next Attempt.Last)) }
@@ -474,6 +486,8 @@ pub(crate) fn admitted<R: Rng>(
 ) -> Result<Advance, NoMemory>
     ensures asks { (find : Find) → IsHanded heard.value.harvest.chosen allowed next find
         → IfOk result (λ told. AsksNext attempt find moment input.now told.want) }
+    ensures further { (find : Find) → IsHandedNext heard.value.harvest.chosen allowed next attempt input.now find
+        → IfOk result (λ told. told.want ≡ Book (Admit moment find)) }
     ensures goes { (question : Question) (log : List Exchange)
         → IsTold port question log search.value heard.value allowed next attempt input.now
         → IfOk result (Advances port question log moment (drawing (R.stream ids.old) (R.stream ids.new))

@@ -12,9 +12,10 @@ ghost use Rattle.iterate.specs.declared.want.Want.TheVariants.{Book};
 ghost use Rattle.dns_query.specs.Query.{alias_question};
 ghost use Rattle.iterate.specs.Exchanges.{Exchange, AddsLook};
 ghost use Rattle.iterate.specs.Known.{Known, Had};
-ghost use Rattle.iterate.specs.Looked.{seen_of, IsReplied};
+ghost use Rattle.iterate.specs.Looked.{seen_of, IsReplied, IsSetSeen};
 ghost use Rattle.iterate.specs.Measure.{left_of_path};
 ghost use Rattle.iterate.specs.Phase.{Advances, LooksAt, Suits, idle};
+ghost use Rattle.iterate.specs.Room.{LeadsOn};
 ghost use Rattle.iterate.specs.Searching.{IsBehind, IsUnasked, IsLonger};
 ghost use Rattle.iterate.specs.Shown.{IsLocalFor};
 ghost use Rattle.iterate.specs.Told.{IsTarget};
@@ -156,7 +157,9 @@ fn alias_told(alloc: Global, path: Path, told: AnswerSet, moment: u64) -> Result
 
 /// Continues with what the lookup of an alias found.
 fn alias_seen(alloc: Global, path: Path, moment: u64, what: Looked<'_>) -> Result<Advance, NoMemory>
-    ensures { (port m : ℕ) (ids : Stream) (question : Question) (input : InputValue) (before log : List Exchange)
+    ensures follows { (told : AnswerSet) (to : Labels) → IsSetSeen (seen_of what.entry) told → IsTarget told to
+        → length path.sets.items < MOST_ALIASES → IfOk result (LooksAt path to moment) }
+    ensures goes { (port m : ℕ) (ids : Stream) (question : Question) (input : InputValue) (before log : List Exchange)
         → IsUnasked port question before path → IsReplied (alias_question path.last.owner) input (seen_of what.entry)
         → AddsLook before m (Asked (alias_question path.last.owner)) input log
         → IfOk result (Advances port question log moment (idle ids) (left_of_path path 2)) }
@@ -174,7 +177,8 @@ pub(crate) fn aliased(
     moment: u64,
     input: &Input,
 ) -> Result<Advance, NoMemory>
-    ensures { (port m : ℕ) (ids : Stream) (question : Question) (before log : List Exchange) → IsUnasked port question before path
+    ensures follows { (to : Labels) → LeadsOn path input.now to → IfOk result (LooksAt path to moment) }
+    ensures goes { (port m : ℕ) (ids : Stream) (question : Question) (before log : List Exchange) → IsUnasked port question before path
         → AddsLook before m (Asked (alias_question path.last.owner)) input.now log
         → Suits (Book (Look m (Asked (alias_question path.last.owner)))) input.now
         → IfOk result (Advances port question log moment (idle ids) (left_of_path path 2)) }

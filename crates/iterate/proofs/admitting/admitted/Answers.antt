@@ -35,4 +35,22 @@ pub returns-in-Last-clause-asks : goal.returns-in-Last-clause-asks
 returns-in-Last-clause-asks g c = rw c.in-Last.is (λ find handed. each_ok c.handed_last.result _ (λ told. tt))
 
 pub returns-in-Last-clause-goes : goal.returns-in-Last-clause-goes
-returns-in-Last-clause-goes g c = rw c.in-Last.is (λ question log t. c.handed_last.ensures question log t)
+returns-in-Last-clause-goes g c = rw c.in-Last.is (λ question log t. c.handed_last.ensures.goes question log t)
+
+pub returns-in-Admit-clause-further : goal.returns-in-Admit-clause-further
+returns-in-Admit-clause-further g c = rw c.in-Admit.is (λ find n. c.handed.ensures.further find n)
+
+pub returns-in-Sweep-clause-further : goal.returns-in-Sweep-clause-further
+returns-in-Sweep-clause-further g c = rw c.in-Sweep.is (λ find n. c.swept.ensures.further find n)
+
+pub returns-in-Again-clause-further : goal.returns-in-Again-clause-further
+returns-in-Again-clause-further g c = rw c.in-Again.is (λ find n. c.handed_again.ensures.further find n)
+
+pub returns-in-Oldest-clause-further : goal.returns-in-Oldest-clause-further
+returns-in-Oldest-clause-further g c = rw c.in-Oldest.is (λ find n. c.oldest_came.ensures.further find n)
+
+pub returns-in-Forget-clause-further : goal.returns-in-Forget-clause-further
+returns-in-Forget-clause-further g c = rw c.in-Forget.is (λ find n. c.forgotten.ensures.further find n)
+
+pub returns-in-Last-clause-further : goal.returns-in-Last-clause-further
+returns-in-Last-clause-further g c = rw c.in-Last.is (λ find n. c.handed_last.ensures.further find n)

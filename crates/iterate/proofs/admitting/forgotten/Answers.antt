@@ -1,11 +1,11 @@
-use Rattle.std.proofs.Common.{sym, subst, refl, arith}
+use Rattle.std.proofs.Common.{[], sym, subst, refl, arith}
 use Rattle.history.specs.declared.event.Event.TheVariants.{Forget}
 use Rattle.iterate.specs.declared.phase.Attempt.TheVariants as attempt
 use Rattle.iterate.specs.declared.want.Input.{Input}
 use Rattle.iterate.specs.Measure.{left_of_finds}
-use Rattle.iterate.specs.Room.{AsksNext}
+use Rattle.iterate.specs.Room.{AsksNext, IsRefusal}
 use Rattle.std.proofs.lemmas.Result.{IfOk-weaker}
-use Rattle.iterate.proofs.Handing.{attempt_less, came_as, concluding_less, each_ok, heard_on, misanswered, no_room, not_forgotten_asks, forgotten_hands, unforgotten}
+use Rattle.iterate.proofs.Handing.{attempt_less, came_as, concluding_less, each_ok, forget_refused, heard_on, lawful, misanswered, no_room, not_forgotten_asks, forgotten_hands, unforgotten}
 use Rattle.iterate.proofs.admitting.forgotten.Goals as goal
 
 pub returns-then-is_forgotten-clause-asks : goal.returns-then-is_forgotten-clause-asks
@@ -29,3 +29,10 @@ returns-clause-goes g c = λ question log t.
     c.pass.ensures.goes question log attempt.Forget (heard_on t) t.handing.handed.early
     (no_room (came_as t.adds asked.wanted refl) (unforgotten asked.moment t.handing.trying.0 c.args.input.now (λ is. let room = c.is_forgotten.ensures.1 is in let e : ⊥ = cc in e)))
     (λ bad. misanswered (Forget asked.moment t.handing.trying.0) t.adds asked.wanted t.suits (λ suits. c.is_forget_passed-lawful.ensures bad asked.moment t.handing.trying.0 suits))
+
+pub returns-then-is_forgotten-clause-further : goal.returns-then-is_forgotten-clause-further
+returns-then-is_forgotten-clause-further g c = λ find n. absurd (subst (λ (i : Input). IsRefusal i) (c.is_forgotten.ensures.0 c.if-is_forgotten.true) n.done)
+
+pub returns-clause-further : goal.returns-clause-further
+returns-clause-further g c = λ find n.
+    c.pass.ensures.hands find (lawful c.is_forget_passed-lawful.result (λ bad. forget_refused [] c.args.input.now n.done (λ suits. c.is_forget_passed-lawful.ensures bad 0 [] suits))) n.then_handed

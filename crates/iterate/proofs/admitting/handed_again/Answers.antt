@@ -2,7 +2,7 @@ use Rattle.std.proofs.Common.{refl}
 use Rattle.history.specs.declared.event.Event.TheVariants.{Admit}
 use Rattle.iterate.specs.declared.phase.Attempt.TheVariants as attempt
 use Rattle.iterate.proofs.PathTurns.{turned}
-use Rattle.iterate.proofs.Handing.{asking_oldest, came_as, each_ok, full_again, heard_on, misanswered, no_room, not_full_again}
+use Rattle.iterate.proofs.Handing.{asking_oldest, came_as, each_ok, full_again, heard_on, lawful, misanswered, no_room, not_full_again, taken}
 use Rattle.iterate.proofs.admitting.handed_again.Goals as goal
 
 pub returns-then-is_full-clause-asks : goal.returns-then-is_full-clause-asks
@@ -22,3 +22,10 @@ returns-clause-goes g c = λ question log t.
     let asked = t.handing.trying.1 in
     c.pass.ensures.goes question log attempt.Again (heard_on t) t.handing.handed.early (no_room (came_as t.adds asked.wanted refl) refl)
     (λ bad. misanswered (Admit asked.moment t.handing.find) t.adds asked.wanted t.suits (λ suits. c.is_passed-lawful.ensures bad asked.moment t.handing.find suits))
+
+pub returns-then-is_full-clause-further : goal.returns-then-is_full-clause-further
+returns-then-is_full-clause-further g c = λ find n. absurd (n.done.1 (c.is_full.ensures.0 c.if-is_full.true))
+
+pub returns-clause-further : goal.returns-clause-further
+returns-clause-further g c = λ find n.
+    c.pass.ensures.hands find (lawful c.is_passed-lawful.result (λ bad. taken n.find c.args.input.now n.done.0 (λ suits. c.is_passed-lawful.ensures bad 0 n.find suits))) n.then_handed

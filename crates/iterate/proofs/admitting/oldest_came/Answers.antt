@@ -8,9 +8,9 @@ use Rattle.iterate.specs.declared.phase.Attempt.TheVariants as attempt
 use Rattle.iterate.specs.declared.want.Input.{Input}
 use Rattle.iterate.specs.declared.want.Input.TheVariants.{Reply}
 use Rattle.iterate.specs.declared.want.Want.TheVariants.{Book}
-use Rattle.iterate.specs.Room.{AsksNext}
+use Rattle.iterate.specs.Room.{AsksNext, NamesNone}
 use Rattle.iterate.proofs.PathTurns.{turned}
-use Rattle.iterate.proofs.Handing.{came_as, each_ok, forgetting, heard_on, misanswered, no_room, none_oldest_asks}
+use Rattle.iterate.proofs.Handing.{came_as, each_ok, forgetting, heard_on, lawful, misanswered, no_room, none_named, none_oldest_asks}
 use Rattle.iterate.proofs.admitting.oldest_came.Goals as goal
 
 pub returns-in_ok-owner-in-Some-clause-asks : goal.returns-in_ok-owner-in-Some-clause-asks
@@ -32,3 +32,10 @@ returns-in-None-clause-goes g c = λ question log t.
     let asked = t.handing.trying.1 in
     c.pass.ensures.goes question log attempt.Oldest (heard_on t) t.handing.handed.early (no_room (came_as t.adds asked.wanted refl) refl)
     (λ bad. misanswered (Look asked.moment Oldest) t.adds asked.wanted t.suits (λ suits. c.is_look_passed.ensures bad asked.moment suits))
+
+pub returns-in_ok-owner-in-Some-clause-further : goal.returns-in_ok-owner-in-Some-clause-further
+returns-in_ok-owner-in-Some-clause-further g c = λ find n. absurd (subst (λ (i : Input). NamesNone i) c.in-Some.ensures n.done)
+
+pub returns-in-None-clause-further : goal.returns-in-None-clause-further
+returns-in-None-clause-further g c = λ find n.
+    c.pass.ensures.hands find (lawful c.is_look_passed.result (λ bad. none_named c.args.input.now n.done (λ suits. c.is_look_passed.ensures bad 0 suits))) n.then_handed

@@ -3,9 +3,9 @@ use Rattle.history.specs.declared.event.Event.TheVariants.{Sweep}
 use Rattle.iterate.specs.declared.phase.Attempt.TheVariants as attempt
 use Rattle.iterate.specs.declared.want.Input.{Input}
 use Rattle.iterate.specs.Measure.{left_of_finds}
-use Rattle.iterate.specs.Room.{AsksNext}
+use Rattle.iterate.specs.Room.{AsksNext, IsRefusal}
 use Rattle.std.proofs.lemmas.Result.{IfOk-weaker}
-use Rattle.iterate.proofs.Handing.{attempt_less, came_as, concluding_less, each_ok, heard_on, misanswered, no_room, not_swept_asks, swept_hands, unswept}
+use Rattle.iterate.proofs.Handing.{attempt_less, came_as, concluding_less, each_ok, heard_on, lawful, misanswered, no_room, not_swept_asks, sweep_refused, swept_hands, unswept}
 use Rattle.iterate.proofs.admitting.swept.Goals as goal
 
 pub returns-then-is_swept-clause-asks : goal.returns-then-is_swept-clause-asks
@@ -29,3 +29,10 @@ returns-clause-goes g c = λ question log t.
     c.pass.ensures.goes question log attempt.Sweep (heard_on t) t.handing.handed.early
     (no_room (came_as t.adds asked.wanted refl) (unswept asked.moment c.args.input.now (λ is. let room = c.is_swept.ensures.1 is in let e : ⊥ = cc in e)))
     (λ bad. misanswered (Sweep asked.moment) t.adds asked.wanted t.suits (λ suits. c.is_sweep_passed-lawful.ensures bad asked.moment suits))
+
+pub returns-then-is_swept-clause-further : goal.returns-then-is_swept-clause-further
+returns-then-is_swept-clause-further g c = λ find n. absurd (subst (λ (i : Input). IsRefusal i) (c.is_swept.ensures.0 c.if-is_swept.true) n.done)
+
+pub returns-clause-further : goal.returns-clause-further
+returns-clause-further g c = λ find n.
+    c.pass.ensures.hands find (lawful c.is_sweep_passed-lawful.result (λ bad. sweep_refused c.args.input.now n.done (λ suits. c.is_sweep_passed-lawful.ensures bad 0 suits))) n.then_handed

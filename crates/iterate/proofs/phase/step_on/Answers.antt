@@ -1,14 +1,14 @@
 use Rattle.std.proofs.Common.{List, [], Result, Ok, Err, IfOk, sym, ap, subst}
-use Rattle.ranked.specs.declared.find.Find.{Find}
+use Rattle.dns_name.specs.Labels.{Labels}
 use Rattle.iterate.specs.declared.phase.Advance.{Advance}
 use Rattle.iterate.specs.declared.search.Search.{Search}
 use Rattle.iterate.specs.declared.want.Want.{Want}
 use Rattle.iterate.specs.Exchanges.{Exchange, exchange, Adds}
 use Rattle.iterate.specs.Measure.{left_of_seek, left_of_sending}
-use Rattle.iterate.specs.Phase.{IsSeeking, IsWaiting, Suits}
-use Rattle.iterate.specs.Room.{AsksNext, IsHanded}
+use Rattle.iterate.specs.Phase.{IsSeeking, IsWaiting, LooksAt, Suits}
+use Rattle.iterate.specs.Room.{LeadsOn}
 use Rattle.iterate.proofs.Asking.{left_same}
-use Rattle.iterate.proofs.Handing.{each_ok}
+use Rattle.iterate.proofs.Handing.{each_ok, hands_on}
 use Rattle.iterate.proofs.phase.step_on.Goals as goal
 
 -- What holds of a result for each value holds for each value of the result.
@@ -24,7 +24,7 @@ returns-in-First-clause-goes g c = rw c.in-First.is (λ before log want f suits 
 
 pub returns-in-Aliasing-clause-goes : goal.returns-in-Aliasing-clause-goes
 returns-in-Aliasing-clause-goes g c = rw c.in-Aliasing.is (λ before log want f suits adds.
-    c.aliased.ensures c.args.port f.1.moment _ c.args.question.now before log f.0
+    c.aliased.ensures.goes c.args.port f.1.moment _ c.args.question.now before log f.0
     (subst (λ (w : Want). Adds before (exchange w c.args.input.now) log) f.1.wanted adds)
     (subst (λ (w : Want). Suits w c.args.input.now) f.1.wanted suits))
 
@@ -64,8 +64,8 @@ returns-in-Admitting-clause-goes g c = rw c.in-Admitting.is (λ before log want 
     c.admitted.ensures.goes c.args.question.now log (record { before = before; want = want; hearing = f.0; handing = f.1; suits = suits; adds = adds }))
 
 pub returns-in-Admitting-clause-asks : goal.returns-in-Admitting-clause-asks
-returns-in-Admitting-clause-asks g c = rw c.in-Admitting.is (ok_for_each (IsHanded c.in-Admitting.heard.value.harvest.chosen c.in-Admitting.allowed c.in-Admitting.next)
-    (λ (find : Find) (next : Advance). AsksNext c.in-Admitting.attempt find c.args.moment c.args.input.now next.want) c.admitted.result (λ find handed. c.admitted.ensures.asks find handed))
+returns-in-Admitting-clause-asks g c = rw c.in-Admitting.is (hands_on c.in-Admitting.heard.value.harvest.chosen c.in-Admitting.allowed c.in-Admitting.next c.in-Admitting.attempt c.args.moment c.args.input.now c.admitted.result
+    (λ find handed. c.admitted.ensures.asks find handed) (λ find n. c.admitted.ensures.further find n))
 
 pub returns-in-Fresh-clause-asks : goal.returns-in-Fresh-clause-asks
 returns-in-Fresh-clause-asks g c = rw c.in-Fresh.is (each_ok c.begin.result _ (λ next. tt))
@@ -74,7 +74,8 @@ pub returns-in-First-clause-asks : goal.returns-in-First-clause-asks
 returns-in-First-clause-asks g c = rw c.in-First.is (each_ok c.looked_first.result _ (λ next. tt))
 
 pub returns-in-Aliasing-clause-asks : goal.returns-in-Aliasing-clause-asks
-returns-in-Aliasing-clause-asks g c = rw c.in-Aliasing.is (each_ok c.aliased.result _ (λ next. tt))
+returns-in-Aliasing-clause-asks g c = rw c.in-Aliasing.is (ok_for_each (LeadsOn c.in-Aliasing.path c.args.input.now) (λ (to : Labels) (next : Advance). LooksAt c.in-Aliasing.path to c.args.moment next) c.aliased.result
+    (λ to leads. c.aliased.ensures.follows to leads))
 
 pub returns-in-Looking-clause-asks : goal.returns-in-Looking-clause-asks
 returns-in-Looking-clause-asks g c = rw c.in-Looking.is (each_ok c.looked_on.result _ (λ next. tt))
