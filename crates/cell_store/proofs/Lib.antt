@@ -16,6 +16,7 @@ mod OwnLaws
 mod PlaceLaws
 mod StoreLaws
 mod HeldLaws
+mod NamedLaws
 mod EndLaws
 mod SpotLaws
 mod DifferLaws

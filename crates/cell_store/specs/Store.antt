@@ -59,6 +59,10 @@ IsDroppedAt place old new false = (new ≡ old) × IfSome (slice_get old place) 
 abbrev pub AreCountedFrom : {S : Type 0} → ℕ → IndexMap Labels OwnerCells S → Type 0
 AreCountedFrom place owners = (i : ℕ) → place ≤ i → IfSome (slice_get owners.entries i) (λ entry. 1 ≤ count_of entry.1)
 
+-- Each name has a place that counts.
+abbrev pub EachCounts : List (Labels × OwnerCells) → Type 0
+EachCounts entries = (i : ℕ) → IfSome (slice_get entries i) (λ entry. 1 ≤ count_of entry.1)
+
 -- the place of a name among the entries, or their number if it is not there
 abbrev pub name_place : Labels → List (Labels × OwnerCells) → ℕ
 name_place name entries = position_or_len (name_eq name) (keys_of entries)

@@ -15,7 +15,7 @@ ghost use Rattle.ranked.specs.Cell.{shown_at};
 ghost use Rattle.cell_store.specs.Owner.{after_settle, after_touch, held_now};
 ghost use Rattle.cell_store.specs.Count.{count_of, has_pair, has_place, has_place_for, one_if, pair_of, stored_in, AddPair, KeepPairs};
 ghost use Rattle.cell_store.specs.Same.{same_cell};
-ghost use Rattle.cell_store.specs.Store.{cell_by_owner, cell_of, AreLeft, AreSameCells, AreUpTo, CanSettleAt, IsDroppedAt, IsIndex, KeepSettling, KeepUpTo, StayBut};
+ghost use Rattle.cell_store.specs.Store.{cell_by_owner, cell_of, AreLeft, AreSameCells, AreUpTo, CanSettleAt, EachCounts, IsDroppedAt, IsIndex, KeepSettling, KeepUpTo, StayBut};
 ghost use Rattle.cell_store.specs.Store.{name_place, StayButAt};
 
 use crate::owner::OwnerCells;
@@ -48,6 +48,7 @@ pub fn admit(
     ensures bound { (stored.new ≤ stored.old + one_if (not (has_place_for owners.old find)))
         × AddPair (pair_of find) owners.old owners.new × StayBut find.owner owners.old.entries owners.new.entries }
     ensures free { has_place_for owners.old find ≡ true → IsOk result }
+    ensures named { EachCounts owners.old.entries → EachCounts owners.new.entries }
 {
     let place = owners.get_index_of(&find.find().owner);
     admit_at(alloc, owners, stored, place, find, moment, top)
@@ -73,6 +74,7 @@ pub fn admit_at(
     ensures bound { (stored.new ≤ stored.old + one_if (not (has_place_for owners.old find)))
         × AddPair (pair_of find) owners.old owners.new × StayBut find.owner owners.old.entries owners.new.entries }
     ensures free { has_place_for owners.old find ≡ true → IsOk result }
+    ensures named { EachCounts owners.old.entries → EachCounts owners.new.entries }
 {
     if let Some(place) = place {
         let (_, cells) = owners.pair_mut(place);
@@ -148,6 +150,7 @@ pub fn open_kinds(
     ensures pairs { KeepPairs owners.old owners.new }
     ensures entries { StayBut owner.now owners.old.entries owners.new.entries
         × (length owners.new.entries ≡ length owners.old.entries) × (keys_of owners.new.entries ≡ keys_of owners.old.entries) }
+    ensures named { EachCounts owners.old.entries → EachCounts owners.new.entries }
 {
     if let Some(cells) = owners.get_mut(owner) {
         return cells.open_each(kinds, top);

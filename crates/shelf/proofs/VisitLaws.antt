@@ -16,7 +16,7 @@ use Rattle.cell_store.specs.Count.{count_of, has_place, stored_in}
 use Rattle.cell_store.specs.Ends.{latest, name_end}
 use Rattle.cell_store.specs.EndLaws.{alive_before, alive_earlier, some_alive, whole_before, whole_earlier}
 use Rattle.cell_store.specs.Owner.{cell_in}
-use Rattle.cell_store.specs.Store.{AreLeft, AreSameCells}
+use Rattle.cell_store.specs.Store.{AreLeft, AreSameCells, EachCounts}
 use Rattle.cell_store.specs.Mixed.{IsLikeFirst}
 use Rattle.cell_store.specs.Sweep.{alive_at, is_dead}
 use Rattle.ranked.specs.declared.find.Find.{Find}
@@ -35,6 +35,7 @@ use Rattle.shelf.specs.declared.lasts.Lasts.{Lasts}
 use Rattle.shelf.proofs.DropLaws.{ends_gone, keyed_gone}
 use Rattle.shelf.proofs.EndLaws.{end_zero, ends_zero, keyed_map, keyed_set, keyed_zero, low_by}
 use Rattle.shelf.proofs.ListLaws.{always_some, some_map}
+use Rattle.shelf.proofs.NamedLaws.{each_gone, each_kept}
 use Rattle.shelf.proofs.LowLaws.{low_put, low_put_ever}
 use Rattle.shelf.proofs.WinnerLaws.{winners_named}
 use Rattle.shelf.proofs.SweepLaws.{less_left, less_more, less_same, not_dead, swept_less}
@@ -196,6 +197,7 @@ module _ {S : Type 0} (kept : List KeptFlush) (t place end : ℕ) (mixed : Bool)
         (some_map (λ e. IsEnd kept e end × IsClean kept t e.0 e.1 × ((s : ℕ) → s ≤ t → s < latest → s < end)) (λ e. IsDue kept t asked e end) (slice_get middle.entries place) (λ e all late. all.1) both)));
     counted = counted ∙ sym count;
     fewer = omega (arith, fewer, is.fewer);
+    named = λ each. subst (λ (l : List (Labels × OwnerCells)). EachCounts l) (sym entries) (each_kept old.entries middle.entries ends.moments place size swept.others swept.size low some (is.named each));
   }
     where
       put : lasts.ends.items ≡ set ends.lasts.ends.items place last
@@ -218,6 +220,7 @@ module _ {S : Type 0} (kept : List KeptFlush) (t place end : ℕ) (mixed : Bool)
         (keyed_gone old.entries middle.entries new.entries place d low swept.others named entries (IsDue kept t asked) ends.moments is.due);
     counted = counted ∙ sym count;
     fewer = omega (arith, fewer, is.fewer);
+    named = λ each. each_gone old.entries middle.entries new.entries ends.moments place d low swept.others named entries size (is.named each);
   }
 
 -- ---- fewer names have ended
@@ -339,6 +342,7 @@ start kept t owners ends stored is counted = record {
   due = keyed_map (IsEnd kept) (IsDue kept t t) (λ e n now late. now t late) owners.entries ends.moments is.now;
   counted = counted;
   fewer = omega arith;
+  named = λ each. each;
 }
 
 pub start_all : {S : Type 0} (kept : List KeptFlush) (t asked : ℕ) (owners : IndexMap Labels OwnerCells S) (old ends : Ends) (stored : ℕ) → AreEnds kept owners.entries old → AreBy (λ l. replicate (length l) 0) old ends → stored ≡ stored_in owners
@@ -349,6 +353,7 @@ start_all kept t asked owners old ends stored is by counted = record {
   due = subst (λ (l : List ℕ). AreKeyed (IsDue kept t asked) owners.entries l) (sym by.moments) (keyed_zero (IsDue kept t asked) (due_zero kept t asked) owners.entries (length old.moments) is.now.size);
   counted = counted;
   fewer = omega arith;
+  named = λ each. each;
 }
 
 pub when_none : {X : Type 0} (found : Option ℕ) → found ≡ None → IfNone found X → X

@@ -10,7 +10,7 @@ use Rattle.cell_store.specs.Owner.{cell_in, IsUpTo, CanSettle}
 use Rattle.cell_store.specs.Count.{count_of, has_place, stored_in, KeepPairs, LosesFinds}
 use Rattle.cell_store.specs.Ends.{latest}
 use Rattle.cell_store.specs.Walk.{IsEach, IsEntry}
-use Rattle.cell_store.specs.Store.{cell_of, AreAbout, AreCountedFrom, AreUpTo, KeepSettling}
+use Rattle.cell_store.specs.Store.{cell_of, AreAbout, AreCountedFrom, AreUpTo, EachCounts, KeepSettling}
 use Rattle.cell_store.specs.Mixed.{IsLikeFirst}
 use Rattle.cell_store.specs.Sweep.{alive_at, is_dead, whole_swept}
 use Rattle.shelf.specs.declared.shelf.KeptFlush.{KeptFlush}
@@ -84,6 +84,7 @@ pub record IsUnderway {S : Type 0} (kept : List KeptFlush) (t asked : ℕ) (firs
   pub due : AreKeyed (IsDue kept t asked) owners.entries ends_now.moments
   pub counted : stored ≡ stored_in owners
   pub fewer : stored ≤ most
+  pub named : EachCounts first.entries → EachCounts owners.entries
 
 -- 1 if a moment is at another or before, else 0
 abbrev pub one_ended : ℕ → ℕ → ℕ

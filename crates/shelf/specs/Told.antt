@@ -9,7 +9,7 @@ use Rattle.ranked.specs.Cell.{after_admission}
 use Rattle.ranked.specs.Find.{touches, admission_of}
 use Rattle.indexmap.specs.IndexMap.{IndexMap}
 use Rattle.cell_store.specs.declared.owner.OwnerCells.{OwnerCells}
-use Rattle.cell_store.specs.Store.{AreAbout, AreUpTo, CanSettleAt}
+use Rattle.cell_store.specs.Store.{AreAbout, AreUpTo, CanSettleAt, EachCounts}
 use Rattle.cell_store.specs.Count.{pair_of, stored_in, AddPair, KeepPairs}
 use Rattle.cell_store.specs.Owner.{after_touch}
 use Rattle.ranked.specs.declared.flush.Flush.{Flush}
@@ -79,7 +79,7 @@ CanSettleFlush owners number flush = AllByRecursion (λ kind. CanSettleAt number
 abbrev pub CanSettleKept : {S : Type 0} → IndexMap Labels OwnerCells S → KeptFlush → Type 0
 CanSettleKept owners own = CanSettleFlush owners own.number own.flush
 
--- No admission has reached a version past the greatest number, and each cell has only a find about its question. Each kept flush can become permanent with no memory. The places that count are counted, and are at most the limit. No name needs a sweep before its end. Each permanent flush has reached each name from its place on. There is room for each kept flush to become permanent.
+-- No admission has reached a version past the greatest number, and each cell has only a find about its question. Each kept flush can become permanent with no memory. The places that count are counted, and are at most the limit. No name needs a sweep before its end. Each permanent flush has reached each name from its place on. There is room for each kept flush to become permanent. Each name of the index has a place that counts.
 pub record IsShelf (shelf : Shelf) : Type 0 where
   pub upto : AreUpTo shelf.top shelf.owners
   pub about : AreAbout shelf.owners
@@ -93,6 +93,7 @@ pub record IsShelf (shelf : Shelf) : Type 0 where
   pub ends : AreEnds shelf.kept.items shelf.owners.entries shelf.ends
   pub settling : AllByRecursion (IsSettling shelf.top shelf.owners) shelf.settlings.items
   pub space : length shelf.settlings.items + length shelf.kept.items ≤ vec_capacity shelf.settlings
+  pub named : EachCounts shelf.owners.entries
 
 -- the version so far, or that of a flush if it is chosen and covers the question
 abbrev pub later_chosen : Question → (ℕ → Bool) → ℕ → KeptFlush → ℕ

@@ -7,7 +7,7 @@ ghost use Rattle.dns_text.specs.declared.record.Question.{Question};
 ghost use Rattle.ranked.specs.Flush.{covers, flushed_types};
 ghost use Rattle.cell_store.specs.Count.{stored_in, KeepPairs};
 ghost use Rattle.cell_store.specs.Owner.{after_settle};
-ghost use Rattle.cell_store.specs.Store.{cell_of, AreUpTo, StayBut};
+ghost use Rattle.cell_store.specs.Store.{cell_of, AreUpTo, EachCounts, StayBut};
 ghost use Rattle.shelf.specs.declared.shelf.KeptFlush.{KeptFlush};
 ghost use Rattle.shelf.specs.Clean.{AreEnds, HaveEnds};
 ghost use Rattle.shelf.specs.Settling.{IsMoved, IsSettling};
@@ -61,6 +61,7 @@ pub(crate) fn open_flush(owners: &mut Owners, flush: &Flush, top: u64) -> Result
     ensures pairs { KeepPairs owners.old owners.new }
     ensures entries { StayBut flush.now.name owners.old.entries owners.new.entries
         × (length owners.new.entries ≡ length owners.old.entries) × (keys_of owners.new.entries ≡ keys_of owners.old.entries) }
+    ensures named { EachCounts owners.old.entries → EachCounts owners.new.entries }
 {
     match flush.reach {
         Reach::OneType(kind) => open_kinds(owners, &flush.name, &[kind], top),
@@ -86,7 +87,8 @@ pub(crate) fn settle_flush(
         IsMoved (λ q v. after_settle (covers flush q) number v) top settlings.old.items settlings.new.items owners.old owners.new }
     ensures settles { (kept : List KeptFlush) →
         AllByRecursion (CanSettleKept owners.old) kept → AllByRecursion (CanSettleKept owners.new) kept }
-    ensures counted { (stored.new ≡ stored_in owners.new) × (stored.new ≤ stored.old) }
+    ensures counted { (stored.new ≡ stored_in owners.new) × (stored.new ≤ stored.old)
+        × (EachCounts owners.old.entries → EachCounts owners.new.entries) }
     ensures pairs { KeepPairs owners.old owners.new }
     ensures ends { (kept : List KeptFlush) → AreEnds kept owners.old.entries ends.old → AreEnds kept owners.new.entries ends.new }
     ensures space { (length settlings.new.items ≤ length settlings.old.items + 1)

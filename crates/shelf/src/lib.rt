@@ -17,6 +17,8 @@ mod settling;
 mod flushing;
 // The shelf: cells and flushes.
 mod shelf;
+// The names of the index.
+mod names;
 // What the counted places are.
 mod laws;
 // The sweep of dead finds and unused versions.

@@ -8,7 +8,7 @@ ghost use Rattle.dns_name.specs.Order.{name_eq};
 ghost use Rattle.cell_store.specs.Count.{stored_in, KeepPairs};
 ghost use Rattle.cell_store.specs.Owner.{after_settle};
 ghost use Rattle.cell_store.specs.declared.owner.OwnerCells.{OwnerCells};
-ghost use Rattle.cell_store.specs.Store.{AreLeft, AreSameCells, AreUpTo, CanSettleAt, KeepSettling, StayButAt};
+ghost use Rattle.cell_store.specs.Store.{AreLeft, AreSameCells, AreUpTo, CanSettleAt, EachCounts, KeepSettling, StayButAt};
 ghost use Rattle.shelf.specs.declared.shelf.KeptFlush.{KeptFlush};
 ghost use Rattle.shelf.specs.Clean.{AreEnds, HaveEnds};
 ghost use Rattle.shelf.specs.Sweep.{EndNear};
@@ -80,6 +80,8 @@ fn drop_or_end(owners: &mut Owners, ends: &mut Ends, place: usize)
     ensures reached { (zone : Labels) (number left : ℕ) → AreReached zone number left owners.old → AreReached zone number left owners.new }
     ensures ends { (kept : List KeptFlush) (before : List (Labels × OwnerCells)) → StayButAt place before owners.old.entries →
         AreEnds kept before ends.old → AreEnds kept owners.new.entries ends.new }
+    ensures named { (before : List (Labels × OwnerCells)) → StayButAt place before owners.old.entries →
+        EachCounts before → EachCounts owners.new.entries }
     ensures size { HaveEnds owners.new.entries ends.new }
     ensures ended { EndNear ends.old.moments ends.new.moments (place + 1) place }
 {
@@ -105,7 +107,8 @@ fn reach_at(
     requires counted { stored.old ≡ stored_in owners.old }
     ensures reaching { (top : ℕ) → AreUpTo top owners.old → IsReaching zone.now number top (place + 1) place owners.old owners.new }
     ensures settles { KeepSettling owners.old owners.new }
-    ensures counted { (stored.new ≡ stored_in owners.new) × (stored.new ≤ stored.old) }
+    ensures counted { (stored.new ≡ stored_in owners.new) × (stored.new ≤ stored.old)
+        × (EachCounts owners.old.entries → EachCounts owners.new.entries) }
     ensures pairs { KeepPairs owners.old owners.new }
     ensures ends { (kept : List KeptFlush) → AreEnds kept owners.old.entries ends.old → AreEnds kept owners.new.entries ends.new }
     ensures size { HaveEnds owners.new.entries ends.new }
@@ -135,7 +138,8 @@ fn reach(
     requires counted { stored.old ≡ stored_in owners.old }
     ensures reaching { (top : ℕ) → AreUpTo top owners.old → IsReaching zone.now number top left result owners.old owners.new }
     ensures settles { KeepSettling owners.old owners.new }
-    ensures counted { (stored.new ≡ stored_in owners.new) × (stored.new ≤ stored.old) }
+    ensures counted { (stored.new ≡ stored_in owners.new) × (stored.new ≤ stored.old)
+        × (EachCounts owners.old.entries → EachCounts owners.new.entries) }
     ensures pairs { KeepPairs owners.old owners.new }
     ensures ends { (kept : List KeptFlush) → AreEnds kept owners.old.entries ends.old → AreEnds kept owners.new.entries ends.new }
     ensures size { HaveEnds owners.new.entries ends.new }
@@ -188,7 +192,8 @@ pub(crate) fn reach_some(
     ensures moved { (top : ℕ) → AreUpTo top owners.old → AllByRecursion (IsSettling top owners.old) settlings.old.items →
         IsMoved unmoved top settlings.old.items settlings.new.items owners.old owners.new }
     ensures settles { KeepSettling owners.old owners.new }
-    ensures counted { (stored.new ≡ stored_in owners.new) × (stored.new ≤ stored.old) }
+    ensures counted { (stored.new ≡ stored_in owners.new) × (stored.new ≤ stored.old)
+        × (EachCounts owners.old.entries → EachCounts owners.new.entries) }
     ensures pairs { KeepPairs owners.old owners.new }
     ensures ends { (kept : List KeptFlush) → AreEnds kept owners.old.entries ends.old → AreEnds kept owners.new.entries ends.new }
     ensures size { HaveEnds owners.new.entries ends.new }
@@ -256,7 +261,8 @@ pub(crate) fn settle_name(
         IsMoved (λ q v. after_settle (name_eq name.now q.owner && list_any (λ kind. kind == q.kind) kinds.now) number v) top
         settlings settlings owners.old owners.new }
     ensures settles { KeepSettling owners.old owners.new }
-    ensures counted { (stored.new ≡ stored_in owners.new) × (stored.new ≤ stored.old) }
+    ensures counted { (stored.new ≡ stored_in owners.new) × (stored.new ≤ stored.old)
+        × (EachCounts owners.old.entries → EachCounts owners.new.entries) }
     ensures pairs { KeepPairs owners.old owners.new }
     ensures ends { (kept : List KeptFlush) → AreEnds kept owners.old.entries ends.old → AreEnds kept owners.new.entries ends.new }
 {

@@ -9,6 +9,7 @@ ghost use Rattle.cell_store.specs.Count.{has_place, stored_in, KeepPairs, LosesF
 ghost use Rattle.cell_store.specs.Ends.{latest};
 ghost use Rattle.cell_store.specs.Owner.{cell_in, column_of, KeepsSettling, KeepsUpTo};
 ghost use Rattle.cell_store.specs.Prune.{is_asked};
+ghost use Rattle.cell_store.specs.Store.{EachCounts};
 ghost use Rattle.cell_store.specs.declared.owner.OwnerCells.{OwnerCells};
 ghost use Rattle.cell_store.specs.declared.seed.NameSeed.{NameSeed};
 ghost use Rattle.cell_store.specs.Sweep.{alive_at};
@@ -192,7 +193,8 @@ pub(crate) fn sweep_few(
     ensures short { count_ended moment ends.old.moments ≤ count_ended moment ends.new.moments + reached_at_once }
     ensures none { result ≡ false → count_ended moment ends.new.moments ≡ 0 }
     ensures alive { result ≡ false → AreAlive kept.now moment owners.new }
-    ensures counted { (stored.new ≡ stored_in owners.new) × (stored.new ≤ stored.old) }
+    ensures counted { (stored.new ≡ stored_in owners.new) × (stored.new ≤ stored.old)
+        × (EachCounts owners.old.entries → EachCounts owners.new.entries) }
     ensures capacity { vec_capacity numbers.new ≡ vec_capacity numbers.old }
 {
     let mut left = SWEPT_AT_ONCE;

@@ -57,7 +57,7 @@ fn fault_told(fault: StoreFault) -> WorldFault
 }
 
 impl ShelfWorld {
-    ghost use Rattle.std.specs.Prelude.{◌≤◌, ◌^◌, ℕ, List, map};
+    ghost use Rattle.std.specs.Prelude.{◌≤◌, ◌^◌, ℕ, List, length, map};
     ghost use Rattle.std.specs.List.{AllByRecursion};
     ghost use Rattle.dns_name.specs.Labels.{Labels};
     ghost use Rattle.ranked.specs.declared.find.Find.{Find};
@@ -126,6 +126,14 @@ impl ShelfWorld {
             count_pairs pairs ≤ ⟦<ShelfWorld as World>⟧.stored self.now }
     {
         self.shelf.stored()
+    }
+
+    /// How many names its index has. Some place of each counts.
+    pub fn names(&self) -> usize
+        ensures names { result ≡ length self.now.names }
+        ensures few { result ≤ ⟦<ShelfWorld as World>⟧.stored self.now }
+    {
+        self.shelf.names()
     }
 }
 

@@ -1,7 +1,12 @@
 -- The book that keeps no history.
+use Rattle.std.specs.Prelude.{ℕ, length}
 use Rattle.cell_store.specs.declared.seed.NameSeed.{NameSeed}
 use Rattle.undo_book.specs.declared.shelf_book.ShelfBook.{ShelfBook}
 
 -- the seed with which its cache hashes names
 abbrev pub seed_of : ShelfBook → NameSeed
 seed_of book = book.book.world.cells.seed
+
+-- how many names its cache has
+abbrev pub names_of : ShelfBook → ℕ
+names_of book = length book.book.world.cells.names

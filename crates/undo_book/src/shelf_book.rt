@@ -2,7 +2,7 @@
 
 ghost use Rattle.std.specs.Prelude.{◌≡◌, ◌≤◌, ◌^◌, ◌↔◌, [], IfOk, IsErr, IsErrOf};
 ghost use Rattle.history.specs.Event.{AreSettings, lagging_of};
-ghost use Rattle.undo_book.specs.ShelfBook.{seed_of};
+ghost use Rattle.undo_book.specs.ShelfBook.{names_of, seed_of};
 
 use cell_store::NameSeed;
 use dns_name::{Name, NoMemory};
@@ -76,6 +76,14 @@ impl ShelfBook {
         };
         let book = ShelfBook::with_settings(alloc, lagging, seed)?;
         Ok(book)
+    }
+
+    /// How many names its cache has: at most as many as the cells that are stored, whether or not it was swept.
+    pub fn names(&self) -> usize
+        ensures names { result ≡ names_of self.now }
+        ensures few { names_of self.now ≤ ⟦<ShelfBook as Book>⟧.stored self.now }
+    {
+        self.book.world().cells.names()
     }
 
     fn with_settings(

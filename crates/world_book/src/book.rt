@@ -62,6 +62,13 @@ impl<C: BookChange> WorldBook<C> {
         })
     }
 
+    /// The world as it is now.
+    pub fn world(&self) -> &C::World
+        ensures { result.now ≡ self.now.world }
+    {
+        &self.world
+    }
+
     /// Takes a lookup whose reply nobody reads. Nothing but the clock changes.
     fn pass_look(&mut self, moment: u64, ask: &Ask) -> Result<(), StepFault>
         ensures { IsPassed C.World.World self.old (Event.Look moment ask.now) result self.new }

@@ -1,7 +1,7 @@
 use Rattle.std.proofs.lemmas.Bool.{false≢true}
 use Rattle.cell_store.specs.Owner.{CanSettle, IsUpTo}
 use Rattle.std.specs.Prelude.{IfSome}
-use Rattle.std.proofs.Common.{◌≡◌, Option, None, refl, ap, sym, subst, ◌∙◌, arith}
+use Rattle.std.proofs.Common.{◌≡◌, List, Option, None, refl, ap, sym, subst, ◌∙◌, arith}
 use Rattle.indexmap.specs.IndexMap.{get, insert_entry, with_value_at}
 use Rattle.std.specs.Prelude.{not, false, ◌||◌}
 use Rattle.ranked.specs.declared.find.Scope.{Scope}
@@ -16,8 +16,9 @@ use Rattle.dns_name.specs.Order.{name_eq}
 use Rattle.ranked.specs.declared.find.Find.{Find}
 use Rattle.ranked.specs.Find.{admission_of, has_kind}
 use Rattle.cell_store.specs.declared.owner.OwnerCells.{OwnerCells}
-use Rattle.cell_store.specs.Store.{cell_by_owner}
+use Rattle.cell_store.specs.Store.{cell_by_owner, EachCounts}
 use Rattle.cell_store.proofs.SpotLaws.{stays_put}
+use Rattle.cell_store.proofs.NamedLaws.{admitted_count, count_at, each_at, each_put, held_count}
 use Rattle.cell_store.proofs.StoreLaws.{cells_admitted, cells_kept, each_updated, found, none_there, by_held, by_none, pairs_added, pairs_kept}
 use Rattle.cell_store.proofs.store.admit_at.Goals as goal
 
@@ -197,3 +198,22 @@ returns-clause-upto c = λ name.
     let find = c.args.find in
     each_updated owners owners c.insert.new.self find.owner c.in_ok-owner.owner c.admit.new.self refl (c.in_ok-owner.ensures ∙ ap (λ (f : Find). f.owner) c.find-2.ensures) c.in_ok-insert.ensures.updates (IsUpTo c.args.top)
     (λ was. c.admit.ensures.upto) name (c.requires.index.0.upto name)
+
+pub returns-in-Some-clause-named : goal.returns-in-Some-clause-named
+returns-in-Some-clause-named c = λ each.
+    let owners = c.args.owners.now in
+    let find = c.args.find in
+    let key = c.pair_mut-cells.result.0.now in
+    let lent = c.pair_mut-cells.result.1.now in
+    let new = c.admit-result.new.self in
+    let was = count_at owners.entries c.in-Some.place key lent c.pair_mut-cells.ensures.value each in
+    each_at owners.entries c.in-Some.place new
+    (held_count c.admit-result.result lent new find.scope c.args.top (admission_of find find c.args.moment) c.admit-result.ensures.cells c.admit-result.ensures.err was) each
+
+pub returns-clause-named : goal.returns-clause-named
+returns-clause-named c = λ each.
+    let owners = c.args.owners.now in
+    let find = c.args.find in
+    let new = c.admit.new.self in
+    let one = admitted_count c.new-cells.result new find.scope c.args.top (admission_of find find c.args.moment) c.in_ok-admit.ensures.cells in
+    subst (λ (l : List (Labels × OwnerCells)). EachCounts l) (sym c.in_ok-insert.ensures.entries) (each_put c.in_ok-owner.owner owners.entries new one each)

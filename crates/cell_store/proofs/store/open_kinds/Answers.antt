@@ -8,9 +8,10 @@ use Rattle.std.proofs.lemmas.Grind.{common_steps}
 use Rattle.dns_name.specs.Order.{name_eq}
 use Rattle.cell_store.specs.Count.{count_entries, has_place}
 use Rattle.cell_store.proofs.CountLaws.{count_set}
+use Rattle.cell_store.proofs.NamedLaws.{each_set}
 use Rattle.cell_store.proofs.StoreLaws.{pairs_kept, settles_absent}
 use Rattle.dns_name.specs.Labels.{Labels}
-use Rattle.cell_store.specs.Store.{StayBut}
+use Rattle.cell_store.specs.Store.{EachCounts, StayBut}
 use Rattle.cell_store.proofs.SpotLaws.{stays_set, length_set}
 use Rattle.cell_store.proofs.store.open_kinds.Goals as goal
 
@@ -46,3 +47,12 @@ returns-in-Some-clause-entries c =
     let new = c.open_each.new.self in
     let put = (c.get_mut.follows.holds new).0 in
     (subst (λ (l : List (Labels × OwnerCells)). StayBut owner owners.entries l) (sym put) (stays_set (name_eq owner) owner owners.entries new refl), ap length put ∙ length_set (name_eq owner) owners.entries new, ap keys_of put ∙ keys-set_value (name_eq owner) owners.entries new)
+
+pub returns-in-Some-clause-named : goal.returns-in-Some-clause-named
+returns-in-Some-clause-named c = λ each.
+    let owners = c.args.owners.now in
+    let new = c.open_each.new.self in
+    let held : get name_eq owners c.args.owner.now ≡ Some c.in-Some.cells.now = grind (arith, common_steps) in
+    let put = (c.get_mut.follows.holds new).0 in
+    subst (λ (l : List (Labels × OwnerCells)). EachCounts l) (sym put)
+    (each_set (name_eq c.args.owner.now) owners.entries c.in-Some.cells.now new held c.open_each.ensures.places.count each)

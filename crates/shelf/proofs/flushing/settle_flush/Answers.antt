@@ -1,4 +1,4 @@
-use Rattle.std.proofs.Common.{ℕ, List, [], ◌∷◌, sym, ap, ◌∙◌}
+use Rattle.std.proofs.Common.{ℕ, List, [], ◌∷◌, sym, ap, ◌∙◌, arith}
 use Rattle.std.specs.Prelude.{◌==◌, ◌&&◌}
 use Rattle.std.specs.List.{list_any}
 use Rattle.dns_name.specs.Below.{is_at_or_below}
@@ -42,3 +42,12 @@ returns-in-Zone-clause-moved c = λ top older upto is.
 
 pub returns-in-Zone-clause-settles : goal.returns-in-Zone-clause-settles
 returns-in-Zone-clause-settles c = λ kept all. all
+
+pub returns-in-OneType-clause-counted : goal.returns-in-OneType-clause-counted
+returns-in-OneType-clause-counted c = c.settle_name.ensures.counted
+
+pub returns-in-Name-clause-counted : goal.returns-in-Name-clause-counted
+returns-in-Name-clause-counted c = c.settle_name-in-Name.ensures.counted
+
+pub returns-in-Zone-clause-counted : goal.returns-in-Zone-clause-counted
+returns-in-Zone-clause-counted c = (c.requires.counted, omega arith, λ each. each)

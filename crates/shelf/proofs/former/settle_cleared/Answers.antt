@@ -23,4 +23,5 @@ returns c = λ is.
       ends = ends_mixed kept c.remove_number.new.kept.items c.args.shelf.now.owners.entries c.args.shelf.now.ends c.end_mixed.new.ends is.ends (c.end_mixed.ensures is.ends.flags);
       settling = is.settling;
       space = omega (arith, ap length c.remove_number.ensures, length_without c.args.number kept, is.space);
+      named = is.named;
     }

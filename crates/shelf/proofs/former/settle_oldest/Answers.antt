@@ -39,4 +39,5 @@ returns c =
       ends = c.settle_flush.ensures.ends c.remove-own.new.self.items (ends_mixed shelf.kept.items c.remove-own.new.self.items shelf.owners.entries shelf.ends c.end_mixed.new.ends whole.ends (c.end_mixed.ensures whole.ends.flags));
       settling = moved.settling;
       space = omega (arith, c.settle_flush.ensures.space.0, c.settle_flush.ensures.space.1, c.remove-own.ensures.len, whole.space);
+      named = c.settle_flush.ensures.counted.2 whole.named;
     }

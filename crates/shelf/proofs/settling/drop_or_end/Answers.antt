@@ -3,7 +3,7 @@ use Rattle.std.specs.Prelude.{slice_get}
 use Rattle.std.proofs.Math.ListN.{length-set}
 use Rattle.dns_name.specs.Labels.{Labels}
 use Rattle.cell_store.specs.declared.owner.OwnerCells.{OwnerCells}
-use Rattle.cell_store.specs.Store.{IsDroppedAt}
+use Rattle.cell_store.specs.Store.{EachCounts, IsDroppedAt}
 use Rattle.shelf.specs.declared.lasts.Lasts.{Lasts}
 use Rattle.shelf.specs.Clean.{AreEnds}
 use Rattle.shelf.specs.Lasts.{IsShaped}
@@ -11,6 +11,7 @@ use Rattle.shelf.specs.Sweep.{count_ended}
 use Rattle.shelf.proofs.DropLaws.{dropped_reached, ends_gone, gone_at, same_reached, swapped_size}
 use Rattle.shelf.proofs.EndLaws.{ends_put}
 use Rattle.shelf.proofs.ListLaws.{get_some}
+use Rattle.shelf.proofs.NamedLaws.{each_gone, each_kept}
 use Rattle.shelf.proofs.SettlingLaws.{same_length}
 use Rattle.shelf.proofs.VisitLaws.{ended_drop, ended_fewer, ended_more}
 use Rattle.shelf.proofs.WinnerLaws.{alike, shaped_same}
@@ -97,3 +98,20 @@ returns-clause-ended c = λ t.
     let more = subst (λ (l : List ℕ). count_ended t l ≤ count_ended t c.args.ends.now.moments + 1) (sym c.put.ensures.moments) (ended_more t c.args.ends.now.moments c.args.place 0 low) in
     let fewer = subst (λ (l : List ℕ). count_ended t c.args.ends.now.moments ≤ count_ended t l + 1) (sym c.put.ensures.moments) (ended_fewer t c.args.ends.now.moments c.args.place 0 low) in
     (omega (arith, more), omega (arith, fewer))
+
+pub returns-then-drop_if_uncounted-clause-named : goal.returns-then-drop_if_uncounted-clause-named
+returns-then-drop_if_uncounted-clause-named c = λ before stay each.
+    let gone : IsDroppedAt c.args.place c.args.owners.now.entries c.drop_if_uncounted.new.owners.entries true =
+    subst (λ b. IsDroppedAt c.args.place c.args.owners.now.entries c.drop_if_uncounted.new.owners.entries b) c.if-drop_if_uncounted.true c.drop_if_uncounted.ensures.entries in
+    let size = same_length before c.args.owners.now.entries stay.names in
+    let low : c.args.place < length before = omega (arith, c.requires.low, size) in
+    each_gone before c.args.owners.now.entries c.drop_if_uncounted.new.owners.entries c.args.ends.now.moments c.args.place gone.0 low stay.others stay.names gone.1 (c.requires.size.0 ∙ size) each
+
+pub returns-clause-named : goal.returns-clause-named
+returns-clause-named c = λ before stay each.
+    let stays : IsDroppedAt c.args.place c.args.owners.now.entries c.drop_if_uncounted.new.owners.entries false =
+    subst (λ b. IsDroppedAt c.args.place c.args.owners.now.entries c.drop_if_uncounted.new.owners.entries b) c.if-drop_if_uncounted.false c.drop_if_uncounted.ensures.entries in
+    let size = same_length before c.args.owners.now.entries stay.names in
+    let low : c.args.place < length before = omega (arith, c.requires.low, size) in
+    subst (λ (l : List (Labels × OwnerCells)). EachCounts l) (sym stays.0)
+    (each_kept before c.args.owners.now.entries c.args.ends.now.moments c.args.place (c.requires.size.0 ∙ size) stay.others size low stays.1 each)

@@ -1,6 +1,6 @@
 use Rattle.std.proofs.Common.{◌≡◌, ◌≤◌, ℕ, List}
 use Rattle.cell_store.specs.Count.{stored_in, KeepPairs}
-use Rattle.cell_store.specs.Store.{AreUpTo, KeepSettling}
+use Rattle.cell_store.specs.Store.{AreUpTo, EachCounts, KeepSettling}
 use Rattle.shelf.specs.declared.shelf.KeptFlush.{KeptFlush}
 use Rattle.shelf.specs.Clean.{AreEnds, HaveEnds}
 use Rattle.shelf.specs.Settling.{IsReaching}
@@ -16,6 +16,7 @@ invariant-loop-place l = record {
   settles : KeepSettling l.fn.owners l.owners;
   counted : l.stored ≡ stored_in l.owners;
   fewer : l.stored ≤ l.fn.stored;
+  named : EachCounts l.fn.owners.entries → EachCounts l.owners.entries;
   pairs : KeepPairs l.fn.owners l.owners;
   ends : (kept : List KeptFlush) → AreEnds kept l.fn.owners.entries l.fn.ends → AreEnds kept l.owners.entries l.ends;
   size : HaveEnds l.owners.entries l.ends;

@@ -3,6 +3,7 @@ use Rattle.indexmap.specs.IndexMap.{IndexMap}
 use Rattle.dns_name.specs.Labels.{Labels}
 use Rattle.cell_store.specs.declared.owner.OwnerCells.{OwnerCells}
 use Rattle.cell_store.specs.declared.seed.NameSeed.{NameSeed}
+use Rattle.cell_store.specs.Store.{EachCounts}
 use Rattle.shelf.specs.Clean.{AreEnds, HaveEnds}
 use Rattle.shelf.proofs.DropLaws.{reach_kept}
 use Rattle.shelf.proofs.SettlingLaws.{reach_one, reach_past, reach_then, same_length}
@@ -61,7 +62,11 @@ returns-clause-settles c = λ number kind name is.
     (less_left [] 0 c.settle_at.new.owners c.drop_or_end.new.owners c.drop_or_end.ensures.cells.0 c.drop_or_end.ensures.cells.1).settles number kind name (c.settle_at.ensures.kept.1 number kind name is)
 
 pub returns-clause-counted : goal.returns-clause-counted
-returns-clause-counted c = (c.settle_at.ensures.counted.0 ∙ sym c.drop_or_end.ensures.counted, c.settle_at.ensures.counted.1)
+returns-clause-counted c = (
+  c.settle_at.ensures.counted.0 ∙ sym c.drop_or_end.ensures.counted,
+  c.settle_at.ensures.counted.1,
+  λ each. c.drop_or_end.ensures.named c.args.owners.now.entries c.settle_at.ensures.entries each,
+)
 
 pub returns-clause-pairs : goal.returns-clause-pairs
 returns-clause-pairs c = λ pair has.
@@ -75,3 +80,11 @@ returns-clause-size c = c.drop_or_end.ensures.size
 
 pub returns-clause-ended : goal.returns-clause-ended
 returns-clause-ended c = c.drop_or_end.ensures.ended
+
+pub returns-then-place-len-clause-counted : goal.returns-then-place-len-clause-counted
+returns-then-place-len-clause-counted c = (c.requires.counted, omega arith, λ each. each)
+
+pub returns-then-not-settle_at-clause-counted : goal.returns-then-not-settle_at-clause-counted
+returns-then-not-settle_at-clause-counted c =
+    let same : c.settle_at.new.owners ≡ c.args.owners.now = (c.settle_at.ensures.covered.1 c.if-not-settle_at.true).0 in
+    (c.settle_at.ensures.counted.0, c.settle_at.ensures.counted.1, λ each. subst (λ (o : IndexMap Labels OwnerCells NameSeed). EachCounts o.entries) (sym same) each)

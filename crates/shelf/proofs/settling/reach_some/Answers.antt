@@ -25,3 +25,9 @@ returns-clause-left c = (
   stepped_some c.args.most c.reach-left.result c.index-own.result.now c.args.settlings.now.items c.step_first.new.settlings.items (is_some _ (length c.args.settlings.now.items) c.is_empty.result c.is_empty.ensures (omega arith) c.if-is_empty.false) c.index-own.ensures c.step_first.ensures.items c.reach-left.ensures.left,
   near_some c.reach-left.result c.index-own.result.now c.args.settlings.now.items c.step_first.new.settlings.items c.args.ends.now.moments c.reach-left.new.ends.moments (is_some _ (length c.args.settlings.now.items) c.is_empty.result c.is_empty.ensures (omega arith) c.if-is_empty.false) c.index-own.ensures c.step_first.ensures.items c.reach-left.ensures.ended,
 )
+
+pub returns-then-is_empty-clause-counted : goal.returns-then-is_empty-clause-counted
+returns-then-is_empty-clause-counted c = (c.requires.counted, omega arith, λ each. each)
+
+pub returns-clause-counted : goal.returns-clause-counted
+returns-clause-counted c = c.reach-left.ensures.counted

@@ -8,6 +8,7 @@ use Rattle.dns_text.specs.declared.record.Question.{Question}
 use Rattle.cell_store.specs.Owner.{after_settle}
 use Rattle.cell_store.specs.Store.{name_place}
 use Rattle.shelf.proofs.DropLaws.{ends_absent, moved_kept, spot_of, stay_at}
+use Rattle.shelf.proofs.NamedLaws.{each_absent}
 use Rattle.shelf.proofs.SettlingLaws.{moved_name}
 use Rattle.shelf.proofs.SweepLaws.{less_left}
 use Rattle.shelf.proofs.settling.settle_name.Goals as goal
@@ -44,7 +45,22 @@ returns-in-Some-clause-settles c = λ number kind name is.
     (less_left [] 0 c.settle_kinds.new.owners c.drop_or_end.new.owners c.drop_or_end.ensures.cells.0 c.drop_or_end.ensures.cells.1).settles number kind name (c.settle_kinds.ensures.settles number kind name is)
 
 pub returns-in-Some-clause-counted : goal.returns-in-Some-clause-counted
-returns-in-Some-clause-counted c = (c.settle_kinds.ensures.counted ∙ sym c.drop_or_end.ensures.counted, c.settle_kinds.ensures.fewer.0)
+returns-in-Some-clause-counted c =
+    let olds = c.args.owners.now.entries in
+    let there : Some c.in-Some.place ≡ position (name_eq c.args.name.now) (keys_of c.args.owners.now.entries) = sym c.in-Some.is ∙ c.get_index_of-place.ensures.index in
+    let spot = spot_of (name_place c.args.name.now olds) (length (keys_of olds)) c.in-Some.place there in (
+      c.settle_kinds.ensures.counted ∙ sym c.drop_or_end.ensures.counted,
+      c.settle_kinds.ensures.fewer.0,
+      λ each. c.drop_or_end.ensures.named olds (stay_at c.args.name.now olds c.settle_kinds.new.owners.entries c.in-Some.place spot.0 c.settle_kinds.ensures.entries.0 c.settle_kinds.ensures.entries.1) each,
+    )
+
+pub returns-in-None-clause-counted : goal.returns-in-None-clause-counted
+returns-in-None-clause-counted c =
+    let none : None ≡ position (name_eq c.args.name.now) (keys_of c.args.owners.now.entries) = sym c.in-None.is ∙ c.get_index_of-place.ensures.index in (
+      c.settle_kinds.ensures.counted,
+      c.settle_kinds.ensures.fewer.0,
+      λ each. each_absent c.args.name.now c.args.owners.now.entries c.settle_kinds.new.owners.entries c.settle_kinds.ensures.entries.0 c.settle_kinds.ensures.fewer.1 none each,
+    )
 
 pub returns-in-Some-clause-pairs : goal.returns-in-Some-clause-pairs
 returns-in-Some-clause-pairs c = λ pair has.

@@ -28,3 +28,9 @@ loop-left-preserved c =
 
 pub visit-requires-clause-lasts : goal.visit-requires-clause-lasts
 visit-requires-clause-lasts c = let winners = c.loop-left.invariant.underway.ends.winners in (winners.size, winners.shape)
+
+pub returns-in-None-clause-counted : goal.returns-in-None-clause-counted
+returns-in-None-clause-counted c = let is = c.loop-left.invariant.underway in (is.counted, is.fewer, is.named)
+
+pub returns-clause-counted : goal.returns-clause-counted
+returns-clause-counted c = let is = c.loop-left.invariant.underway in (is.counted, is.fewer, is.named)

@@ -16,6 +16,7 @@ use Rattle.dns_name.specs.Order.{name_eq}
 use Rattle.shelf.proofs.AboutLaws.{about_forgot}
 use Rattle.shelf.proofs.PlaceLaws.{fewer_left}
 use Rattle.shelf.proofs.FaceLaws.{settles_each}
+use Rattle.shelf.proofs.NamedLaws.{each_forgot}
 use Rattle.shelf.proofs.SettlingLaws.{forgot_settling}
 use Rattle.shelf.proofs.shelf.Shelf.forget.Goals as goal
 
@@ -69,6 +70,7 @@ returns-clause-whole c =
           (gone_winners self.kept.items c.args.owner.now self.owners.entries self.ends c.drop_end.new.ends whole.ends (by c.args.owner.now self.owners.entries c.forget_place-place.result self.ends c.drop_end.new.ends c.forget_place-place.ensures.gone.0 c.drop_end.ensures)))));
       settling = forgot_settling self.top self.owners c.forget_place-place.new.owners c.args.owner.now c.forget_place-place.ensures.cells c.forget_place-place.ensures.gone.2 self.settlings.items whole.settling;
       space = whole.space;
+      named = each_forgot c.args.owner.now self.owners.entries c.forget_place-place.new.owners.entries self.ends.moments whole.ends.now.size c.forget_place-place.ensures.gone.2 whole.named;
     }
 
 pub returns-clause-stored : goal.returns-clause-stored

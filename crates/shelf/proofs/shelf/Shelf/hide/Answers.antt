@@ -35,4 +35,5 @@ returns-clause-whole c = λ is.
           c.args.self.now.owners.entries c.args.self.now.ends is.ends;
       settling = is.settling;
       space = omega (arith, ap length c.set_shown.ensures, length_shown c.args.number false kept, is.space);
+      named = is.named;
     }

@@ -102,6 +102,7 @@ reach_names-requires c =
         settling = admitted_settling self.top self.owners c.admit_at-result.new.owners c.args.find.owner c.admit_at-result.ensures.bound.2.names
             c.args.find c.args.moment cells self.settlings.items c.requires.whole.settling;
         space = c.requires.whole.space;
+        named = c.admit_at-result.ensures.named c.requires.whole.named;
       };
     }
 
@@ -152,6 +153,7 @@ returns-in_err-result-clause-whole c =
       settling = held_settling self.owners c.admit_at-result.new.owners c.args.find c.args.moment self.top self.stored c.admit_at-result.new.stored c.admit_at-result.result c.admit_at-result.ensures.cells c.admit_at-result.ensures.err c.admit_at-result.ensures.bound.2.names
           self.settlings.items c.requires.whole.settling;
       space = c.requires.whole.space;
+      named = c.admit_at-result.ensures.named c.requires.whole.named;
     }
 
 pub returns-in_err-touch-clause-whole : goal.returns-in_err-touch-clause-whole
@@ -171,6 +173,7 @@ returns-in_err-touch-clause-whole c =
       ends = ends_same self.kept.items self.owners.entries self.ends c.touch.new.ends c.in_err-touch.ensures.err whole.ends;
       settling = whole.settling;
       space = whole.space;
+      named = whole.named;
     }
 
 pub returns-in_err-touch-clause-fault : goal.returns-in_err-touch-clause-fault

@@ -62,6 +62,7 @@ returns-clause-whole c =
           (newer_settling self.top c.args.number owners (omega (arith, c.requires.newest)) self.settlings.items
           (kept_settling self.top self.owners owners c.args.flush.name (inl c.open_flush.ensures.entries.2) c.open_flush.ensures.cells self.settlings.items c.requires.whole.settling));
       space = omega (arith, c.in_ok-reserve_settlings.ensures.room, c.in_ok-push.ensures.len, c.len-2.ensures);
+      named = c.open_flush.ensures.named c.requires.whole.named;
     }
 
 pub returns-in_err-push-clause-whole : goal.returns-in_err-push-clause-whole
@@ -84,6 +85,7 @@ returns-in_err-push-clause-whole c =
           (reset_ends self owners c.args.flush c.reset.new.ends whole.ends c.open_flush.ensures.entries.0 c.open_flush.ensures.entries.1 c.reset.ensures);
       settling = subst (λ (l : List Settling). AllByRecursion (IsSettling self.top owners) l) (sym c.reserve_settlings.ensures.items) (kept_settling self.top self.owners owners c.args.flush.name (inl c.open_flush.ensures.entries.2) c.open_flush.ensures.cells self.settlings.items whole.settling);
       space = omega (arith, ap length items, ap length c.reserve_settlings.ensures.items, c.reserve_settlings.ensures.more, whole.space);
+      named = c.open_flush.ensures.named whole.named;
     }
 
 pub returns-in_err-open_flush-clause-whole : goal.returns-in_err-open_flush-clause-whole
@@ -104,6 +106,7 @@ returns-in_err-open_flush-clause-whole c =
       ends = reset_ends self owners c.args.flush c.reset.new.ends whole.ends c.open_flush.ensures.entries.0 c.open_flush.ensures.entries.1 c.reset.ensures;
       settling = subst (λ (l : List Settling). AllByRecursion (IsSettling self.top owners) l) (sym c.reserve_settlings.ensures.items) (kept_settling self.top self.owners owners c.args.flush.name (inl c.open_flush.ensures.entries.2) c.open_flush.ensures.cells self.settlings.items whole.settling);
       space = omega (arith, ap length c.reserve_settlings.ensures.items, c.reserve_settlings.ensures.more, whole.space);
+      named = c.open_flush.ensures.named whole.named;
     }
 
 pub returns-in_err-reserve_settlings-clause-whole : goal.returns-in_err-reserve_settlings-clause-whole
@@ -123,6 +126,7 @@ returns-in_err-reserve_settlings-clause-whole c =
       ends = whole.ends;
       settling = subst (λ (l : List Settling). AllByRecursion (IsSettling self.top self.owners) l) (sym c.reserve_settlings.ensures.items) whole.settling;
       space = omega (arith, ap length c.reserve_settlings.ensures.items, c.reserve_settlings.ensures.more, whole.space);
+      named = whole.named;
     }
 
 -- the same cells and flushes, in a shelf that was refused memory

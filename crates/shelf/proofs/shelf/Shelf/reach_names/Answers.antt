@@ -32,4 +32,5 @@ returns-clause-whole c =
       ends = c.reach_some.ensures.ends self.kept.items whole.ends;
       settling = moved.settling;
       space = omega (arith, c.reach_some.ensures.room.0, c.reach_some.ensures.room.1, whole.space);
+      named = c.reach_some.ensures.counted.2 whole.named;
     }

@@ -8,7 +8,7 @@ use Rattle.ranked.specs.Find.{touches}
 use Rattle.cell_store.specs.declared.owner.OwnerCells.{OwnerCells}
 use Rattle.cell_store.specs.Count.{count_entries}
 use Rattle.cell_store.specs.Owner.{IsUpTo}
-use Rattle.cell_store.specs.Store.{cell_by_owner}
+use Rattle.cell_store.specs.Store.{cell_by_owner, EachCounts}
 use Rattle.shelf.specs.declared.shelf.KeptFlush.{KeptFlush}
 use Rattle.shelf.specs.Clean.{AreEnds}
 use Rattle.shelf.specs.Told.{CanSettleFlush, IsAscending}
@@ -39,4 +39,5 @@ returns-clause-whole c =
       ends = subst (λ (l : List (Labels × OwnerCells)). AreEnds kept l c.no_ends.result) (sym empty) (c.no_ends.ensures kept);
       settling = subst (λ (l : List Settling). AllByRecursion (IsSettling 0 owners) l) (sym c.new-3.ensures.items) tt;
       space = omega (arith, ap length none, ap length c.new-3.ensures.items);
+      named = subst (λ (l : List (Labels × OwnerCells)). EachCounts l) (sym empty) (λ i. tt);
     }

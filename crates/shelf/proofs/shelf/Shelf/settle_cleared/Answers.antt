@@ -28,4 +28,5 @@ returns-clause-whole c = λ is.
       ends = ends_mixed kept c.remove_number.new.kept.items c.args.self.now.owners.entries c.args.self.now.ends c.end_mixed.new.ends is.ends (c.end_mixed.ensures is.ends.flags);
       settling = is.settling;
       space = omega (arith, ap length c.remove_number.ensures, length_without c.args.number kept, is.space);
+      named = is.named;
     }

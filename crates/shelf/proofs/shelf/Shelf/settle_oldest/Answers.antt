@@ -50,4 +50,5 @@ returns-clause-whole c =
       ends = c.settle_flush.ensures.ends c.remove-own.new.self.items (ends_mixed self.kept.items c.remove-own.new.self.items self.owners.entries self.ends c.end_mixed.new.ends whole.ends (c.end_mixed.ensures whole.ends.flags));
       settling = moved.settling;
       space = omega (arith, c.settle_flush.ensures.space.0, c.settle_flush.ensures.space.1, c.remove-own.ensures.len, whole.space);
+      named = c.settle_flush.ensures.counted.2 whole.named;
     }

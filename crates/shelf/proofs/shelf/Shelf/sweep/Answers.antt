@@ -76,6 +76,7 @@ returns-clause-whole c =
       ends = subst (λ (l : List KeptFlush). AreEnds l c.sweep_all.new.owners.entries c.sweep_all.new.ends) c.deref.ensures.value c.sweep_all.ensures.ends;
       settling = subst (λ (s : List Settling). AllByRecursion (IsSettling middle.top c.sweep_all.new.owners) s) (sym none) tt;
       space = whole.space;
+      named = λ i. c.sweep_all.ensures.alive.counted i (omega arith);
     }
 
 pub returns-clause-stored : goal.returns-clause-stored

@@ -49,6 +49,7 @@ returns-clause-whole c =
       ends = subst (λ (l : List KeptFlush). AreEnds l c.sweep_few.new.owners.entries c.sweep_few.new.ends) c.deref.ensures.value c.sweep_few.ensures.ends;
       settling = subst (λ (s : List Settling). AllByRecursion (IsSettling self.top c.sweep_few.new.owners) s) (sym none) tt;
       space = whole.space;
+      named = c.sweep_few.ensures.counted.2 whole.named;
     }
 
 pub returns-clause-counted : goal.returns-clause-counted

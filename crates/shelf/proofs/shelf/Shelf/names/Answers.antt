@@ -1,0 +1,6 @@
+use Rattle.std.proofs.Common.{arith}
+use Rattle.shelf.proofs.NamedLaws.{names_few}
+use Rattle.shelf.proofs.shelf.Shelf.names.Goals as goal
+
+pub returns-clause-few : goal.returns-clause-few
+returns-clause-few c = λ whole. omega (arith, c.len.ensures.len, names_few c.args.self.now.owners.entries whole.named, whole.counted)
