@@ -10,6 +10,7 @@ import socket
 import statistics
 import subprocess
 import sys
+import time
 
 HERE = os.path.dirname(os.path.abspath(__file__))
 sys.path.insert(0, os.path.join(HERE, "..", "tests"))
@@ -116,6 +117,24 @@ def expected(line, told, starts):
     return told
 
 
+def figures(place):
+    """The reply to `stats`, as numbers by name."""
+    with socket.create_connection((HOST, place)) as connection, connection.makefile("r", encoding="ascii") as file:
+        connection.sendall(b"stats\n")
+        lines = iter(file.readline, "end\n")
+        return {name: int(value) for name, _, value in (line.partition("=") for line in lines)}
+
+
+def common_end(late, place, seconds):
+    """Has the name server say of each address that it ends in so many seconds, all in one of the service's seconds. Returns when."""
+    first = figures(place)["time.up"]
+    while figures(place)["time.up"] == first:
+        time.sleep(0.001)
+    with socket.socket(socket.AF_INET, socket.SOCK_DGRAM) as sock:
+        sock.sendto(str(seconds).encode(), (HOST, late))
+    return time.monotonic() + seconds
+
+
 class Programs:
     """The programs that are measured, and those that measure."""
 
@@ -126,9 +145,9 @@ class Programs:
         self.unbound = shutil.which("unbound", path=os.environ.get("PATH", "") + ":/usr/sbin")
         self.who = [who for who, program in self.builds.items() if program] + (["unbound", "echo"] if self.unbound else ["echo"])
 
-    def asking(self, port, sockets, each, names, prefix, seconds=60, most=0, pause=0):
+    def asking(self, port, sockets, each, names, prefix, seconds=60, most=0, pause=0, zone="test"):
         """A driver with `sockets` times `each` questions in flight, until its seconds are over or `most` were asked."""
-        words = [port, sockets, each, pause, seconds, most, names, prefix]
+        words = [port, sockets, each, pause, seconds, most, names, prefix, zone]
         return subprocess.Popen([self.ask_program, *map(str, words)], stdout=subprocess.PIPE)
 
     def ask(self, *words, **more):

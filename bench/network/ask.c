@@ -1,10 +1,10 @@
-// ask PORT SOCKETS EACH PAUSE SECONDS MOST NAMES PREFIX: asks a server on loopback for addresses, until SECONDS have passed or
+// ask PORT SOCKETS EACH PAUSE SECONDS MOST NAMES PREFIX [ZONE]: asks a server on loopback for addresses, until SECONDS have passed or
 // MOST questions were asked (0: no limit), and prints the counts. It also prints how many microseconds the slowest reply took, and
-// each of the first few thousand.
+// each of the first few thousand. A reply that took more than two milliseconds is slow.
 //
 // Each of the sockets has EACH questions in flight. A question that is answered is followed by the next, PAUSE microseconds later.
-// The names are PREFIXn.test., where n goes from 0 to NAMES - 1 again and again, or on and on if NAMES is 0. A question
-// without a reply for three seconds is lost.
+// The names are PREFIXn.ZONE., where n goes from 0 to NAMES - 1 again and again, or on and on if NAMES is 0. ZONE is one label, `test`
+// if none is given. A question without a reply for three seconds is lost.
 #define _GNU_SOURCE
 #include <arpa/inet.h>
 #include <netinet/in.h>
@@ -17,6 +17,8 @@
 
 enum { MOST_SOCKETS = 64, MOST_EACH = 512, MOST_KEPT = 1 << 12 };
 #define PATIENCE 3.0
+// The microseconds above which a reply counts as slow.
+#define SLOW 2000
 
 // A question that is in flight; or, if its time of sending is 0, one that is to be asked at a given time.
 struct slot {
@@ -27,10 +29,10 @@ struct slot {
 static struct slot slots[MOST_SOCKETS][MOST_EACH];
 static struct pollfd socks[MOST_SOCKETS];
 static float took[MOST_KEPT];
-static long asked, answered, failed, lost, strange, most;
+static long asked, answered, failed, lost, strange, slow, most;
 static int sockets, each, names;
 static double pause_between, due, longest;
-static const char *prefix;
+static const char *prefix, *zone = "test";
 
 static double now(void)
 {
@@ -53,8 +55,10 @@ static void ask(int sock, int place, double time)
     octets[1] = slot->id;
     int length = snprintf((char *)octets + 13, 64, "%s%ld", prefix, names ? asked % names : asked);
     octets[12] = length;
-    memcpy(octets + 13 + length, "\4test\0\0\1\0\1", 10);
-    if (send(socks[sock].fd, octets, 23 + length, 0) < 0)
+    unsigned char *end = octets + 13 + length;
+    *end = strlen(zone);
+    end = mempcpy(mempcpy(end + 1, zone, *end), "\0\0\1\0\1", 5);
+    if (send(socks[sock].fd, octets, end - octets, 0) < 0)
         return;
     slot->sent = time;
     asked++;
@@ -75,6 +79,7 @@ static void take(int sock)
         failed += (octets[3] & 15) != 0;
         double waited = (time - slot->sent) * 1e6;
         longest = waited > longest ? waited : longest;
+        slow += waited > SLOW;
         if (answered < MOST_KEPT)
             took[answered] = waited;
         answered++;
@@ -107,13 +112,15 @@ static void ask_due(double time)
 
 int main(int count, char **words)
 {
-    if (count != 9)
+    if (count != 9 && count != 10)
         return 2;
     struct sockaddr_in at = {.sin_family = AF_INET, .sin_port = htons(atoi(words[1])), .sin_addr.s_addr = htonl(INADDR_LOOPBACK)};
     sockets = atoi(words[2]), each = atoi(words[3]), pause_between = atof(words[4]) * 1e-6;
     double seconds = atof(words[5]);
     most = atol(words[6]), names = atoi(words[7]), prefix = words[8];
-    if (sockets > MOST_SOCKETS || each > MOST_EACH || strlen(prefix) > 32)
+    if (count == 10)
+        zone = words[9];
+    if (sockets > MOST_SOCKETS || each > MOST_EACH || strlen(prefix) > 32 || strlen(zone) > 32)
         return 2;
     for (int sock = 0; sock < sockets; sock++) {
         int room = 1 << 20;
@@ -139,8 +146,8 @@ int main(int count, char **words)
         last = now();
     }
     double ran = (most ? last : time) - began;
-    printf("{\"seconds\": %.6f, \"answered\": %ld, \"failed\": %ld, \"lost\": %ld, \"strange\": %ld, \"longest\": %.1f, \"took\": [",
-           ran, answered, failed, lost, strange, longest);
+    printf("{\"seconds\": %.6f, \"answered\": %ld, \"failed\": %ld, \"lost\": %ld, \"strange\": %ld, \"slow\": %ld, \"longest\": %.1f, "
+           "\"took\": [", ran, answered, failed, lost, strange, slow, longest);
     for (long place = 0; place < answered && place < MOST_KEPT; place++)
         printf("%s%.1f", place ? ", " : "", took[place]);
     puts("]}");

@@ -1,5 +1,6 @@
 // late PORT MILLISECONDS [TTL]: a name server that answers each question for an address after that time, whatever its name is.
-// The address may be cached for TTL seconds, else for a day.
+// The address may be cached for TTL seconds, else for a day. A datagram of digits, fewer than a query has octets, sets a common end: what
+// is asked for in the seconds of that number may be cached until they are over, counted from the datagram on.
 #define _GNU_SOURCE
 #include <arpa/inet.h>
 #include <netinet/in.h>
@@ -43,6 +44,18 @@ static int reply(unsigned char *octets, int length, unsigned ttl)
     return end + sizeof record;
 }
 
+// The common end: how many seconds there are from a moment on, or none.
+static double zero;
+static unsigned seconds;
+
+// For how many seconds an address may be cached now. Whole seconds are counted from the moment of the common end's datagram on, so that a
+// resolver whose seconds begin then too finds that all end in one second.
+static unsigned ttl_now(unsigned ttl)
+{
+    double passed = now() - zero;
+    return passed < seconds ? seconds - (unsigned)passed : ttl;
+}
+
 int main(int count, char **words)
 {
     if (count != 3 && count != 4)
@@ -69,7 +82,13 @@ int main(int count, char **words)
             ssize_t length = recvfrom(sock, waiting[next % ROOM].octets, LONGEST, MSG_DONTWAIT, (struct sockaddr *)&waiting[next % ROOM].peer, &size);
             if (length < 0)
                 break;
-            waiting[next % ROOM].length = reply(waiting[next % ROOM].octets, length, ttl);
+            if (length < 12) {
+                waiting[next % ROOM].octets[length] = 0;
+                seconds = atoi((char *)waiting[next % ROOM].octets);
+                zero = now();
+                continue;
+            }
+            waiting[next % ROOM].length = reply(waiting[next % ROOM].octets, length, ttl_now(ttl));
             waiting[next % ROOM].when = now() + delay;
             next += waiting[next % ROOM].length > 0;
         }
