@@ -157,6 +157,7 @@ class Programs:
     def late_by(self, milliseconds, *ttl):
         port = free_port()
         process = begun([self.late, str(port), str(milliseconds), *map(str, ttl)])
+        self.late_process = process.pid
         try:
             yield port
         finally:

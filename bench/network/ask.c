@@ -1,6 +1,7 @@
 // ask PORT SOCKETS EACH PAUSE SECONDS MOST NAMES PREFIX [ZONE]: asks a server on loopback for addresses, until SECONDS have passed or
 // MOST questions were asked (0: no limit), and prints the counts. It also prints how many microseconds the slowest reply took, and
-// each of the first few thousand. A reply that took more than two milliseconds is slow.
+// each of the first few thousand. A reply that took more than two milliseconds is slow. Of the slowest it prints the second of the
+// monotonic clock at which each came, too.
 //
 // Each of the sockets has EACH questions in flight. A question that is answered is followed by the next, PAUSE microseconds later.
 // The names are PREFIXn.ZONE., where n goes from 0 to NAMES - 1 again and again, or on and on if NAMES is 0. ZONE is one label, `test`
@@ -15,7 +16,7 @@
 #include <sys/socket.h>
 #include <time.h>
 
-enum { MOST_SOCKETS = 64, MOST_EACH = 512, MOST_KEPT = 1 << 12 };
+enum { MOST_SOCKETS = 64, MOST_EACH = 512, MOST_KEPT = 1 << 12, MOST_SLOWEST = 8 };
 #define PATIENCE 3.0
 // The microseconds above which a reply counts as slow.
 #define SLOW 2000
@@ -29,6 +30,8 @@ struct slot {
 static struct slot slots[MOST_SOCKETS][MOST_EACH];
 static struct pollfd socks[MOST_SOCKETS];
 static float took[MOST_KEPT];
+// The slowest replies, in no order: when each came, in seconds, and how many microseconds it took.
+static struct { double came, took; } slowest[MOST_SLOWEST];
 static long asked, answered, failed, lost, strange, slow, most;
 static int sockets, each, names;
 static double pause_between, due, longest;
@@ -64,6 +67,17 @@ static void ask(int sock, int place, double time)
     asked++;
 }
 
+// Keeps a reply if it is one of the slowest.
+static void keep_if_slow(double came, double waited)
+{
+    int least = 0;
+    for (int place = 1; place < MOST_SLOWEST; place++)
+        if (slowest[place].took < slowest[least].took)
+            least = place;
+    if (waited > slowest[least].took)
+        slowest[least].came = came, slowest[least].took = waited;
+}
+
 // Receives what has come at a socket.
 static void take(int sock)
 {
@@ -80,6 +94,7 @@ static void take(int sock)
         double waited = (time - slot->sent) * 1e6;
         longest = waited > longest ? waited : longest;
         slow += waited > SLOW;
+        keep_if_slow(time, waited);
         if (answered < MOST_KEPT)
             took[answered] = waited;
         answered++;
@@ -150,6 +165,9 @@ int main(int count, char **words)
            "\"took\": [", ran, answered, failed, lost, strange, slow, longest);
     for (long place = 0; place < answered && place < MOST_KEPT; place++)
         printf("%s%.1f", place ? ", " : "", took[place]);
+    printf("], \"slowest\": [");
+    for (int place = 0; place < MOST_SLOWEST; place++)
+        printf("%s[%.6f, %.1f]", place ? ", " : "", slowest[place].came, slowest[place].took);
     puts("]}");
     return 0;
 }

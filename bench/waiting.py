@@ -1,0 +1,45 @@
+"""How long threads were ready to run and got no processor, while something else was measured."""
+
+import os
+import threading
+import time
+
+# The seconds between two readings.
+BETWEEN = 0.005
+
+
+class ProcessorWaits(threading.Thread):
+    """Reads again and again how long each thread of some processes has waited for a processor, by the system's own count."""
+
+    def __init__(self, processes):
+        """`processes` has a name for each process number."""
+        super().__init__(daemon=True)
+        self.threads = {f"/proc/{pid}/task/{task}/schedstat": f"{name} {place}"
+                        for pid, name in processes.items() for place, task in enumerate(sorted(os.listdir(f"/proc/{pid}/task"), key=int))}
+        self.readings, self.over = [], threading.Event()
+
+    def run(self):
+        while not self.over.wait(BETWEEN):
+            began = time.monotonic()
+            self.readings.append((began, [waited(path) for path in self.threads], time.monotonic()))
+
+    def end(self):
+        self.over.set()
+        self.join()
+
+    def between(self, start, end):
+        """The milliseconds that each thread waited, at most, between two moments of the monotonic clock. Threads that waited longest come
+        first."""
+        before = max((one for one in self.readings if one[2] <= start), default=self.readings[0])
+        after = min((one for one in self.readings if one[0] >= end), default=self.readings[-1])
+        found = [(now - then) / 1e6 for then, now in zip(before[1], after[1])]
+        return sorted(zip(found, self.threads.values()), reverse=True)
+
+
+def waited(path):
+    """The nanoseconds that a thread has waited, or 0 if it has ended."""
+    try:
+        with open(path, encoding="ascii") as file:
+            return int(file.read().split()[1])
+    except OSError:
+        return 0
