@@ -2,7 +2,7 @@
 """Measures the gate, and writes the table of docs/TIMES.md.
 
     docs/times.py --run LOG COMMAND..   runs a command, as `rt ci` or ./check, and keeps in LOG each line with its second
-    docs/times.py LOG..                 writes the table from such logs, of ./build too, or from bare logs of `rt ci`, which have no seconds
+    docs/times.py LOG..                 writes the table from logs of docs/prove.py, which has the minutes, and of `rt ci`, which has the functions
     docs/times.py --check               fails if the table has not a row for each crate of crates.txt, and for no other
 
 A crate that no log names keeps its row.
@@ -20,7 +20,7 @@ sys.dont_write_bytecode = True
 from graph import TOP, crates
 
 DOCUMENT = os.path.join(TOP, "docs/TIMES.md")
-HEAD = "| Crate | functions | must-fail edits | proved after |\n|---|---|---|---|\n"
+HEAD = "| Crate | functions | must-fail edits | processor minutes |\n|---|---|---|---|\n"
 MINUTES = "processor minutes:"
 
 
@@ -38,22 +38,21 @@ def measure(log, command):
 
 
 def read_log(path):
-    """What a log says of each crate: how many functions, and the second at which it was proved; and the minutes."""
-    functions, seconds, minutes, crate = {}, {}, None, None
+    """What a log says of each crate: how many functions, and the minutes of a processor; and those of the whole gate."""
+    functions, minutes, all_minutes, crate = {}, {}, None, None
     with open(path, encoding="utf-8") as file:
         for line in file:
-            stamp, text = re.match(r"(?:\[(\d+)\] )?(.*)", line).groups()
+            text = re.sub(r"^\[\d+\] ", "", line.rstrip("\n"))
             if begun := re.match(r"== (\w+)", text):
                 crate = begun[1]
             elif (found := re.search(r"\bfunctions=(\d+)", text)) and crate:
                 functions.setdefault(crate, int(found[1]))
-            elif (proved := re.match(r"rt: (\w+) proved$", text)) and stamp:
-                seconds[proved[1]] = int(stamp)
-            elif built := re.match(r"build: \d+ of \d+, after (\d+) min (\d+) s: (\w+) proved$", text):
-                seconds[built[3]] = 60 * int(built[1]) + int(built[2])
+            elif proved := re.match(r"(\w+): proved, ([\d.]+) processor minutes", text):
+                # A crate that was kept takes no time, and says nothing of what its proof takes.
+                minutes[proved[1]] = max(float(proved[2]), minutes.get(proved[1], 0))
             elif text.startswith(MINUTES):
-                minutes = text.split()[-1]
-    return functions, seconds, minutes
+                all_minutes = text.split()[-1]
+    return functions, minutes, all_minutes
 
 
 def edits(crate):
@@ -78,16 +77,16 @@ def written(text, logs):
     """The document with what the logs say."""
     begins, ends, rows = table_in(text)
     for path in logs:
-        functions, seconds, minutes = read_log(path)
-        for crate in {*functions, *seconds}:
-            count, _, after = rows.get(crate, ["", "", ""])
-            rows[crate] = [str(functions.get(crate, count)), "", f"{seconds[crate] / 60:.0f} min" if crate in seconds else after]
-        if minutes:
-            text = re.sub(rf"{MINUTES} \d+", f"{MINUTES} {minutes}", text)
+        functions, minutes, all_minutes = read_log(path)
+        for crate in {*functions, *minutes}:
+            count, _, took = rows.get(crate, ["", "", ""])
+            rows[crate] = [str(functions.get(crate, count)), "", f"{minutes[crate]:.1f}" if crate in minutes else took]
+        if all_minutes:
+            text = re.sub(rf"{MINUTES} \d+", f"{MINUTES} {all_minutes}", text)
     lines = []
     for crate in crates():
-        count, _, after = rows.get(crate, ["", "", ""])
-        lines.append(f"| `{crate}` | {count} | {edits(crate) or ''} | {after} |\n")
+        count, _, took = rows.get(crate, ["", "", ""])
+        lines.append(f"| `{crate}` | {count} | {edits(crate) or ''} | {took} |\n")
     return text[:begins] + HEAD + "".join(lines) + text[ends:]
 
 
