@@ -1,5 +1,5 @@
 -- Data that is written is read back.
-use Rattle.std.proofs.Common.{◌≡◌, ℕ, ◌<◌, ◌^◌, List, [], ◌∷◌, ◌++◌, length, get_or, Some, refl, ap, ◌∙◌, arith, append_assoc}
+use Rattle.std.proofs.Common.{◌≡◌, ℕ, ◌<◌, ◌^◌, List, ◌∷◌, ◌++◌, length, get_or, Some, refl, ap, ◌∙◌, arith, append_assoc}
 use Rattle.std.specs.Prelude.{decimal, option_map, slice_index}
 use Rattle.dns_text.specs.declared.record.Data.TheVariants.{A, Aaaa, One, Mx, Soa, Txt, Srv, Opaque}
 use Rattle.dns_text.specs.declared.kind.Form.{Form}
@@ -14,10 +14,10 @@ use Rattle.dns_text.proofs.WordLaws.{only_word-whole}
 use Rattle.dns_text.proofs.Ipv4Laws.{ipv4_in-ipv4_text, ipv4_is_word}
 use Rattle.dns_text.proofs.FieldLaws.{name_at-text_of, last_name-text_of, number_at-decimal, last_number-decimal}
 use Rattle.std.specs.List.{AllByRecursion}
-use Rattle.dns_text.specs.String.{AreOctets}
 use Rattle.dns_text.specs.Opaque.{octets_in}
 use Rattle.dns_text.proofs.OpaqueLaws.{octets_again}
-use Rattle.dns_text.proofs.StringLaws.{IsString, strings_again, strings_in-blank}
+use Rattle.dns_text.specs.Strings.{IsString}
+use Rattle.dns_text.proofs.StringLaws.{strings_again, strings_in-blank}
 use Rattle.dns_text.proofs.Ipv6Laws.{ipv6_again}
 
 -- ---- each form
@@ -91,13 +91,9 @@ pub opaque_again : (kind : ℕ) (octets : List ℕ) → ((i : ℕ) → slice_ind
 unfolding data_as data_text
 opaque_again kind octets fits h = rw h.same (rw (octets_again octets h.sized fits) refl)
 
-are_strings : (strings : List (List ℕ)) → AllByRecursion AreOctets strings → AllByRecursion (λ s. length s < 256) strings → AllByRecursion IsString strings
-are_strings [] h k = tt
-are_strings (s ∷ strings) h k = (record { each = h.0; few = k.0 }, are_strings strings h.1 k.1)
-
-pub txt_again : (kind : ℕ) (strings : List (List ℕ)) → AllByRecursion AreOctets strings → HasForm kind (Txt strings) → data_in kind (data_text (Txt strings)) ≡ Some (Txt strings)
+pub txt_again : (kind : ℕ) (strings : List (List ℕ)) → AllByRecursion IsString strings → HasForm kind (Txt strings) → data_in kind (data_text (Txt strings)) ≡ Some (Txt strings)
 unfolding data_as data_text
-txt_again kind strings each h = rw h.same (rw (strings_again strings h.sized.0 (are_strings strings each h.sized.1)) refl)
+txt_again kind strings each h = rw h.same (rw (strings_again strings h.sized.0 each) refl)
 
 -- a blank before data
 data_as-blank : (form : Form) (text : List ℕ) → data_as form (32 ∷ text) ≡ data_as form text

@@ -9,6 +9,7 @@ pub mod Ipv6Head
 pub mod Ipv6Reading
 pub mod FieldLaws
 pub mod OpaqueLaws
+pub mod SpelledLaws
 pub mod StringLaws
 pub mod DataLaws
 pub mod RecordLaws

@@ -12,6 +12,7 @@ use Rattle.dns_text.specs.declared.word.Within.TheVariants.{Plain, Quotes, Escap
 use Rattle.dns_text.specs.Word.{next_word}
 use Rattle.dns_name.specs.Options.{◌>>=◌}
 use Rattle.dns_text.specs.String.{octet_at, octets_after, before_last_quote, string_in, then_string, strings_after, some_strings, strings_in, quoted_octet, quoted_text, strings_text}
+use Rattle.dns_text.specs.Strings.{IsString}
 use Rattle.dns_text.proofs.WordLaws.{scanned, IsWord, EndsWord, scanned-append, next_word-front, rest_length, next_less}
 
 -- ---- one octet after another
@@ -150,11 +151,6 @@ octets_read before (b ∷ octets) each few =
     ∙ ap (octets_after (before ++ b ∷ []) 0) (drop_at (quoted_octet b) rest (length (quoted_octet b)) refl)
     ∙ octets_read (before ++ b ∷ []) octets each.1 (omega (arith, length-append before (b ∷ [])))
     ∙ ap (λ (x : List ℕ). let o : Option (List ℕ) = Some x in o) (append_assoc before (b ∷ []) octets)
-
--- octets of which a string may be
-pub record IsString (octets : List ℕ) : Type 0 where
-  pub each : AllByRecursion (λ b. b < 256) octets
-  pub few : length octets < 256
 
 string_again : (octets : List ℕ) → IsString octets → string_in (quoted_text octets) ≡ Some octets
 unfolding string_in

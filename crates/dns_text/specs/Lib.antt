@@ -5,6 +5,7 @@ pub mod Kind
 pub mod Field
 pub mod Opaque
 pub mod String
+pub mod Strings
 pub mod Ipv4
 pub mod Ipv6
 pub mod Addr

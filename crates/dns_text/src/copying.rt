@@ -2,7 +2,7 @@
 
 ghost use Rattle.std.specs.Prelude.{◌≡◌, IfOk};
 
-use crate::items::{Items, Octets};
+use crate::items::Octets;
 use crate::record::{Data, Record};
 use dns_name::Name;
 use std::alloc::{AllocError, Global};
@@ -12,17 +12,6 @@ fn copy_octets(alloc: Global, octets: &Octets) -> Result<Octets, AllocError>
     ensures { IfOk result (λ copy. copy ≡ octets.now) }
 {
     Ok(Octets::new(Vec::from_slice(alloc, octets.as_slice())?))
-}
-
-/// A copy of strings.
-fn copy_strings(alloc: Global, strings: &[Octets]) -> Result<Items<Octets>, AllocError>
-    ensures { IfOk result (λ copy. copy ≡ strings.now) }
-{
-    let mut copies = Vec::new(alloc);
-    for string in strings {
-        copies.push(copy_octets(alloc, string)?)?;
-    }
-    Ok(Items::new(copies))
 }
 
 /// MX data with a copy of the name.
@@ -48,7 +37,7 @@ fn copy_srv(priority: u16, weight: u16, port: u16, target: &Name) -> Result<Data
 }
 
 impl Data {
-    /// A copy of the data. Strings and lists take memory; names share theirs.
+    /// A copy of the data. Strings and octets take memory; names share theirs.
     pub fn copy(&self, alloc: Global) -> Result<Data, AllocError>
         ensures { IfOk result (λ x. x ≡ self.now) }
     {
@@ -77,7 +66,7 @@ impl Data {
                 expire: *expire,
                 minimum: *minimum,
             }),
-            Data::Txt(strings) => Ok(Data::Txt(copy_strings(alloc, strings.as_slice())?)),
+            Data::Txt(strings) => Ok(Data::Txt(strings.copy(alloc)?)),
             Data::Srv {
                 priority,
                 weight,
@@ -90,7 +79,7 @@ impl Data {
 }
 
 impl Record {
-    /// A copy of the record. Strings and lists take memory; names share theirs.
+    /// A copy of the record. Strings and octets take memory; names share theirs.
     pub fn copy(&self, alloc: Global) -> Result<Record, AllocError>
         ensures { IfOk result (λ x. x ≡ self.now) }
     {

@@ -222,6 +222,6 @@ pub fn push_data(body: &Data, out: &mut Vec<u8>) -> Result<(), NoMemory>
             target,
         } => push_srv(*priority, *weight, *port, target, out),
         Data::Opaque(octets) => push_octets(octets.as_slice(), out),
-        Data::Txt(strings) => push_strings(strings.as_slice(), out),
+        Data::Txt(strings) => push_strings(strings, out),
     }
 }

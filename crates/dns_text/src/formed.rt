@@ -1,24 +1,11 @@
 //! A test of data: does it have the form of a type?
 
-ghost use Rattle.std.specs.Prelude.{◌≡◌, ◌<◌, ◌+◌, ◌↔◌, length, IsTrue};
-ghost use Rattle.std.specs.List.{AllByRecursion};
-ghost use Rattle.dns_text.specs.declared.string.TheConstants.{MOST_STRING};
+ghost use Rattle.std.specs.Prelude.{◌≡◌, ◌↔◌, IsTrue};
 ghost use Rattle.dns_text.specs.Data.{form_in, IsSized, HasForm};
 
-use crate::items::Octets;
 use crate::kind::{Form, form_of};
 use crate::number::MOST_16;
 use crate::record::Data;
-use crate::string::MOST_STRING;
-
-/// Whether the length of each string fits into one octet.
-fn are_short(strings: &[Octets]) -> bool
-    ensures { IsTrue result ↔ AllByRecursion (λ octets. length octets < MOST_STRING + 1) strings.now }
-{
-    strings
-        .iter()
-        .all(|string| string.as_slice().len() <= MOST_STRING)
-}
 
 impl Data {
     /// The form of the data.
@@ -45,7 +32,7 @@ impl Data {
             // True of every array.
             Data::A(octets) => octets.as_slice().len() == 4,
             Data::Aaaa(octets) => octets.as_slice().len() == 16,
-            Data::Txt(strings) => !strings.as_slice().is_empty() && are_short(strings.as_slice()),
+            Data::Txt(strings) => !strings.octets().is_empty(),
             Data::Opaque(octets) => octets.as_slice().len() as u64 <= MOST_16,
             _ => true,
         }

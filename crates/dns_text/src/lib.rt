@@ -9,6 +9,8 @@ mod record;
 mod ttl;
 // Lists in fields.
 mod items;
+// The strings of TXT data in one block.
+mod strings;
 // Values with several owners.
 mod shared;
 // Copies of data and records.
@@ -53,5 +55,6 @@ pub use record_text::{push_record, read_record, write_record};
 pub use shared::Shared;
 pub use std::alloc::AllocError as NoMemory;
 pub use string::MOST_STRING;
+pub use strings::{Strings, StringsIter, spell_strings};
 pub use ttl::{MOST_TTL, Ttl};
 pub use word::next_word;

@@ -5,7 +5,8 @@ ghost use Rattle.dns_text.specs.declared.record.Data.{Data};
 ghost use Rattle.dns_text.specs.declared.record.Question.{Question};
 ghost use Rattle.dns_text.specs.declared.record.Record.{Record};
 
-use crate::items::{Items, Octets};
+use crate::items::Octets;
+use crate::strings::Strings;
 use crate::ttl::Ttl;
 use dns_name::{Name, NoMemory};
 
@@ -52,7 +53,7 @@ pub enum Data {
         minimum: u32,
     },
     /// One or more strings of at most 255 octets each (RFC 1035, section 3.3.14).
-    Txt(Items<Octets>),
+    Txt(Strings),
     /// The place of a service (RFC 2782).
     Srv {
         priority: u16,

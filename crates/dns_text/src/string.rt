@@ -5,10 +5,11 @@ ghost use Rattle.std.specs.List.{flat_map, AllByRecursion};
 ghost use Rattle.dns_text.specs.declared.fault.TextFault.TheVariants.{BadData};
 ghost use Rattle.dns_name.specs.Results.{or_fault, result_map};
 ghost use Rattle.dns_text.specs.Fault.{Gives};
+ghost use Rattle.dns_text.specs.Strings.{AreStrings, IsString, strings_of};
 ghost use Rattle.dns_text.specs.String.{octet_at, octets_after, IsNoString, ReadsOn, before_last_quote, inside_quotes, string_in, strings_after, strings_in, quoted_octet, quoted_text, strings_text, AreOctets};
 
 use crate::fault::TextFault;
-use crate::items::{Items, Octets};
+use crate::strings::{Strings, push_string};
 use crate::word::next_word;
 use arrayvec::ArrayVec;
 use dns_name::{NoMemory, read_escape};
@@ -77,47 +78,41 @@ fn before_last_quote(text: &[u8]) -> Option<&[u8]>
 
 /// The octets of a word.
 #[tactic(auto, unfolding(crate::specs::String::string_in))]
-fn read_string(alloc: Global, word: &[u8]) -> Result<Option<Octets>, NoMemory>
-    ensures value { IfOk result (λ s. s ≡ string_in word.now) }
-    ensures few { IfOk result (λ s. IfSome s (λ octets. length octets < MOST_STRING + 1)) }
+fn read_string(word: &[u8]) -> Option<ArrayVec<u8, MOST_STRING>>
+    ensures { option_map (λ v. v.items) result ≡ string_in word.now }
 {
-    let Some(inside) = inside_quotes(word) else {
-        return Ok(None);
-    };
-    match read_string_octets(inside) {
-        None => Ok(None),
-        Some(octets) => Ok(Some(Octets::new(Vec::from_slice(alloc, octets.as_slice())?))),
-    }
+    let inside = inside_quotes(word)?;
+    read_string_octets(inside)
 }
 
-/// The strings of a text.
-fn read_all_strings(alloc: Global, text: &[u8]) -> Result<Vec<Octets>, TextFault>
-    ensures value { Gives (result_map (λ v. v.items) result) (or_fault BadData (strings_after [] (length text.now) text.now)) }
-    ensures few { IfOk result (λ v. AllByRecursion (λ octets. length octets < MOST_STRING + 1) v.items) }
+/// The octets of the strings of a text, each string preceded by its length.
+fn read_all_strings(alloc: Global, text: &[u8]) -> Result<Vec<u8>, TextFault>
+    ensures value { Gives (result_map (λ v. strings_of v.items) result) (or_fault BadData (strings_after [] (length text.now) text.now)) }
+    ensures are { IfOk result (λ v. AreStrings v.items) }
 {
-    let mut strings = Vec::new(alloc);
+    let mut octets = Vec::new(alloc);
     let mut rest = text;
     while let Some((word, after)) = next_word(rest) {
-        match read_string(alloc, word)? {
+        match read_string(word) {
             None => return Err(TextFault::BadData),
-            Some(octets) => strings.push(octets)?,
+            Some(string) => push_string(string.as_slice(), &mut octets)?,
         }
         rest = after;
     }
-    Ok(strings)
+    Ok(octets)
 }
 
 /// The strings of a text, one or more.
 #[tactic(auto, unfolding(crate::specs::String::strings_in))]
-pub(crate) fn read_strings(alloc: Global, text: &[u8]) -> Result<Items<Octets>, TextFault>
+pub(crate) fn read_strings(alloc: Global, text: &[u8]) -> Result<Strings, TextFault>
     ensures value { Gives result (or_fault BadData (strings_in text.now)) }
     ensures sized { IfOk result (λ strings. (0 < length strings) × AllByRecursion (λ octets. length octets < MOST_STRING + 1) strings) }
 {
-    let strings = read_all_strings(alloc, text)?;
-    if strings.is_empty() {
+    let octets = read_all_strings(alloc, text)?;
+    if octets.is_empty() {
         return Err(TextFault::BadData);
     }
-    Ok(Items::new(strings))
+    Ok(Strings::of(alloc, &octets)?)
 }
 
 /// Writes an octet in quotes.
@@ -145,17 +140,18 @@ fn push_quoted(octets: &[u8], out: &mut Vec<u8>) -> Result<(), NoMemory>
 }
 
 /// Writes strings in quotes, with a blank between each two.
-pub(crate) fn push_strings(strings: &[Octets], out: &mut Vec<u8>) -> Result<(), NoMemory>
+pub(crate) fn push_strings(strings: &Strings, out: &mut Vec<u8>) -> Result<(), NoMemory>
     ensures text { OnOk result (out.new.items ≡ out.old.items ++ strings_text strings.now) }
-    ensures octets { OnOk result (AllByRecursion AreOctets strings.now) }
+    ensures each { AllByRecursion IsString strings.now }
 {
-    let Some((first, rest)) = strings.split_first() else {
+    let mut left = strings.iter();
+    let Some(first) = left.next() else {
         return Ok(());
     };
-    push_quoted(first.as_slice(), out)?;
-    for octets in rest {
+    push_quoted(first, out)?;
+    while let Some(octets) = left.next() {
         out.push(b' ')?;
-        push_quoted(octets.as_slice(), out)?;
+        push_quoted(octets, out)?;
     }
     Ok(())
 }

@@ -1,9 +1,12 @@
 -- Strings preceded by their lengths.
-use Rattle.std.proofs.Common.{◌≡◌, ℕ, zero, suc, ◌<◌, ◌≤◌, List, [], ◌∷◌, ◌++◌, length, take, drop, Option, Some, None, Ok, Err, refl, sym, ap, ◌∙◌, append_assoc, inl, inr, ltb, arith, length-append, length-drop}
+use Rattle.std.proofs.Common.{◌≡◌, ◌≢◌, Bool, true, false, ℕ, zero, suc, ◌<◌, ◌≤◌, List, [], ◌∷◌, ◌++◌, length, take, drop, Option, Some, None, Ok, Err, refl, sym, ap, ◌∙◌, append_assoc, inl, inr, ltb, arith, length-append, length-drop}
 use Rattle.std.specs.List.{flat_map}
-use Rattle.std.proofs.lemmas.Bool.{cases_Bool, le-ltb, ltb-false}
+use Rattle.std.specs.Prelude.{◌↔◌, IsTrue, is_ok}
+use Rattle.std.proofs.lemmas.Bool.{cases_Bool, false≢true, le-ltb, ltb-false}
 use Rattle.std.proofs.lemmas.List.{append-nil, length-take, take-append-drop, take_at, drop_at}
-use Rattle.dns_name.specs.Labels.{with_length}
+use Rattle.dns_name.specs.Labels.{labels_in, spelled, with_length}
+use Rattle.dns_name.specs.Octets.{labels_in-spelled}
+use Rattle.dns_text.specs.Strings.{SpellStrings, strings_of}
 use Rattle.dns_text.specs.declared.record.Data.TheVariants.{Txt}
 use Rattle.dns_wire.specs.declared.fault.WireFault.TheVariants.{BadData}
 use Rattle.dns_wire.specs.Read.Rdata.{first_string, strings_by, strings_after, txt_by}
@@ -32,30 +35,17 @@ strings_steps (suc a) (suc b) before (n ∷ octets) enough_a enough_b =
       | inr fits ↦ rw fits (strings_steps a b (before ++ take n octets ∷ []) (drop n octets) (omega (arith, length-drop n octets)) (omega (arith, length-drop n octets)))
     ]
 
-pub strings_done : (before : List (List ℕ)) (octets : List ℕ) → length octets ≡ 0 → strings_after (suc (length octets)) before octets ≡ Some before
+strings_done : (before : List (List ℕ)) (octets : List ℕ) → length octets ≡ 0 → strings_after (suc (length octets)) before octets ≡ Some before
 unfolding strings_after
 strings_done before [] e = refl
 strings_done before (n ∷ octets) e = absurd (omega arith)
 
-pub strings_one : (before : List (List ℕ)) (octets : List ℕ) (x : List ℕ × List ℕ) → first_string octets ≡ Some x → strings_after (suc (length octets)) before octets ≡ strings_after (suc (length x.1)) (before ++ x.0 ∷ []) x.1
+strings_one : (before : List (List ℕ)) (octets : List ℕ) (x : List ℕ × List ℕ) → first_string octets ≡ Some x → strings_after (suc (length octets)) before octets ≡ strings_after (suc (length x.1)) (before ++ x.0 ∷ []) x.1
 unfolding strings_after
 strings_one before [] x here = absurd cc
 strings_one before (n ∷ octets) x here =
     let less = first_string-shorter (n ∷ octets) x here in
     rw here (strings_steps (length (n ∷ octets)) (suc (length x.1)) (before ++ x.0 ∷ []) x.1 less (omega arith))
-
-pub strings_none : (before : List (List ℕ)) (octets : List ℕ) → 0 < length octets → first_string octets ≡ None → strings_after (suc (length octets)) before octets ≡ None
-unfolding strings_after
-strings_none before [] some here = absurd (omega arith)
-strings_none before (n ∷ octets) some here = rw here refl
-
-pub txt_some : (at : ℕ) (strings : List (List ℕ)) (found : Option (List (List ℕ))) → found ≡ Some strings → ¬ (length strings ≡ 0) → txt_by at found ≡ Ok (Txt strings)
-txt_some at [] found is some = absurd (some refl)
-txt_some at (string ∷ strings) found is some = rw is refl
-
-pub txt_none : (at : ℕ) (strings : List (List ℕ)) (found : Option (List (List ℕ))) → found ≡ Some strings → length strings ≡ 0 → txt_by at found ≡ Err (BadData at)
-txt_none at [] found is some = rw is refl
-txt_none at (string ∷ strings) found is some = absurd (omega arith)
 
 -- ---- the strings that octets are
 
@@ -115,3 +105,28 @@ pub strings_found : (strings : List (List ℕ)) (octets : List ℕ) → strings_
 strings_found strings octets h =
     let all = found_by (suc (length octets)) [] octets strings h in
     rw all.is all.spelled
+
+-- ---- TXT data of octets
+
+-- no octets are no strings
+pub txt_nothing : (at : ℕ) (octets : List ℕ) → length octets ≡ 0 → txt_by at (strings_after (suc (length octets)) [] octets) ≡ Err (BadData at)
+txt_nothing at octets none = rw (strings_done [] octets none) refl
+
+pub txt_spelled : (at : ℕ) (octets : List ℕ) (strings : List (List ℕ)) → octets ≡ flat_map with_length strings → ¬ (length octets ≡ 0) → txt_by at (strings_after (suc (length octets)) [] octets) ≡ Ok (Txt strings)
+txt_spelled at octets [] is some = absurd (some (ap length is))
+txt_spelled at octets (string ∷ strings) is some = rw (strings_spelled (string ∷ strings) octets is) refl
+
+txt_unless : (at : ℕ) (octets : List ℕ) (found : Option (List (List ℕ))) → strings_after (suc (length octets)) [] octets ≡ found → ((strings : List (List ℕ)) → octets ≢ flat_map with_length strings) → txt_by at found ≡ Err (BadData at)
+txt_unless at octets None here none = refl
+txt_unless at octets (Some strings) here none = absurd (none strings (strings_found strings octets here))
+
+-- octets that no strings spell
+pub txt_other : (at : ℕ) (octets : List ℕ) → ((strings : List (List ℕ)) → octets ≢ flat_map with_length strings) → txt_by at (strings_after (suc (length octets)) [] octets) ≡ Err (BadData at)
+txt_other at octets none = txt_unless at octets _ refl none
+
+-- octets are TXT data exactly if they spell strings, and are not empty
+pub txt_exactly : (at : ℕ) (octets : List ℕ) (r : Bool) → IsTrue r ↔ SpellStrings octets → ¬ (length octets ≡ 0) → r ≡ is_ok (txt_by at (strings_after (suc (length octets)) [] octets))
+txt_exactly at octets true h some = rw (txt_spelled at octets (strings_of octets) (sym (h.0 refl)) some) refl
+txt_exactly at octets false h some =
+    let none = txt_other at octets (λ strings is. false≢true (h.1 (ap (λ (x : List (List ℕ)). spelled x) (ap labels_in is ∙ labels_in-spelled strings) ∙ sym is))) in
+    rw none refl

@@ -1,9 +1,7 @@
 //! The number of octets of a reply, before it is written.
 
 ghost use Rattle.std.specs.Prelude.{◌≡◌, ◌≤◌, ℕ, length, map, IfSome, IsTrue, Some};
-ghost use Rattle.std.specs.List.{flat_map};
 ghost use Rattle.dns_name.specs.declared.limits.TheConstants.{MAX_NAME_OCTETS};
-ghost use Rattle.dns_name.specs.Labels.{with_length};
 ghost use Rattle.dns_wire.specs.Lent.{in_order};
 ghost use Rattle.dns_wire.specs.Write.Name.{owner_octets};
 ghost use Rattle.dns_wire.specs.Write.Rdata.{data_octets};
@@ -12,21 +10,10 @@ ghost use Rattle.front_workers.specs.Sizing.{bodies_size, capped, records_size, 
 
 use crate::limits::{MOST_MESSAGE, MOST_UDP_REPLY};
 use dns_name::Name;
-use dns_text::{Data, Items, Octets};
+use dns_text::{Data, Items};
 use dns_wire::{HEADER_OCTETS, Query};
 use iterate::{AnswerSet, Soa};
 use ranked::{Body, Find, Scope};
-
-/// Strings, each preceded by its length.
-fn strings_size(strings: &[Octets]) -> usize
-    ensures { result ≡ capped (length (flat_map with_length strings.now)) }
-{
-    let mut total = 0usize;
-    for string in strings {
-        total = total.saturating_add(string.as_slice().len() + 1);
-    }
-    total
-}
 
 /// The octets of RDATA with each name whole (RFC 1035, section 3.3), up to 2^64 - 1.
 #[tactic(auto, unfolding(dns_wire::specs::Write::Rdata::data_octets))]
@@ -43,7 +30,7 @@ pub fn data_size(body: &Data) -> usize
             mailbox,
             ..
         } => primary.wire_len() + mailbox.wire_len() + 20,
-        Data::Txt(strings) => strings_size(strings.as_slice()),
+        Data::Txt(strings) => strings.octets().len(),
         Data::Srv { target, .. } => 6 + target.wire_len(),
         Data::Opaque(octets) => octets.as_slice().len(),
     }

@@ -20,7 +20,7 @@ use std::alloc::Global;
 pub const MOST_CHOSEN: usize = 64;
 
 /// The octets of memory that the data of such a find take at most. 64 addresses take 6,144, four keys of 4,096 bits 2,600, and 50 TXT
-/// records of 80 octets 12,800. One TXT record of 64 KiB may have empty strings alone, which take 1.6 MB.
+/// records of 80 octets 10,450. A message of 64 KiB may have 4,000 MX records that point to one long name, which count as 1.6 MB.
 pub const MOST_MEMORY: usize = 16_384;
 
 /// The most servers of a message whose data come before other additional data. Two addresses of each fill `MOST_CHOSEN`.

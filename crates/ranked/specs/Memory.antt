@@ -1,12 +1,12 @@
 -- The octets of memory that the data of a find take.
 use Rattle.std.specs.Prelude.{ℕ, ◌+◌, List, length, nat_lt, if◌then◌else◌}
 use Rattle.std.specs.List.{sum_by}
-use Rattle.dns_name.specs.Labels.{Labels, wire_len}
+use Rattle.dns_name.specs.Labels.{Labels, spelled, wire_len}
 use Rattle.dns_text.specs.declared.record.Data.{Data}
 use Rattle.dns_text.specs.declared.record.Data.TheVariants.{A, Aaaa, One, Mx, Soa, Txt, Srv, Opaque}
 use Rattle.ranked.specs.declared.find.Body.{Body}
 use Rattle.ranked.specs.declared.find.Body.TheVariants.{Set, NoData, NoName}
-use Rattle.ranked.specs.declared.memory.TheConstants.{BLOCK_OCTETS, DATUM_OCTETS, LONG_NAME_OCTETS, MOST_INLINE, STRING_OCTETS}
+use Rattle.ranked.specs.declared.memory.TheConstants.{BLOCK_OCTETS, DATUM_OCTETS, LONG_NAME_OCTETS, MOST_INLINE}
 
 -- what a name takes beside its own place: nothing, or a block if it is long
 abbrev pub name_memory : Labels → ℕ
@@ -16,10 +16,6 @@ name_memory name = if nat_lt MOST_INLINE (wire_len name) then LONG_NAME_OCTETS e
 abbrev pub block_memory : List ℕ → ℕ
 block_memory octets = BLOCK_OCTETS + length octets
 
--- what a string of TXT takes: its place in the list of strings, and its block
-abbrev pub string_memory : List ℕ → ℕ
-string_memory octets = STRING_OCTETS + block_memory octets
-
 -- what the parts of a datum take beside the datum itself
 abbrev pub parts_memory : Data → ℕ
 parts_memory (A octets) = 0
@@ -27,7 +23,7 @@ parts_memory (Aaaa octets) = 0
 parts_memory (One name) = name_memory name
 parts_memory (Mx preference exchange) = name_memory exchange
 parts_memory (Soa primary mailbox serial refresh retry expire minimum) = name_memory primary + name_memory mailbox
-parts_memory (Txt strings) = sum_by string_memory strings
+parts_memory (Txt strings) = block_memory (spelled strings)
 parts_memory (Srv priority weight port target) = name_memory target
 parts_memory (Opaque octets) = block_memory octets
 

@@ -2,18 +2,15 @@
 
 ghost use Rattle.std.specs.Prelude.{◌≡◌, ◌-◌, ◌≤◌, ◌^◌, min};
 ghost use Rattle.std.specs.List.{sum_by};
-ghost use Rattle.ranked.specs.Memory.{body_memory, datum_memory, name_memory, parts_memory, string_memory};
+ghost use Rattle.ranked.specs.Memory.{body_memory, datum_memory, name_memory, parts_memory};
 
 use crate::find::{Body, Find};
 use dns_name::Name;
-use dns_text::{Data, Octets};
+use dns_text::Data;
 use std::mem::size_of;
 
 /// The octets of a datum in a list.
 pub(crate) const DATUM_OCTETS: usize = 96;
-
-/// The octets of a string of TXT in its list: 24, twice, since the list may have room for twice as many.
-pub(crate) const STRING_OCTETS: usize = 48;
 
 /// The octets that the allocator adds to a block, at most.
 pub(crate) const BLOCK_OCTETS: usize = 32;
@@ -26,8 +23,6 @@ pub(crate) const LONG_NAME_OCTETS: usize = 304;
 
 const _: () = prove!(size_of::<Data>() == DATUM_OCTETS);
 
-const _: () = prove!(2 * size_of::<Octets>() == STRING_OCTETS);
-
 /// What a name takes beside its own place.
 fn name_memory(name: &Name) -> usize
     ensures value { result ≡ name_memory name.now }
@@ -38,17 +33,6 @@ fn name_memory(name: &Name) -> usize
     } else {
         0
     }
-}
-
-/// What strings of TXT take, up to 2^64 - 1.
-fn strings_memory(strings: &[Octets]) -> usize
-    ensures { result ≡ min (sum_by string_memory strings.now) (2 ^ 64 - 1) }
-{
-    let mut total = 0usize;
-    for string in strings {
-        total = total.saturating_add(STRING_OCTETS + (BLOCK_OCTETS + string.as_slice().len()));
-    }
-    total
 }
 
 /// What the parts of a datum take beside it, up to 2^64 - 1.
@@ -65,7 +49,7 @@ fn parts_memory(datum: &Data) -> usize
             mailbox,
             ..
         } => name_memory(primary) + name_memory(mailbox),
-        Data::Txt(strings) => strings_memory(strings.as_slice()),
+        Data::Txt(strings) => BLOCK_OCTETS + strings.octets().len(),
         Data::Srv { target, .. } => name_memory(target),
         Data::Opaque(octets) => BLOCK_OCTETS + octets.as_slice().len(),
     }

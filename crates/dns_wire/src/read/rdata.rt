@@ -1,8 +1,8 @@
 //! RDATA in the form of its type. Each function here reads the front of a message that ends with the RDATA, or, for a
 //! name, the message and that end.
 
-ghost use Rattle.std.specs.Prelude.{◌≡◌, ◌<◌, ◌≤◌, ◌+◌, length, take, drop, IfOk, IfSome, option_map};
-ghost use Rattle.dns_wire.specs.Read.Rdata.{form_in, first_string, data_name_read, ipv4_read, ipv6_read, one_read, mx_read, soa_read, txt_read, srv_read, data_read};
+ghost use Rattle.std.specs.Prelude.{◌≡◌, ◌≤◌, ◌+◌, length, take, drop, IfOk};
+ghost use Rattle.dns_wire.specs.Read.Rdata.{form_in, data_name_read, ipv4_read, ipv6_read, one_read, mx_read, soa_read, txt_read, srv_read, data_read};
 ghost use Rattle.dns_wire.specs.Fault.{Gives};
 
 use crate::fault::WireFault;
@@ -11,7 +11,7 @@ use crate::read::chains::Wire;
 use crate::read::name::name_in;
 use crate::read::number::{u16_at, u32_at};
 use dns_name::Name;
-use dns_text::{Data, Form, Items, Octets, form_of};
+use dns_text::{Data, Form, Octets, Strings, form_of};
 use std::alloc::{AllocError, Global};
 
 /// The form of a type in a class.
@@ -162,38 +162,19 @@ fn octets_from(alloc: Global, front: &[u8], at: usize) -> Result<Octets, AllocEr
     Ok(Octets::new(octets))
 }
 
-/// The string preceded by the length at the front, and the octets after it.
-pub(crate) fn split_string(octets: &[u8]) -> Option<(&[u8], &[u8])>
-    ensures value { option_map (λ r. (r.0.now, r.1.now)) result ≡ first_string octets.now }
-    ensures less { IfSome result (λ r. length r.1.now < length octets.now) }
-{
-    let (n, rest) = octets.split_first()?;
-    let n = *n as usize;
-    if rest.len() < n {
-        return None;
-    }
-    Some(rest.split_at(n))
-}
-
 /// One or more strings, each preceded by its length.
 fn txt_at(alloc: Global, front: &[u8], at: usize) -> Result<Data, WireFault>
     requires { at ≤ length front.now }
     ensures { Gives result (txt_read front.now at) }
 {
-    let (_, mut rest) = front.split_at(at);
-    let mut strings = Vec::new(alloc);
-    while !rest.is_empty() {
-        let Some((string, behind)) = split_string(rest) else {
-            return Err(WireFault::BadData { at });
-        };
-        let string = Vec::from_slice(alloc, string)?;
-        strings.push(Octets::new(string))?;
-        rest = behind;
-    }
-    if strings.is_empty() {
+    let (_, octets) = front.split_at(at);
+    if octets.is_empty() {
         return Err(WireFault::BadData { at });
     }
-    Ok(Data::Txt(Items::new(strings)))
+    match Strings::from_octets(alloc, octets)? {
+        Some(strings) => Ok(Data::Txt(strings)),
+        None => Err(WireFault::BadData { at }),
+    }
 }
 
 /// The data of a form that begins at one place of a message and ends at another.

@@ -10,9 +10,8 @@ use crate::limits::HEADER_OCTETS;
 use crate::read::chains::{Wire, blank_ends, has_many_names};
 use crate::read::name::name_end;
 use crate::read::number::u16_at;
-use crate::read::rdata::split_string;
 use crate::read::record::frame_at;
-use dns_text::Form;
+use dns_text::{Form, spell_strings};
 
 /// The place after the name at a place, if one is there.
 fn owner_end(message: &Wire<'_>, at: usize) -> Option<usize>
@@ -69,17 +68,11 @@ fn are_strings(front: &[u8], at: usize) -> bool
     requires { at ≤ length front.now }
     ensures { result ≡ is_ok (txt_read front.now at) }
 {
-    let (_, mut rest) = front.split_at(at);
-    if rest.is_empty() {
+    let (_, octets) = front.split_at(at);
+    if octets.is_empty() {
         return false;
     }
-    while !rest.is_empty() {
-        let Some((_, behind)) = split_string(rest) else {
-            return false;
-        };
-        rest = behind;
-    }
-    true
+    spell_strings(octets)
 }
 
 /// Whether data of a form begins at one place of a message and ends at another.

@@ -1,6 +1,6 @@
 //! RDATA as octets, after what `out` holds. If memory runs out, a part of them may have been written.
 
-ghost use Rattle.std.specs.Prelude.{◌≡◌, ◌++◌, ◌<◌, length, OnOk};
+ghost use Rattle.std.specs.Prelude.{◌≡◌, ◌++◌, OnOk};
 ghost use Rattle.std.specs.List.{flat_map, AllByRecursion};
 ghost use Rattle.dns_name.specs.Labels.{with_length};
 ghost use Rattle.dns_text.specs.Data.{IsSized};
@@ -11,7 +11,7 @@ ghost use Rattle.dns_wire.specs.Write.Rdata.{data_octets, soa_octets};
 use crate::write::name::push_name;
 use crate::write::number::{push_u16, push_u32};
 use dns_name::Name;
-use dns_text::{Data, Octets};
+use dns_text::{Data, Strings};
 use std::alloc::AllocError;
 
 fn push_octets(out: &mut Vec<u8>, octets: &[u8]) -> Result<(), AllocError>
@@ -22,17 +22,11 @@ fn push_octets(out: &mut Vec<u8>, octets: &[u8]) -> Result<(), AllocError>
 }
 
 /// Strings, each preceded by its length.
-fn push_strings(out: &mut Vec<u8>, strings: &[Octets]) -> Result<(), AllocError>
-    requires { AllByRecursion (λ octets. length octets < 256) strings.now }
+fn push_strings(out: &mut Vec<u8>, strings: &Strings) -> Result<(), AllocError>
     ensures octets { OnOk result (out.new.items ≡ out.old.items ++ flat_map with_length strings.now) }
-    ensures fits { OnOk result (AllByRecursion AreOctets strings.now) }
+    ensures fits { AllByRecursion AreOctets strings.now }
 {
-    for string in strings {
-        let octets = string.as_slice();
-        out.push(octets.len() as u8)?;
-        push_octets(out, octets)?;
-    }
-    Ok(())
+    push_octets(out, strings.octets())
 }
 
 /// SOA data: primary server and mailbox, serial, and refresh, retry, expire and minimum.
@@ -85,7 +79,7 @@ pub(crate) fn push_data(out: &mut Vec<u8>, body: &Data) -> Result<(), AllocError
             let times = (*refresh, *retry, *expire, *minimum);
             push_soa(out, (primary, mailbox), *serial, times)
         }
-        Data::Txt(strings) => push_strings(out, strings.as_slice()),
+        Data::Txt(strings) => push_strings(out, strings),
         Data::Srv {
             priority,
             weight,

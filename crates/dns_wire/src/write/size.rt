@@ -4,7 +4,6 @@ ghost use Rattle.std.specs.Prelude.{◌≡◌, ◌≤◌, ◌+◌, length, IfSom
 ghost use Rattle.std.specs.List.{flat_map, AllByRecursion};
 ghost use Rattle.std.specs.Option.{option_copied};
 ghost use Rattle.dns_name.specs.declared.limits.TheConstants.{MAX_NAME_OCTETS};
-ghost use Rattle.dns_name.specs.Labels.{with_length};
 ghost use Rattle.dns_text.specs.Data.{IsSized};
 ghost use Rattle.dns_wire.specs.Lent.{part_at, in_order};
 ghost use Rattle.dns_wire.specs.Write.Size.{within, records_len, IsRoom, IsRoomFor, IsRoomForReply};
@@ -20,7 +19,7 @@ use crate::limits::{HEADER_OCTETS, MOST_OCTETS};
 use crate::message::{Classed, Message};
 use crate::server::query::Query;
 use dns_name::Name;
-use dns_text::{Data, Octets, Question};
+use dns_text::{Data, Question};
 
 /// A sum.
 fn sum_of(before: usize, more: usize) -> Option<usize>
@@ -31,17 +30,6 @@ fn sum_of(before: usize, more: usize) -> Option<usize>
         return None;
     }
     Some(before + more)
-}
-
-/// Strings, each preceded by its length.
-fn strings_len(strings: &[Octets]) -> Option<usize>
-    ensures { result ≡ within (length (flat_map with_length strings.now)) }
-{
-    let mut total = 0;
-    for string in strings {
-        total = sum_of(total, string.as_slice().len() + 1)?;
-    }
-    Some(total)
 }
 
 /// RDATA.
@@ -60,7 +48,7 @@ pub(crate) fn data_len(body: &Data) -> Option<usize>
             mailbox,
             ..
         } => Some(primary.wire_len() + mailbox.wire_len() + 20),
-        Data::Txt(strings) => strings_len(strings.as_slice()),
+        Data::Txt(strings) => sum_of(0, strings.octets().len()),
         Data::Srv { target, .. } => Some(6 + target.wire_len()),
         Data::Opaque(octets) => sum_of(0, octets.as_slice().len()),
     }

@@ -3,8 +3,6 @@ use Rattle.std.specs.Prelude.{slice_index}
 use Rattle.std.proofs.lemmas.Result.{on_ok_weaker}
 use Rattle.dns_name.specs.ResultLaws.{on_ok}
 use Rattle.dns_text.specs.declared.record.Data.{Data}
-use Rattle.std.specs.List.{AllByRecursion}
-use Rattle.dns_text.specs.String.{AreOctets}
 use Rattle.dns_text.specs.Data.{data_in, data_text, HasForm}
 use Rattle.dns_text.proofs.DataLaws.{a_again, aaaa_again, one_again, mx_again, soa_again, srv_again, opaque_again, txt_again}
 use Rattle.dns_text.proofs.data.push_data.Goals as goal
@@ -39,5 +37,4 @@ pub returns-in-Opaque-clause-again : goal.returns-in-Opaque-clause-again
 returns-in-Opaque-clause-again c = on_ok _ _ (subst Again (sym c.in-Opaque.is) (λ kind. opaque_again kind _ (subst (λ (x : List ℕ). (i : ℕ) → slice_index x i < 256) c.as_slice.ensures c.push_octets.ensures.octets)))
 
 pub returns-in-Txt-clause-again : goal.returns-in-Txt-clause-again
-returns-in-Txt-clause-again c =
-    on_ok_weaker c.push_strings.result (λ each. subst Again (sym c.in-Txt.is) (λ kind. txt_again kind _ (subst (λ (x : List (List ℕ)). AllByRecursion AreOctets x) c.as_slice-in-Txt.ensures each))) c.push_strings.ensures.octets
+returns-in-Txt-clause-again c = on_ok _ _ (subst Again (sym c.in-Txt.is) (λ kind. txt_again kind _ c.push_strings.ensures.each))
