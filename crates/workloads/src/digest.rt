@@ -2,7 +2,7 @@
 
 use command_text::reply_text;
 use dns_name::Name;
-use dns_text::{Addr, Data, Ip, Octets, Record};
+use dns_text::{Addr, Data, Ip, Record, Strings};
 use history::{Look, Reason, Reply};
 use ranked::{Body, Held, Scope};
 use std::alloc::{AllocError, Global};
@@ -146,7 +146,7 @@ impl Digest {
                 self.octets(primary.octets());
                 self.named(mailbox, &[*serial, *refresh, *retry, *expire, *minimum]);
             }
-            Data::Txt(strings) => self.strings(strings.as_slice()),
+            Data::Txt(strings) => self.strings(strings),
             Data::Srv {
                 priority,
                 weight,
@@ -169,10 +169,14 @@ impl Digest {
     }
 
     /// Takes strings in, and how many there are.
-    fn strings(&mut self, strings: &[Octets]) {
-        self.number(strings.len() as u64);
-        for string in strings {
-            self.octets(string.as_slice());
+    fn strings(&mut self, strings: &Strings) {
+        let mut count = 0u64;
+        for _string in strings.iter() {
+            count = count.saturating_add(1);
+        }
+        self.number(count);
+        for string in strings.iter() {
+            self.octets(string);
         }
     }
 
