@@ -20,7 +20,9 @@ ghost use Rattle.iterate.specs.Task.{IsDueAt};
 ghost use Rattle.iterate.specs.Told.{IsFit};
 ghost use Rattle.iterate.specs.Wanted.{IsHarvested};
 
-use crate::limits::{MOST_ALIASES, MOST_BEGUN, MOST_DEPTH, MOST_FINDS, MOST_SENDS, MOST_TARGETS};
+use crate::limits::{
+    FIRST_STEPS, MOST_ALIASES, MOST_BEGUN, MOST_DEPTH, MOST_FINDS, MOST_SENDS, MOST_TARGETS,
+};
 use crate::served::DS;
 use harvest::chosen_law;
 
@@ -55,7 +57,7 @@ pub fn admission_law()
 }
 
 /// The limits of a task: 16 aliases, 64 queries, 64 questions for addresses of servers, 8 of them open at once, and for the first
-/// 5 servers of a list alone, and 64 finds of a response for the book. DS has the number 43.
+/// 5 servers of a list alone, and 64 finds of a response for the book. A task begins with room for 8 steps. DS has the number 43.
 pub fn limits_law()
     ensures aliases { MOST_ALIASES ≡ 16 }
     ensures queries { MOST_SENDS ≡ 64 }
@@ -63,5 +65,6 @@ pub fn limits_law()
     ensures depth { MOST_DEPTH ≡ 8 }
     ensures targets { MOST_TARGETS ≡ 5 }
     ensures finds { MOST_FINDS ≡ 64 }
+    ensures steps { FIRST_STEPS ≡ 8 }
     ensures digest { DS ≡ 43 }
 {}

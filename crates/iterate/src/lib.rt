@@ -53,7 +53,9 @@ mod laws;
 pub use answer::{Answer, AnswerSet, Soa};
 pub use first_lookup::{first_look, settled};
 pub use laws::{admission_law, due_law, limits_law, resolved_law, servfail_law};
-pub use limits::{MOST_ALIASES, MOST_BEGUN, MOST_DEPTH, MOST_FINDS, MOST_SENDS, MOST_TARGETS};
+pub use limits::{
+    FIRST_STEPS, MOST_ALIASES, MOST_BEGUN, MOST_DEPTH, MOST_FINDS, MOST_SENDS, MOST_TARGETS,
+};
 pub use path::Path;
 pub use phase::{Phase, Stage};
 pub use search::{Hunt, Nested, Search};

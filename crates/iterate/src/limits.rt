@@ -20,6 +20,9 @@ pub const MOST_TARGETS: usize = 5;
 /// The most questions for addresses of servers that are open inside one another.
 pub const MOST_DEPTH: usize = 8;
 
+/// The number of steps for which a task that has begun has room. Most questions that one exchange answers need no more.
+pub const FIRST_STEPS: usize = 8;
+
 /// The most finds of one response that are handed to the book: as many as a harvest chooses. That is more than a chain of as many
 /// aliases as are followed has. The answer, the aliases and the referral are taken from the whole response.
 pub const MOST_FINDS: usize = MOST_CHOSEN;

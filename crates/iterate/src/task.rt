@@ -7,9 +7,11 @@ ghost use Rattle.iterate.specs.declared.want.Input.TheVariants.{Begin};
 ghost use Rattle.iterate.specs.declared.want.Want.TheVariants.{Book};
 ghost use Rattle.iterate.specs.Phase.{drawing};
 ghost use Rattle.std.specs.Option.{option_copied};
+ghost use Rattle.std.specs.Vec.{vec_capacity};
 ghost use Rattle.iterate.specs.Task.{hunt_in, IsTask, IsDueAt, IsKept, IsSameTask, StepsOn, StepFails};
 
 use crate::first_lookup::first_look;
+use crate::limits::FIRST_STEPS;
 use crate::phase::{Advance, Phase, step_on};
 use crate::search::Hunt;
 use crate::want::{Input, Step, Want};
@@ -19,9 +21,6 @@ use rand_core::Rng;
 use std::alloc::Global;
 use std::marker::Model;
 use std::mem;
-
-/// The number of steps for which a task that has begun has room. Most questions that one exchange answers need no more.
-const FIRST_STEPS: usize = 8;
 
 /// The state of a task: its question, its steps and its phase.
 #[derive(Drop)]
@@ -136,13 +135,14 @@ impl Task {
         ensures port { IfOk result (λ task. task.port ≡ port) }
         ensures steps { IfOk result (λ task. task.steps.items ≡ record { input = Begin; want = Book (Look moment (Asked question)) } ∷ []) }
         ensures phase { IfOk result (λ task. task.phase ≡ Phase.First) }
+        ensures room { IfOk result (λ task. vec_capacity task.steps ≡ FIRST_STEPS) }
     {
         let look = first_look(&question, moment)?;
         let mut steps = Vec::with_capacity(alloc, FIRST_STEPS)?;
-        steps.push(Step {
+        steps.push_reserved(Step {
             input: Input::Begin,
             want: Want::Book(look),
-        })?;
+        });
         Ok(Task {
             alloc,
             state: State {

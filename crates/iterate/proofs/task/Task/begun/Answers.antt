@@ -9,4 +9,4 @@ use Rattle.iterate.proofs.task.Task.begun.Goals as goal
 pub invariant_of-result : goal.invariant_of-result
 invariant_of-result c =
     let first : Event → List Step = λ look. record { input = Begin; want = Book look } ∷ [] in
-    looking c.args.port c.args.question c.args.moment c.push.new.self.items (rw c.in_ok-steps.ensures.items at c.in_ok-push.ensures.items ∙ ap first c.in_ok-look.ensures)
+    looking c.args.port c.args.question c.args.moment c.push_reserved.new.self.items (rw c.in_ok-steps.ensures.items at c.push_reserved.ensures.items ∙ ap first c.in_ok-look.ensures)
