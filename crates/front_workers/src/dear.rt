@@ -5,18 +5,9 @@
 
 ghost use Rattle.std.specs.Prelude.{◌≡◌, ◌+◌, ◌≤◌, ◌<◌, ◌^◌, false, length, IfOk, OnOk};
 
-use crate::limits::MOST_DATAGRAM;
+use crate::limits::{ITEM_STEPS, MOST_DATAGRAM, MOST_STEPS, STEP_OCTETS};
 use dns_text::{Form, form_of};
 use dns_wire::{CLASS_IN, HEADER_OCTETS};
-
-/// The most steps that reading a message may take. Reading takes some 20 ns of a processor for a step.
-const MOST_STEPS: usize = 160_000;
-
-/// The steps for a record or a string, each of which takes memory. Those for names come on top.
-const ITEM_STEPS: usize = 4;
-
-/// A label takes one step, and one more for each so many of its octets.
-const STEP_OCTETS: usize = 8;
 
 /// The most octets of a name (RFC 1035, section 3.1).
 const NAME_OCTETS: usize = 255;

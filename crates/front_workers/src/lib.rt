@@ -50,8 +50,8 @@ pub use exchange::Exchange;
 pub use fault::StreamFault;
 pub use framing::{frame, size_of};
 pub use limits::{
-    DATAGRAM_ROOM, MOST_DATAGRAM, MOST_FAILURES, MOST_MESSAGE, MOST_UDP_REPLY, PATIENCE_SECONDS,
-    limits_law,
+    DATAGRAM_ROOM, ITEM_STEPS, MOST_DATAGRAM, MOST_FAILURES, MOST_MESSAGE, MOST_STEPS,
+    MOST_UDP_REPLY, PATIENCE_SECONDS, STEP_OCTETS, limits_law,
 };
 pub use listener::Listener;
 pub use log_lines::{DEVICE_FAULT, WORKER_ENDED};
