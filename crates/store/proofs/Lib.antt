@@ -1,3 +1,4 @@
 pub mod CommandLaws
 pub mod PairLaws
 pub mod OldestLaws
+pub mod VersionLaws

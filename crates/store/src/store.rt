@@ -45,7 +45,9 @@ pub struct Store {
 }
 
 impl Store {
-    ghost use Rattle.std.specs.Prelude.{◌≡◌, ◌≤◌, ◌^◌};
+    ghost use Rattle.std.specs.Prelude.{◌≡◌, ◌≤◌, ◌+◌, ◌^◌, List, length};
+    ghost use Rattle.change_law.specs.declared.kept.KeptChange.{KeptChange};
+    ghost use Rattle.store.specs.declared.store.SavedChange.{SavedChange};
     ghost use Rattle.world_book.specs.Book.{IsUntouched};
     ghost use Rattle.world_book.specs.Deeds.{empty_face};
 
@@ -59,6 +61,14 @@ impl Store {
             tables: TableWorld::new(alloc),
             cells: ShelfWorld::seeded(alloc, limit, seed),
         }
+    }
+
+    /// How many versions a place of the cache may have. Each but one comes from a kept change, a flush.
+    pub fn versions(&self) -> usize
+        ensures versions { result ≡ length self.now.cells.flushes + 1 }
+        ensures few { (kept : List (KeptChange SavedChange)) → ⟦<Store as World>⟧.keeps self.now kept → result ≤ length kept + 1 }
+    {
+        self.cells.versions()
     }
 }
 

@@ -7,6 +7,7 @@ ghost use Rattle.store.specs.World.{fault_told};
 use cell_store::NameSeed;
 use change_law::{Change, ChangeFault, World, WorldFault};
 use dns_name::{Name, NoMemory};
+use dns_text::Question;
 use ranked::{Fate, Flush, Held, SharedFind};
 use shelf::{Shelf, StoreFault, admitted_law};
 use std::alloc::Global;
@@ -57,7 +58,7 @@ fn fault_told(fault: StoreFault) -> WorldFault
 }
 
 impl ShelfWorld {
-    ghost use Rattle.std.specs.Prelude.{◌≤◌, ◌^◌, ℕ, List, length, map};
+    ghost use Rattle.std.specs.Prelude.{◌≤◌, ◌+◌, ◌^◌, ℕ, List, length, map};
     ghost use Rattle.std.specs.List.{AllByRecursion};
     ghost use Rattle.dns_name.specs.Labels.{Labels};
     ghost use Rattle.ranked.specs.declared.find.Find.{Find};
@@ -134,6 +135,21 @@ impl ShelfWorld {
         ensures few { result ≤ ⟦<ShelfWorld as World>⟧.stored self.now }
     {
         self.shelf.names()
+    }
+
+    /// How many versions a place may have: one for each flush that can be undone or redone, and one without them.
+    pub fn versions(&self) -> usize
+        ensures versions { result ≡ length self.now.flushes + 1 }
+        ensures few { (kept : List (KeptChange SavedFlush)) → ⟦<ShelfWorld as World>⟧.keeps self.now kept → result ≡ length kept + 1 }
+    {
+        self.shelf.kept.len() + 1
+    }
+
+    /// How many cells are kept for a question, as `Shelf::kept` counts them: no more than versions.
+    pub fn kept(&self, question: &Question) -> usize
+        ensures { result ≤ length self.now.flushes + 1 }
+    {
+        self.shelf.kept(question)
     }
 }
 

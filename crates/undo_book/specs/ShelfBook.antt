@@ -1,5 +1,5 @@
 -- The book that keeps no history.
-use Rattle.std.specs.Prelude.{ℕ, length}
+use Rattle.std.specs.Prelude.{ℕ, ◌+◌, length}
 use Rattle.cell_store.specs.declared.seed.NameSeed.{NameSeed}
 use Rattle.undo_book.specs.declared.shelf_book.ShelfBook.{ShelfBook}
 
@@ -10,3 +10,11 @@ seed_of book = book.book.world.cells.seed
 -- how many names its cache has
 abbrev pub names_of : ShelfBook → ℕ
 names_of book = length book.book.world.cells.names
+
+-- how many commands its journal keeps
+abbrev pub commands_of : ShelfBook → ℕ
+commands_of book = length book.book.changes.kept
+
+-- how many versions a place of its cache may have: one for each flush of the journal, and one without them
+abbrev pub versions_of : ShelfBook → ℕ
+versions_of book = length book.book.world.cells.flushes + 1

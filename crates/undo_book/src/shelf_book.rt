@@ -1,8 +1,9 @@
 //! The book that keeps no history: the tables and the cache under a journal of their changes.
 
-ghost use Rattle.std.specs.Prelude.{◌≡◌, ◌≤◌, ◌^◌, ◌↔◌, [], IfOk, IsErr, IsErrOf};
+ghost use Rattle.std.specs.Prelude.{◌≡◌, ◌≤◌, ◌+◌, ◌^◌, ◌↔◌, [], List, IfOk, IsErr, IsErrOf};
 ghost use Rattle.history.specs.Event.{AreSettings, lagging_of};
-ghost use Rattle.undo_book.specs.ShelfBook.{names_of, seed_of};
+ghost use Rattle.history.specs.declared.event.Event.{Event};
+ghost use Rattle.undo_book.specs.ShelfBook.{commands_of, names_of, seed_of, versions_of};
 
 use cell_store::NameSeed;
 use dns_name::{Name, NoMemory};
@@ -84,6 +85,34 @@ impl ShelfBook {
         ensures few { names_of self.now ≤ ⟦<ShelfBook as Book>⟧.stored self.now }
     {
         self.book.world().cells.names()
+    }
+
+    /// How many commands its journal keeps: those that can be undone or redone.
+    pub fn commands(&self) -> usize
+        ensures commands { result ≡ commands_of self.now }
+        ensures few { (h : List Event) → ⟦<ShelfBook as Book>⟧.stands_for self.now h →
+            commands_of self.now ≤ (⟦<ShelfBook as Book>⟧.settings self.now).journal }
+    {
+        self.book.commands()
+    }
+
+    /// How many versions a place of its cache may have: one for each flush of the journal, and one without them.
+    pub fn versions(&self) -> usize
+        ensures versions { result ≡ versions_of self.now }
+        ensures commands { versions_of self.now ≤ commands_of self.now + 1 }
+        ensures few { (h : List Event) → ⟦<ShelfBook as Book>⟧.stands_for self.now h →
+            versions_of self.now ≤ (⟦<ShelfBook as Book>⟧.settings self.now).journal + 1 }
+    {
+        // It is called for its clauses on the journal.
+        let _commands = self.book.commands();
+        self.book.world().versions()
+    }
+
+    /// How many cells its cache keeps for a question: one for each version that differs from the one before.
+    pub fn kept(&self, question: &Question) -> usize
+        ensures { result ≤ versions_of self.now }
+    {
+        self.book.world().cells.kept(question)
     }
 
     fn with_settings(

@@ -1,6 +1,7 @@
 //! A book of a world under a journal of its changes. It keeps no history.
 
-ghost use Rattle.std.specs.Prelude.{◌≡◌, ◌≤◌, [], IfOk};
+ghost use Rattle.std.specs.Prelude.{◌≡◌, ◌≤◌, [], List, length, IfOk};
+ghost use Rattle.history.specs.declared.event.Event.{Event};
 ghost use Rattle.world_book.specs.Book.{IsPassed, IsUntouched};
 ghost use Rattle.world_book.specs.Deeds.{empty_face};
 
@@ -67,6 +68,17 @@ impl<C: BookChange> WorldBook<C> {
         ensures { result.now ≡ self.now.world }
     {
         &self.world
+    }
+
+    /// How many commands can be undone or redone. The world keeps what each needs for its way back.
+    pub fn commands(&self) -> usize
+        ensures commands { result ≡ length self.now.changes.kept }
+        ensures few { (h : List Event) → ⟦<WorldBook<C> as Book>⟧.stands_for self.now h → result ≤ self.now.settings.journal }
+        ensures kept { C.World.keeps self.now.world self.now.changes.kept }
+    {
+        // It is called for its clause `sound`: the journal keeps no more changes than its limit.
+        let _undone = self.journal.undone();
+        self.journal.len()
     }
 
     /// Takes a lookup whose reply nobody reads. Nothing but the clock changes.
