@@ -1,5 +1,5 @@
 -- What a step may answer to an event, and what is in the history then.
-use Rattle.std.specs.Prelude.{◌≡◌, ℕ, ◌<◌, ◌≤◌, IsTrue, Result, Ok, Err, List, [], ◌∷◌, ◌++◌, length, count_by}
+use Rattle.std.specs.Prelude.{◌≡◌, ◌≢◌, ℕ, ◌<◌, ◌≤◌, IsTrue, Result, Ok, Err, List, [], ◌∷◌, ◌++◌, length, count_by}
 use Rattle.history.specs.declared.event.Event.{Event}
 use Rattle.history.specs.declared.event.Reply.{Reply}
 use Rattle.history.specs.declared.event.Settings.{Settings}
@@ -38,3 +38,8 @@ Follows settings history event (Err fault) = Answers settings history event (Err
 abbrev pub history_after : {A : Type 0} → List Event → Event → Result A StepFault → List Event
 history_after history event (Ok reply) = history ++ event ∷ []
 history_after history event (Err fault) = history
+
+-- What a fault may be at a book that stores so many of the cells that there may be. If as many are stored, no admission lacks memory: the book says that it is full.
+abbrev pub TellsLimit : ℕ → ℕ → Event → StepFault → Type 0
+TellsLimit stored limit event NoMemory = IsTrue (is_admission event) → stored ≢ limit
+TellsLimit stored limit event _ = Unit {0}

@@ -1,5 +1,5 @@
 -- Calls of a desk.
-use Rattle.std.specs.Prelude.{◌≡◌, ℕ, List, [], ◌∷◌, Result, Ok, Err, IsErrOf, OnErr}
+use Rattle.std.specs.Prelude.{◌≡◌, ℕ, List, [], ◌∷◌, Result, Ok, Err, IfErr, IsErrOf, OnErr}
 use Rattle.history.specs.declared.event.Event.{Event}
 use Rattle.history.specs.declared.event.Reply.{Reply}
 use Rattle.history.specs.declared.event.Settings.{Settings}
@@ -7,7 +7,7 @@ use Rattle.history.specs.declared.book.StepFault.{StepFault}
 use Rattle.history.specs.declared.book.StepFault.TheVariants.{Full}
 use Rattle.history.specs.declared.desk.DeskFault.{DeskFault}
 use Rattle.history.specs.declared.desk.DeskFault.TheVariants.{Step}
-use Rattle.history.specs.Answers.{Answers, history_after}
+use Rattle.history.specs.Answers.{Answers, TellsLimit, history_after}
 
 -- one step of a book, as its promise says: the book before, the event, the answer, the book after
 pub record IsStep {B : Type 0} (stands_for : B → List Event → Type 0) (settings : B → Settings) (stored : B → ℕ) (before : B) (event : Event) (answer : Result Reply StepFault) (after : B) : Type 0 where
@@ -16,6 +16,7 @@ pub record IsStep {B : Type 0} (stands_for : B → List Event → Type 0) (setti
   pub full : (n : ℕ) → IsErrOf answer (Full n) → stored before ≡ n
   pub same_store : OnErr answer (stored after ≡ stored before)
   pub same_settings : settings after ≡ settings before
+  pub by_limit : IfErr answer (λ fault. (h : List Event) → stands_for before h → TellsLimit (stored before) (settings before).cells event fault)
 
 -- what a desk answers where its book answers this
 abbrev pub desk_answer : Result Reply StepFault → Result Reply DeskFault

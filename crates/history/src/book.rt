@@ -7,7 +7,7 @@ ghost use Rattle.history.specs.Event.{is_admission};
 ghost use Rattle.history.specs.History.{past_of, stubs_of, tables_of};
 ghost use Rattle.history.specs.Reply.{seen_of, look_seen};
 ghost use Rattle.history.specs.Servers.{servers_of};
-ghost use Rattle.history.specs.Answers.{Answers, Follows, history_after};
+ghost use Rattle.history.specs.Answers.{Answers, Follows, TellsLimit, history_after};
 
 use crate::event::{Ask, Event, Look, Reply, Seen, Settings};
 use crate::servers::Servers;
@@ -88,7 +88,11 @@ pub trait Book: Drop {
 
         // An event that needs no memory is refused only by the clock and the count of events.
         ensures free { is_free self.old event →
-            IfErr result (λ fault. (fault ≡ StepFault.BadMoment) ⊎ (fault ≡ StepFault.CountEnded)) };
+            IfErr result (λ fault. (fault ≡ StepFault.BadMoment) ⊎ (fault ≡ StepFault.CountEnded)) }
+
+        // If it stores as many cells as there may be, it does not refuse an admission for want of memory.
+        ensures by_limit { IfErr result (λ fault. (h : List Event) → stands_for self.old h →
+            TellsLimit (stored self.old) (settings self.old).cells event fault) };
 
     /// Takes an event as `step` does, and returns no reply. A book that follows another one needs none, since the other has replied. So
     /// it may leave out what only replies need, and what has expired until `sweep_some` removes it.
@@ -100,6 +104,8 @@ pub trait Book: Drop {
         ensures settings { settings self.new ≡ settings self.old }
         ensures free { is_free self.old event →
             IfErr result (λ fault. (fault ≡ StepFault.BadMoment) ⊎ (fault ≡ StepFault.CountEnded)) }
+        ensures by_limit { IfErr result (λ fault. (h : List Event) → stands_for self.old h →
+            TellsLimit (stored self.old) (settings self.old).cells event fault) }
     {
         match self.step(event) {
             Ok(reply) => {

@@ -1,13 +1,13 @@
 -- What a call of what lies under the lock says of its answer.
-use Rattle.std.proofs.Common.{◌≡◌, ℕ, ◌+◌, ◌≤◌, List, length, sym, ◌∙◌, ap, subst, arith}
-use Rattle.std.specs.Prelude.{Result, Ok, Err, IfOk, IfErr, IsErrOf}
+use Rattle.std.proofs.Common.{◌≡◌, ℕ, ◌+◌, ◌≤◌, List, length, sym, ◌∙◌, ap, subst, arith, inl, inr}
+use Rattle.std.specs.Prelude.{◌⊎◌, Result, Ok, Err, IfOk, IfErr, IsErrOf}
 use Rattle.history.specs.declared.event.Event.{Event}
 use Rattle.history.specs.declared.event.Reply.{Reply}
 use Rattle.history.specs.declared.event.Settings.{Settings}
 use Rattle.history.specs.declared.book.StepFault.{StepFault}
 use Rattle.history.specs.declared.book.StepFault.TheVariants.{BadMoment, CountEnded, Full, NoMemory}
 use Rattle.history.specs.declared.limits.TheConstants.{MOST_EVENTS}
-use Rattle.history.specs.Answers.{Answers}
+use Rattle.history.specs.Answers.{Answers, IsTimely}
 use Rattle.history.specs.Desk.{IsStep as IsBookStep}
 use Rattle.history.specs.History.{past_of}
 use Rattle.history.specs.Reply.{reply_of}
@@ -15,7 +15,7 @@ use Rattle.shared_book.specs.declared.fault.CallFault.{CallFault}
 use Rattle.shared_book.specs.declared.fault.CallFault.TheVariants.{Step, Behind}
 use Rattle.shared_book.specs.declared.receipt.Receipt.{Receipt}
 use Rattle.shared_book.specs.Pass.{PassState, after_call}
-use Rattle.shared_book.specs.Kept.{KeptState, IsKept, IsStep, IsCalled, IsFreeCall}
+use Rattle.shared_book.specs.Kept.{KeptState, IsKept, IsStep, IsTaken, HasNoRoom, IsCalled, IsFreeCall}
 use Rattle.shared_book.specs.Calling.{IsReason, IsCallReply, IsFaultOf, IsCall, IsLocked, IsShared, IsReceiptOf, IsJustified, SeatCall}
 use Rattle.shared_book.proofs.RecordLaws.{all_events, as_many}
 
@@ -31,18 +31,32 @@ pub same_fault : {A C : Type 0} (fault : StepFault) → IsErrOf {T = A} (Err (St
 same_fault fault is = (cc)
 
 module _ {B : Type 0} (stands_for : B → List Event → Type 0) (made_with : B → Settings) (stored : B → ℕ) where
-  -- the step of the book in a step under the lock
-  pub step_of_book : (before after : KeptState B) (pass pass' : PassState) (event : Event) (answer : Result Reply StepFault)
-      → IsStep stands_for made_with stored before pass event answer after pass' → IsBookStep stands_for made_with stored before.book event answer after.book
-  step_of_book before after pass pass' event answer step =
-      subst (λ (b : B). IsBookStep stands_for made_with stored b event answer after.book) step.moves.same_book step.taken.book
-
-  -- what such a step may answer
+  -- what a step under the lock may answer
   answers_of : (before after : KeptState B) (pass pass' : PassState) (event : Event) (answer : Result Reply StepFault) (kept : IsKept stands_for made_with before)
       → IsStep stands_for made_with stored before pass event answer after pass' → Answers (made_with before.book) (all_events stands_for made_with before kept) event answer
   answers_of before after pass pass' event answer kept step =
-      let book : IsBookStep stands_for made_with stored before.book event answer after.book = step_of_book before after pass pass' event answer step in
-      book.answers (all_events stands_for made_with before kept) kept.stands
+      let history : List Event = all_events stands_for made_with before kept in
+      elim step.taken [
+        | inl taken ↦
+            let book : IsBookStep stands_for made_with stored before.book event answer after.book
+            = subst (λ (b : B). IsBookStep stands_for made_with stored b event answer after.book) step.moves.same_book taken.book in
+            book.answers history kept.stands
+        | inr full ↦
+            let many : step.between.total ≡ length history = step.moves.same_total ∙ sym (as_many stands_for made_with before kept) in
+            subst (λ (a : Result Reply StepFault). Answers (made_with before.book) history event a) (sym full.1.told) (subst (λ n. IsTimely n event) many full.1.timely)
+      ]
+
+  -- a reply is the book's
+  called_by : (between after : KeptState B) (pass pass' : PassState) (event : Event) (reply : Reply)
+      → IsTaken stands_for made_with stored between pass event (Ok reply) after pass' ⊎ HasNoRoom between pass event (Ok reply) after pass' → IsCalled between after pass event reply pass'
+  called_by between after pass pass' event reply (inl taken) = taken.called
+  called_by between after pass pass' event reply (inr full) = let never : Ok reply ≡ Err NoMemory = full.1.told in absurd (cc)
+
+  -- a pass stays after a fault
+  pass_stays : (between after : KeptState B) (pass pass' : PassState) (event : Event) (fault : StepFault)
+      → IsTaken stands_for made_with stored between pass event (Err fault) after pass' ⊎ HasNoRoom between pass event (Err fault) after pass' → pass' ≡ pass
+  pass_stays between after pass pass' event fault (inl taken) = taken.same_pass
+  pass_stays between after pass pass' event fault (inr full) = full.1.same_pass
 
   ended : (before after : KeptState B) (pass pass' : PassState) (event : Event) (answer : Result Reply CallFault) → IsKept stands_for made_with before
       → IsCall stands_for made_with stored before pass event answer after pass' → IsErrOf answer (Step CountEnded) → MOST_EVENTS ≤ before.total
@@ -67,7 +81,7 @@ module _ {B : Type 0} (stands_for : B → List Event → Type 0) (made_with : B 
   replied_by settings before after pass pass' event reply kept same call =
       let history : List Event = all_events stands_for made_with before kept in
       let step : IsStep stands_for made_with stored before pass event (Ok reply) after pass' = call.1 in
-      let called : IsCalled step.between after pass event reply pass' = step.taken.called in
+      let called : IsCalled step.between after pass event reply pass' = called_by step.between after pass pass' event reply step.taken in
       let answers : Answers (made_with before.book) history event (Ok reply) = answers_of before after pass pass' event (Ok reply) kept step in
       let seen : pass'.seen ≡ after.total = ap (λ (p : PassState). p.seen) called.counted in
       let many : length history ≡ before.total = as_many stands_for made_with before kept in
@@ -95,7 +109,7 @@ module _ {B : Type 0} (stands_for : B → List Event → Type 0) (made_with : B 
   refused settings before after pass pass' event (Ok reply) kept same call = tt
   refused settings before after pass pass' event (Err (Step fault)) kept same call =
       let history : List Event = all_events stands_for made_with before kept in
-      record { reason = reason settings (made_with before.book) history event fault same (answers_of before after pass pass' event (Err fault) kept call.1); same = call.1.taken.same_pass }
+      record { reason = reason settings (made_with before.book) history event fault same (answers_of before after pass pass' event (Err fault) kept call.1); same = pass_stays call.1.between after pass pass' event fault call.1.taken }
   refused settings before after pass pass' event (Err (Behind at)) kept same call = record { reason = omega (arith, call.0, call.1); same = call.3 }
 
   -- a caller who gets no receipt knows as much as from its receipt

@@ -1,6 +1,7 @@
 -- A window that grows by one call, or moves on by one.
 use Rattle.std.proofs.Common.{◌≡◌, ◌+◌, ◌-◌, ◌<◌, ◌≤◌, ℕ, List, [], ◌∷◌, ◌++◌, length, refl, sym, ◌∙◌, ap, subst, arith, inl, inr, append_assoc, length-append}
-use Rattle.std.specs.Prelude.{◌⊎◌, true, Result, Ok, Err, OnOk, IsErrOf, slice_get, IfSome}
+use Rattle.std.specs.Prelude.{◌⊎◌, Bool, true, false, Result, Ok, Err, OnOk, IsErrOf, slice_get, IfSome}
+use Rattle.std.proofs.lemmas.Bool.{false≢true}
 use Rattle.std.proofs.lemmas.List.{map-append, length-map}
 use Rattle.std.proofs.lemmas.List.Sums.{count_by-le-length}
 use Rattle.dns_name.specs.ListLaws.{all-append}
@@ -13,11 +14,11 @@ use Rattle.history.specs.Event.{moment_of, is_admission, is_plain, lagging_of}
 use Rattle.history.specs.History.{past_of}
 use Rattle.history.specs.Reply.{reply_of}
 use Rattle.history.specs.declared.event.Reply.{Reply}
-use Rattle.history.specs.Answers.{Answers, Follows, IsTimely}
+use Rattle.history.specs.Answers.{Answers, Follows, IsTimely, TellsLimit}
 use Rattle.shared_book.specs.declared.receipt.Receipt.{Receipt}
 use Rattle.shared_book.specs.Record.{events_of, IsLegalAfter}
 use Rattle.shared_book.specs.Pass.{PassState}
-use Rattle.shared_book.specs.Kept.{KeptState, IsKept, IsTaken, IsStep, MovesOn, AreTimely}
+use Rattle.shared_book.specs.Kept.{KeptState, IsKept, IsStep, IsFreed, IsTurn, IsTurnFor, MovesOn, AreTimely}
 
 pub events_push : (entries : List Receipt) (e : Receipt) → events_of (entries ++ e ∷ []) ≡ events_of entries ++ e.event ∷ []
 events_push entries e = map-append (λ (r : Receipt). r.event) entries (e ∷ [])
@@ -131,49 +132,60 @@ module _ {B : Type 0} (stands_for : B → List Event → Type 0) (settings : B �
   -- a refused event changes nothing
   refuses : (stored : B → ℕ) (kept : KeptState B) (pass : PassState) (event : Event) (fault : StepFault)
       → ((h : List Event) → stands_for kept.book h → Answers (settings kept.book) h event (Err fault)) → ((n : ℕ) → IsErrOf {T = Reply} (Err fault) (Full n) → stored kept.book ≡ n)
-      → IsStep stands_for settings stored kept pass event (Err fault) kept pass
-  refuses stored kept pass event fault answers full = record {
+      → TellsLimit (stored kept.book) (settings kept.book).cells event fault → IsStep stands_for settings stored kept pass event (Err fault) kept pass
+  refuses stored kept pass event fault answers full by_limit = record {
     between = kept;
     moves = stays kept;
     room = tt;
-    taken = record {
-      book = record { answers = answers; stands = λ h stands. stands; full = full; same_store = refl; same_settings = refl };
+    taken = inl (record {
+      book = record { answers = answers; stands = λ h stands. stands; full = full; same_store = refl; same_settings = refl; by_limit = λ h stands. by_limit };
       called = tt;
       same_record = record { first = refl; window = refl; limit = refl; total = refl; callers = refl };
       same_opening = refl;
       same_pass = refl;
-    };
+    });
   }
 
   pub too_late : (stored : B → ℕ) (kept : KeptState B) (pass : PassState) (event : Event) → MOMENT_END ≤ moment_of event → IsStep stands_for settings stored kept pass event (Err BadMoment) kept pass
-  too_late stored kept pass event late = refuses stored kept pass event BadMoment (λ h stands. late) (λ n is. cc)
+  too_late stored kept pass event late = refuses stored kept pass event BadMoment (λ h stands. late) (λ n is. cc) tt
 
   pub count_ended : (stored : B → ℕ) → ((book : B) (h k : List Event) → stands_for book h → stands_for book k → length h ≡ length k) → (kept : KeptState B) → IsKept stands_for settings kept → (pass : PassState) (event : Event)
       → moment_of event < MOMENT_END → MOST_EVENTS ≤ kept.total → IsStep stands_for settings stored kept pass event (Err CountEnded) kept pass
   count_ended stored one_count kept k pass event early ended =
       refuses stored kept pass event CountEnded
-      (λ h stands. (early, subst (λ n. MOST_EVENTS ≤ n) (sym (as_many kept k) ∙ one_count kept.book (all_events kept k) h k.stands stands) ended)) (λ n is. cc)
+      (λ h stands. (early, subst (λ n. MOST_EVENTS ≤ n) (sym (as_many kept k) ∙ one_count kept.book (all_events kept k) h k.stands stands) ended)) (λ n is. cc) tt
 
-  pub no_copy : (stored : B → ℕ) → ((book : B) (h k : List Event) → stands_for book h → stands_for book k → length h ≡ length k) → (kept : KeptState B) → IsKept stands_for settings kept → (pass : PassState) (event : Event)
-      → IsTimely kept.total event → IsStep stands_for settings stored kept pass event (Err NoMemory) kept pass
-  no_copy stored one_count kept k pass event timely = refuses stored kept pass event NoMemory (timely_after one_count kept k event timely) (λ n is. cc)
+  -- a turn of both books, if the whole is wanted
+  pub whole_turn : (stored unswept : B → ℕ) (before after : KeptState B) (whole more : Bool) → whole ≡ true → IsTurn stands_for settings stored unswept before more after
+      → IsTurnFor stands_for settings stored unswept whole before more after
+  whole_turn stored unswept before after whole more is turn =
+      subst (λ (w : Bool). IsTurnFor stands_for settings stored unswept w before more after) (sym is) (record { freed = turn.freed; fewer = turn.fewer; enough = turn.none })
 
-  -- a timely event for which there is no memory changes nothing
-  pub no_memory : (stored : B → ℕ) → ((book : B) (h k : List Event) → stands_for book h → stands_for book k → length h ≡ length k) → (before between : KeptState B) (k : IsKept stands_for settings before)
-      → between.book ≡ before.book → (pass : PassState) (event : Event) → IsTimely before.total event → IsTaken stands_for settings stored between pass event (Err NoMemory) between pass
-  no_memory stored one_count before between k same pass event timely = record {
-    book = record {
-      answers = λ h stands. timely_after one_count before k event timely h (subst (λ (b : B). stands_for b h) same stands);
-      stands = λ h stands. stands;
-      full = λ n is. cc;
-      same_store = refl;
-      same_settings = refl;
-    };
-    called = tt;
-    same_record = record { first = refl; window = refl; limit = refl; total = refl; callers = refl };
-    same_opening = refl;
-    same_pass = refl;
-  }
+  -- a book that has room needs no turn
+  pub no_turn : (stored unswept : B → ℕ) (kept : KeptState B) (whole : Bool) → whole ≡ false → stored kept.book < (settings kept.book).cells
+      → IsTurnFor stands_for settings stored unswept whole kept false kept
+  no_turn stored unswept kept whole is room =
+      subst (λ (w : Bool). IsTurnFor stands_for settings stored unswept w kept false kept) (sym is) (record {
+        freed = record {
+          stands = λ h stands. stands;
+          opening = λ h stands. stands;
+          no_more = omega arith;
+          same_settings = (refl, refl);
+          same_record = record { first = refl; window = refl; limit = refl; total = refl; callers = refl };
+        };
+        fewer = λ more. absurd (false≢true more);
+        enough = λ none. inl room;
+      })
+
+  -- a turn of the book alone
+  pub book_turn : (stored unswept : B → ℕ) (before after : KeptState B) (whole more : Bool) → whole ≡ false → IsFreed stands_for settings stored before after → after.opening ≡ before.opening
+      → (more ≡ true → unswept after.book < unswept before.book) → (more ≡ false → unswept after.book ≡ 0) → IsTurnFor stands_for settings stored unswept whole before more after
+  book_turn stored unswept before after whole more is freed same fewer none =
+      subst (λ (w : Bool). IsTurnFor stands_for settings stored unswept w before more after) (sym is) (record {
+        freed = freed;
+        fewer = λ yes. omega (arith, fewer yes, ap unswept same);
+        enough = λ no. inr (none no);
+      })
 
   -- what lies under the lock after a call
   pub keeps_called : (old : KeptState B) (book : B) (first limit : ℕ) (window : List Receipt) (e : Receipt) (k : IsKept stands_for settings old)

@@ -1,12 +1,14 @@
 -- What lies under the lock.
-use Rattle.std.specs.Prelude.{◌≡◌, ◌⊎◌, ℕ, Bool, true, false, ◌+◌, ◌-◌, ◌<◌, ◌≤◌, ◌^◌, min, List, [], ◌∷◌, ◌++◌, length, refl, Result, IfOk, OnOk, OnErr}
+use Rattle.std.specs.Prelude.{◌≡◌, ◌⊎◌, ℕ, Bool, true, false, ◌+◌, ◌-◌, ◌<◌, ◌≤◌, ◌^◌, min, List, [], ◌∷◌, ◌++◌, length, refl, Result, Err, IfOk, OnOk, OnErr}
 use Rattle.std.specs.Coded.{Coded, code_by, coded×, coded_ℕ, coded_list}
 use Rattle.std.specs.List.{AllByRecursion}
 use Rattle.history.specs.declared.event.Event.{Event}
 use Rattle.history.specs.declared.event.Reply.{Reply}
 use Rattle.history.specs.declared.event.Settings.{Settings}
 use Rattle.history.specs.declared.book.StepFault.{StepFault}
+use Rattle.history.specs.declared.book.StepFault.TheVariants.{NoMemory}
 use Rattle.history.specs.declared.limits.TheConstants.{MOMENT_END}
+use Rattle.history.specs.Answers.{IsTimely}
 use Rattle.history.specs.Desk.{IsStep as IsBookStep}
 use Rattle.history.specs.Event.{moment_of, is_plain, lagging_of}
 use Rattle.shared_book.specs.declared.receipt.Receipt.{Receipt}
@@ -110,6 +112,31 @@ pub record IsTurnThere {B : Type 0} (stands_for : B → List Event → Type 0) (
   pub same_settings : made_with before.book ≡ settings
   pub turn : IsTurn stands_for made_with stored unswept before more after
 
+-- A sweep has done enough: of the whole, nothing is left in both books; for room, the book stores fewer cells than it may, or has nothing left.
+abbrev pub IsEnough : {B : Type 0} → (B → Settings) → (B → ℕ) → (B → ℕ) → Bool → KeptState B → Type 0
+IsEnough settings stored unswept true kept = (unswept kept.book ≡ 0) × (unswept kept.opening ≡ 0)
+IsEnough settings stored unswept false kept = (stored kept.book < (settings kept.book).cells) ⊎ (unswept kept.book ≡ 0)
+
+-- At most one turn of a sweep, of the whole or for room. If another one is wanted, less is left in the books together than before. If not, it is enough.
+pub record IsTurnFor {B : Type 0} (stands_for : B → List Event → Type 0) (settings : B → Settings) (stored unswept : B → ℕ) (whole : Bool) (before : KeptState B) (more : Bool) (after : KeptState B) : Type 0 where
+  pub freed : IsFreed stands_for settings stored before after
+  pub fewer : more ≡ true → unswept after.book + unswept after.opening < unswept before.book + unswept before.opening
+  pub enough : more ≡ false → IsEnough settings stored unswept whole after
+
+-- Such a turn at a shared book that was made with these settings, under one hold of the lock.
+pub record IsTurnForThere {B : Type 0} (stands_for : B → List Event → Type 0) (made_with : B → Settings) (stored unswept : B → ℕ) (settings : Settings) (whole more : Bool) : Type 0 where
+  pub before : KeptState B
+  pub after : KeptState B
+  pub kept : IsKept stands_for made_with before
+  pub same_settings : made_with before.book ≡ settings
+  pub turn : IsTurnFor stands_for made_with stored unswept whole before more after
+
+-- A sweep by turns, each under a hold of its own: the last was enough, or so many were taken, after each of which another one was wanted.
+abbrev pub IsSweepThere : {B : Type 0} → (B → List Event → Type 0) → (B → Settings) → (B → ℕ) → (B → ℕ) → Settings → Bool → ℕ → Type 0
+IsSweepThere stands_for made_with stored unswept settings whole most =
+    IsTurnForThere stands_for made_with stored unswept settings whole false
+    ⊎ ((turns : List (IsTurnForThere stands_for made_with stored unswept settings whole true)) × (length turns ≡ most))
+
 -- The book takes an event where the window has room. A call that got a reply is counted, and is the last of the window. After a fault all but the book is as it was, and the book as its promise says.
 pub record IsTaken {B : Type 0} (stands_for : B → List Event → Type 0) (settings : B → Settings) (stored : B → ℕ) (before : KeptState B) (pass : PassState) (event : Event) (answer : Result Reply StepFault) (after : KeptState B) (pass' : PassState) : Type 0 where
   pub book : IsBookStep stands_for settings stored before.book event answer after.book
@@ -118,12 +145,28 @@ pub record IsTaken {B : Type 0} (stands_for : B → List Event → Type 0) (sett
   pub same_opening : OnErr answer (after.opening ≡ before.opening)
   pub same_pass : OnErr answer (pass' ≡ pass)
 
--- One step under the lock: what lay there and the pass, the event, the answer, and both afterwards. First the window moves on if it is full, and then the book takes the event. So a fault may leave the window moved on, and the opening book with it, and changes nothing else.
+-- A timely event met want of memory before the book was asked. Nothing has changed.
+pub record IsRefused {B : Type 0} (before : KeptState B) (pass : PassState) (event : Event) (answer : Result Reply StepFault) (after : KeptState B) (pass' : PassState) : Type 0 where
+  pub timely : IsTimely before.total event
+  pub told : answer ≡ Err NoMemory
+  pub same : after ≡ before
+  pub same_pass : pass' ≡ pass
+
+-- There was no memory to let the oldest call leave the window, which is still full.
+abbrev pub HasNoRoom : {B : Type 0} → KeptState B → PassState → Event → Result Reply StepFault → KeptState B → PassState → Type 0
+HasNoRoom before pass event answer after pass' = (before.limit ≤ length before.window) × IsRefused before pass event answer after pass'
+
+-- One step under the lock: what lay there and the pass, the event, the answer, and both afterwards. First the window moves on if it is full, and then the book takes the event. So a fault may leave the window moved on, and the opening book with it, and changes nothing else. Only where the window is still full is want of memory not the book's own answer.
 pub record IsStep {B : Type 0} (stands_for : B → List Event → Type 0) (settings : B → Settings) (stored : B → ℕ) (before : KeptState B) (pass : PassState) (event : Event) (answer : Result Reply StepFault) (after : KeptState B) (pass' : PassState) : Type 0 where
   pub between : KeptState B
   pub moves : MovesOn stands_for settings before between
   pub room : OnOk answer (length between.window < between.limit)
-  pub taken : IsTaken stands_for settings stored between pass event answer after pass'
+  pub taken : IsTaken stands_for settings stored between pass event answer after pass' ⊎ HasNoRoom between pass event answer after pass'
+
+-- A step whose event is copied first, which may find no memory if the event is more than a moment and a ticket.
+abbrev pub IsCopiedStep : {B : Type 0} → (B → List Event → Type 0) → (B → Settings) → (B → ℕ) → KeptState B → PassState → Event → Result Reply StepFault → KeptState B → PassState → Type 0
+IsCopiedStep stands_for settings stored before pass event answer after pass' =
+    (¬ (is_plain event ≡ true) × IsRefused before pass event answer after pass') ⊎ IsStep stands_for settings stored before pass event answer after pass'
 
 -- The oldest call leaves the window without memory: its event is copied without any, and the opening book takes it without any.
 pub record LeavesFree {B : Type 0} (is_free : B → Event → Type 0) (before : KeptState B) : Type 0 where

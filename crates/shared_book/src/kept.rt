@@ -1,12 +1,12 @@
 //! The state under the lock: both books, the window between them, and the total of all calls.
 
-ghost use Rattle.std.specs.Prelude.{◌≡◌, ◌<◌, ◌≤◌, ◌^◌, ◌↔◌, true, false, List, [], length, IfOk, IfErr, OnOk, IsErrOf, ◌⊎◌, IsOk};
+ghost use Rattle.std.specs.Prelude.{◌≡◌, ◌<◌, ◌≤◌, ◌^◌, ◌↔◌, true, false, List, [], length, IfOk, IfErr, OnOk, OnErr, IsErrOf, ◌⊎◌, IsOk};
 ghost use Rattle.history.specs.declared.event.Event.{Event};
 ghost use Rattle.history.specs.Answers.{IsTimely};
 ghost use Rattle.history.specs.Event.{is_plain, lagging_of};
 ghost use Rattle.shared_book.specs.declared.kept.TheConstants.{MOST_RECORDED};
 ghost use Rattle.shared_book.specs.Pass.{PassState, first_pass};
-ghost use Rattle.shared_book.specs.Kept.{first_kept, IsFreed, IsKept, MovesOn, IsTaken, IsTurn, IsStep, IsSameRecord};
+ghost use Rattle.shared_book.specs.Kept.{first_kept, IsFreed, IsKept, MovesOn, IsTaken, IsTurn, IsTurnFor, IsStep, IsCopiedStep, IsSameRecord};
 ghost use Rattle.shared_book.specs.Kept.{HasFreeRoom, IsFreeCall};
 
 use crate::copies::copies;
@@ -166,9 +166,28 @@ impl<B: Book, L: CallLedger> Kept<B, L> {
         sweep_one(&mut self.book, &mut self.opening)
     }
 
+    /// Does so if another turn is wanted: for both books if `whole` is set, else for the book alone until it has room. Returns whether
+    /// another one is.
+    pub(crate) fn turn(&mut self, whole: bool) -> bool
+        ensures kept { IsKept B.stands_for B.settings self.old }
+        ensures made_with { B.settings self.old.book ≡ L.settings }
+        ensures turn { IsTurnFor B.stands_for B.settings B.stored B.unswept whole self.old result self.new }
+    {
+        if whole {
+            return self.sweep_some();
+        }
+        if self.has_room() {
+            return false;
+        }
+        self.sweep_book()
+    }
+
     /// Does so for the book alone.
     pub(crate) fn sweep_book(&mut self) -> bool
+        ensures kept { IsKept B.stands_for B.settings self.old }
+        ensures made_with { B.settings self.old.book ≡ L.settings }
         ensures freed { IsFreed B.stands_for B.settings B.stored self.old self.new }
+        ensures opening { self.new.opening ≡ self.old.opening }
         ensures more { result ≡ true → B.unswept self.new.book < B.unswept self.old.book }
         ensures none { result ≡ false → B.unswept self.new.book ≡ 0 }
     {
@@ -177,6 +196,8 @@ impl<B: Book, L: CallLedger> Kept<B, L> {
 
     /// Whether the book stores fewer cells than it may.
     pub(crate) fn has_room(&self) -> bool
+        ensures kept { IsKept B.stands_for B.settings self.now }
+        ensures made_with { B.settings self.now.book ≡ L.settings }
         ensures yes { result ≡ true → B.stored self.now.book < (B.settings self.now.book).cells }
         ensures no { result ≡ false → (B.settings self.now.book).cells ≤ B.stored self.now.book }
     {
@@ -186,7 +207,7 @@ impl<B: Book, L: CallLedger> Kept<B, L> {
     /// Takes an event, and records the call. First, if the window is full, its oldest call leaves it for the opening book. So a fault
     /// may leave the opening book one call further on.
     pub fn step(&mut self, pass: &mut Pass<L>, event: Shared<Event>) -> Result<Reply, StepFault>
-        ensures step { IsStep B.stands_for B.settings B.stored self.old pass.old event result self.new pass.new }
+        ensures step { IsCopiedStep B.stands_for B.settings B.stored self.old pass.old event result self.new pass.new }
         ensures free { IsFreeCall B.is_free self.old event → ¬ (IsErrOf result StepFault.NoMemory) }
     {
         match self.timely(event.get()) {
@@ -245,6 +266,7 @@ impl<B: Book, L: CallLedger> Kept<B, L> {
         ensures kept { IsKept B.stands_for B.settings self.old }
         ensures moves { MovesOn B.stands_for B.settings self.old self.new }
         ensures room { OnOk result (length self.new.window < self.new.limit) }
+        ensures full { OnErr result (self.new.limit ≤ length self.new.window) }
         ensures free { HasFreeRoom B.is_free self.old → IsOk result }
     {
         if !self.window.is_full() {
@@ -290,8 +312,6 @@ impl<B: Book, L: CallLedger> Kept<B, L> {
         ensures err { IfErr result (λ fault. (pass : PassState) →
             IsStep B.stands_for B.settings B.stored self.now pass event.now (Err fault) self.now pass) }
         ensures untimely { IfErr result (λ fault. (fault ≡ StepFault.BadMoment) ⊎ (fault ≡ StepFault.CountEnded)) }
-        ensures no_memory { OnOk result ((pass : PassState) →
-            IsStep B.stands_for B.settings B.stored self.now pass event.now (Err StepFault.NoMemory) self.now pass) }
     {
         if event.moment() >= MOMENT_END {
             return Err(StepFault::BadMoment);

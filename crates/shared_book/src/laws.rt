@@ -9,6 +9,7 @@ ghost use Rattle.shared_book.specs.Closing.{ClosesAs, AgreeButMemory};
 ghost use Rattle.shared_book.specs.OneHistory.{ClosedIsOneHistory};
 
 use crate::kept::MOST_RECORDED;
+use crate::shared::MOST_TURNS;
 use history::Book;
 
 /// Only want of memory lets two closings of one book differ. So each fault comes exactly if its condition holds.
@@ -24,7 +25,8 @@ pub fn one_history<B: Book>()
     ensures { ClosedIsOneHistory B.stands_for B.settings }
 {}
 
-/// The call log has at most 1,000,000 calls.
+/// The call log has at most 1,000,000 calls. A sweep takes at most 16,384 turns.
 pub fn limits_law()
-    ensures { MOST_RECORDED ≡ 1000000 }
+    ensures recorded { MOST_RECORDED ≡ 1000000 }
+    ensures turns { MOST_TURNS ≡ 16384 }
 {}

@@ -27,7 +27,9 @@ mod calls;
 mod close;
 // The laws of closing, by the definitions alone.
 mod laws;
-// One lock around that state.
+// The lock around that state.
+mod lock;
+// A book that many callers share, each with a pass.
 mod shared;
 // A shared book with a pass, as a desk.
 mod seat;

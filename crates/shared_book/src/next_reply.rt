@@ -1,11 +1,11 @@
 //! A reply and its copy for the window. A reply cannot be copied without memory, so that of a lookup is made twice, beforehand.
 
-ghost use Rattle.std.specs.Prelude.{◌≡◌, List, length, true, IfOk, IsOk, IsErrOf};
+ghost use Rattle.std.specs.Prelude.{◌≡◌, List, length, true, IfOk, IsOk, IsErrOf, IsTrue};
 ghost use Rattle.std.specs.Option.{option_map};
 ghost use Rattle.history.specs.declared.event.Event.{Event};
 ghost use Rattle.history.specs.declared.event.Settings.{Settings};
 ghost use Rattle.history.specs.Answers.{IsTimely};
-ghost use Rattle.history.specs.Event.{is_plain};
+ghost use Rattle.history.specs.Event.{is_admission, is_plain};
 ghost use Rattle.history.specs.Desk.{IsStep as IsBookStep};
 ghost use Rattle.history.specs.History.{past_of};
 ghost use Rattle.history.specs.Reply.{reply_of, seen_of};
@@ -45,6 +45,7 @@ fn look_ahead<B: Book>(alloc: Global, book: &B, event: &Event) -> Result<Option<
         IfOk result (λ ahead. option_map (λ a. a.seen) ahead
         ≡ seen_ahead (B.settings book.now) (past_of (B.settings book.now).journal h) event.now) }
     ensures plain { is_plain event.now ≡ true → IsOk result }
+    ensures admission { IsTrue (is_admission event.now) → IsOk result }
 {
     match event {
         Event::Look { moment, ask } => Ok(Some(see_ahead(alloc, book, ask, *moment)?)),

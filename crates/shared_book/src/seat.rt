@@ -1,7 +1,9 @@
 //! A shared book with a pass, as a desk.
 
 ghost use Rattle.std.specs.Prelude.{◌≡◌};
+ghost use Rattle.shared_book.specs.declared.shared.TheConstants.{MOST_TURNS};
 ghost use Rattle.shared_book.specs.Calling.{fault_at_desk, SeatCall};
+ghost use Rattle.shared_book.specs.Kept.{IsSweepThere};
 
 use crate::fault::CallFault;
 use crate::ledger::CallLedger;
@@ -90,7 +92,10 @@ impl<'a, B: Book, L: CallLedger, R: Wait> Desk for Seat<'a, B, L, R> {
 
 impl<'a, B: Book, L: CallLedger, R: Wait> Seat<'a, B, L, R> {
     /// Goes on with a sweep, if that was the reply. The call itself was the first turn.
-    fn go_on(&self, reply: &Reply) {
+    fn go_on(&self, reply: &Reply)
+        ensures { reply.now ≡ Reply.Swept →
+            IsSweepThere B.stands_for B.settings B.stored B.unswept L.settings self.now.is_thorough MOST_TURNS }
+    {
         if matches!(reply, Reply::Swept) {
             self.book.free(self.rt, self.is_thorough);
         }

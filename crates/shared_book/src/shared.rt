@@ -6,24 +6,26 @@ ghost use Rattle.shared_book.specs.declared.kept.TheConstants.{MOST_RECORDED};
 ghost use Rattle.shared_book.specs.Pass.{first_pass, IsSplit, IsJoined};
 ghost use Rattle.shared_book.specs.Calling.{IsReceiptOf, IsJustified, IsCallReply, IsFaultOf, IsLocked, IsShared, IsUnsplit, answer_of};
 ghost use Rattle.shared_book.specs.Closing.{IsClosed};
-ghost use Rattle.shared_book.specs.Kept.{IsKept, IsTurnThere};
+ghost use Rattle.shared_book.specs.declared.shared.TheConstants.{MOST_TURNS};
+ghost use Rattle.shared_book.specs.Kept.{IsKept, IsTurnThere, IsSweepThere};
 
 use crate::close::NotClosed;
 use crate::copies::three_copies;
 use crate::fault::{CallFault, SplitFault};
 use crate::kept::Kept;
 use crate::ledger::{Blank, CallLedger};
+use crate::lock::{Held, Lock};
 use crate::pass::Pass;
 use crate::receipt::Receipt;
 use dns_text::Shared;
 use history::{Ask, Book, Event, MakeFault, Reply, StepFault};
 use std::alloc::Global;
-use std::sync::{Mutex, MutexGuard, Wait};
+use std::sync::Wait;
 use std::thread::yield_now;
 
 /// The turns that a caller takes at most, each of which visits 256 names at most. So a book of a million names is swept by them, even if
 /// each name changes meanwhile.
-const MOST_TURNS: u32 = 16_384;
+pub(crate) const MOST_TURNS: u32 = 16_384;
 
 /// Whether an event asks for the name to forget first.
 fn asks_oldest(event: &Event) -> bool {
@@ -36,7 +38,7 @@ fn asks_oldest(event: &Event) -> bool {
 /// A book that many callers share, each with a pass.
 #[derive(Drop)]
 pub struct SharedBook<B: Book, L: CallLedger> {
-    kept: Mutex<Kept<B, L>>,
+    kept: Lock<B, L>,
 }
 
 impl<B: Book, L: CallLedger> SharedBook<B, L> {
@@ -61,7 +63,7 @@ impl<B: Book, L: CallLedger> SharedBook<B, L> {
         match Kept::new(alloc, blank, book, opening, limit) {
             Ok((kept, pass)) => Ok((
                 SharedBook {
-                    kept: Mutex::new(kept),
+                    kept: Lock::new(kept),
                 },
                 pass,
             )),
@@ -76,14 +78,14 @@ impl<B: Book, L: CallLedger> SharedBook<B, L> {
         ensures one_part { pass.old.parts ≡ 1 → IsErr result }
         ensures refused { IsErr result → IsUnsplit B.stands_for B.settings pass.old }
     {
-        self.kept.lock(rt).split(pass)
+        self.kept.hold(rt).split(pass)
     }
 
     /// Both passes in one, under the number of the first. It has seen what either had.
     pub fn join<R: Wait>(&self, rt: &R, first: Pass<L>, second: Pass<L>) -> Pass<L>
         ensures { IsJoined L.parts first second result }
     {
-        self.kept.lock(rt).join(first, second)
+        self.kept.hold(rt).join(first, second)
     }
 
     /// Takes an event, and returns a receipt for the call. A sweep frees only some of what it may, so that it holds the lock briefly:
@@ -122,27 +124,20 @@ impl<B: Book, L: CallLedger> SharedBook<B, L> {
     pub fn sweep_some<R: Wait>(&self, rt: &R) -> bool
         ensures { IsTurnThere B.stands_for B.settings B.stored B.unswept L.settings result }
     {
-        self.kept.lock(rt).sweep_some()
+        self.kept.hold(rt).sweep_some()
     }
 
     /// Frees what a sweep may, a turn at a time, and others get the lock between two turns. It ends as soon as the book has room, or, if
-    /// `whole` is set, when nothing is left in both books.
-    pub(crate) fn free<R: Wait>(&self, rt: &R, whole: bool) {
-        for _ in 0..MOST_TURNS {
-            if !self.wants_turn(rt, whole) {
+    /// `whole` is set, when nothing is left in both books. It also ends after `MOST_TURNS` turns.
+    pub(crate) fn free<R: Wait>(&self, rt: &R, whole: bool)
+        ensures { IsSweepThere B.stands_for B.settings B.stored B.unswept L.settings whole MOST_TURNS }
+    {
+        for _taken in 0..MOST_TURNS {
+            if !self.kept.hold(rt).turn(whole) {
                 return;
             }
             yield_now();
         }
-    }
-
-    /// Takes a turn unless there is room, and returns whether another one is wanted.
-    fn wants_turn<R: Wait>(&self, rt: &R, whole: bool) -> bool {
-        let mut kept = self.kept.lock(rt);
-        if whole {
-            return kept.sweep_some();
-        }
-        !kept.has_room() && kept.sweep_book()
     }
 
     /// Takes an event by its copy, and gives no receipt. Only this is done under the lock.
@@ -159,23 +154,21 @@ impl<B: Book, L: CallLedger> SharedBook<B, L> {
         ensures locked { IsLocked B.stands_for B.settings B.stored B.is_free L.settings pass.old event result pass.new }
     {
         if asks_oldest(&event) {
-            return self.lock_swept(rt).call(pass, event, copy);
+            return self.hold_swept(rt).call(pass, event, copy);
         }
-        self.kept.lock(rt).call(pass, event, copy)
+        self.kept.hold(rt).call(pass, event, copy)
     }
 
-    /// Locks what lies there right after a turn that left nothing of the book to sweep. For the name to forget first is then one path of
-    /// a tree away, and before it may be as far as all names.
-    fn lock_swept<R: Wait>(&self, rt: &R) -> MutexGuard<'_, Kept<B, L>> {
+    /// Holds the lock right after a turn that left nothing of the book to sweep. For the name to forget first is then one path of a tree
+    /// away, and before it may be as far as all names.
+    fn hold_swept<R: Wait>(&self, rt: &R) -> Held<'_, B, L> {
         for _ in 0..MOST_TURNS {
-            let mut kept = self.kept.lock(rt);
-            if !kept.sweep_book() {
-                return kept;
+            match self.kept.hold(rt).swept() {
+                Some(held) => return held,
+                None => yield_now(),
             }
-            drop(kept);
-            yield_now();
         }
-        self.kept.lock(rt)
+        self.kept.hold(rt)
     }
 
     /// Whether the receipts, in order of number, are those of the window's calls. Receipts of earlier calls are passed over. An earlier
@@ -191,6 +184,6 @@ impl<B: Book, L: CallLedger> SharedBook<B, L> {
         ensures kept { IfOk result (λ kept. IsKept B.stands_for B.settings kept) }
     {
         let SharedBook { kept, .. } = self;
-        kept.into_inner().close(passes, receipts)
+        kept.into_kept().close(passes, receipts)
     }
 }

@@ -1,6 +1,6 @@
 //! The book that keeps its history and replays it.
 
-ghost use Rattle.std.specs.Prelude.{◌≡◌, ◌≤◌, ◌↔◌, ℕ, [], IfOk, OnOk, OnErr, IsOk, IsErrOf};
+ghost use Rattle.std.specs.Prelude.{◌≡◌, ◌≤◌, ◌↔◌, ℕ, [], IfOk, IfErr, OnOk, OnErr, IsOk, IsErrOf};
 ghost use Rattle.history.specs.Event.{AreSettings, lagging_of};
 ghost use Rattle.history.specs.History.{tables_of};
 ghost use Rattle.undo_book.specs.PlainPast.{past_in};
@@ -28,6 +28,7 @@ pub struct PlainBook {
 }
 
 impl PlainBook {
+    ghost use Rattle.history.specs.Answers.{TellsLimit};
     ghost use Rattle.history.specs.History.{followed_by};
     ghost use Rattle.undo_book.specs.PlainPast.{AnswersAfter, IsFullAtTheLimit};
 
@@ -80,6 +81,7 @@ impl PlainBook {
         ensures full { (n : ℕ) → IsErrOf result (StepFault.Full n) → self.old.past.stored ≡ n }
         ensures same_store { OnErr result (self.new.past.stored ≡ self.old.past.stored) }
         ensures full_at_the_limit { IsFullAtTheLimit self.old.past event result }
+        ensures by_limit { IfErr result (λ fault. TellsLimit self.old.past.stored self.old.past.settings.cells event fault) }
     {
         if event.moment() >= MOMENT_END {
             return Err(StepFault::BadMoment);
@@ -104,7 +106,7 @@ impl Book for PlainBook {
     ghost use Rattle.history.specs.declared.event.Event.{Event};
     ghost use Rattle.history.specs.Event.{is_admission};
     ghost use Rattle.history.specs.Counts.{counted_of, stores_counted, same_count};
-    ghost use Rattle.history.specs.Answers.{IsTimely, Answers, history_after};
+    ghost use Rattle.history.specs.Answers.{IsTimely, Answers, TellsLimit, history_after};
     ghost use Rattle.history.specs.History.{past_of};
     ghost use Rattle.undo_book.specs.PlainBook.{settings_in, stored_in, StandsFor};
     ghost use Rattle.world_book.specs.Versions.{ForgetsOldest};
@@ -134,7 +136,8 @@ impl Book for PlainBook {
         ensures full { (n : ℕ) → IsErrOf result (StepFault.Full n) → stored_in self.old ≡ n }
         ensures same_store { OnErr result (stored_in self.new ≡ stored_in self.old) }
         ensures settings { settings_in self.new ≡ settings_in self.old }
-        ensures free { ⊥ → IfErr result (λ fault. (fault ≡ StepFault.BadMoment) ⊎ (fault ≡ StepFault.CountEnded)) }
+        ensures by_limit { IfErr result (λ fault. (h : List Event) → StandsFor self.old h →
+            TellsLimit (stored_in self.old) (settings_in self.old).cells event fault) }
 
         // It stores each admission until its owner is forgotten, so it is full exactly where there are as many of these as there may be cells.
         ensures full_at_the_limit { (h : List Event) → StandsFor self.old h → IsTimely (length h) event → IsTrue (is_admission event)

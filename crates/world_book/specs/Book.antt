@@ -12,7 +12,7 @@ use Rattle.history.specs.declared.tables.Tables.{Tables}
 use Rattle.history.specs.declared.book.StepFault.{StepFault}
 use Rattle.history.specs.declared.book.StepFault.TheVariants.{BadMoment, CountEnded, Full, NoMemory}
 use Rattle.history.specs.declared.limits.TheConstants.{MOST_EVENTS}
-use Rattle.history.specs.Answers.{Follows, history_after}
+use Rattle.history.specs.Answers.{Follows, TellsLimit, history_after}
 use Rattle.history.specs.Event.{is_admission}
 use Rattle.history.specs.History.{past_of}
 use Rattle.world_book.specs.Removals.{HasRemoved}
@@ -57,7 +57,7 @@ pub record IsBookOf {W S : Type 0} (by : Ghosts W Tables S Command) (book : Book
 -- an admission only if it does not store as many cells as the limit.
 abbrev pub IsByLimit : (List Event → Type 0) → ℕ → ℕ → Event → StepFault → Type 0
 IsByLimit stands stored limit event (Full n) = (h : List Event) → stands h → limit ≤ count_pairs (pairs_left h)
-IsByLimit stands stored limit event NoMemory = (h : List Event) → stands h → IsTrue (is_admission event) → stored ≢ limit
+IsByLimit stands stored limit event NoMemory = (h : List Event) → stands h → TellsLimit stored limit event NoMemory
 IsByLimit stands stored limit event _ = Unit {0}
 
 -- A book took an event that changes nothing but the clock, or it was not timely. Nobody reads the reply.

@@ -1,4 +1,5 @@
-use Rattle.std.proofs.Common.{◌≡◌, Option, Some, None, sym, ◌∙◌, ap, subst}
+use Rattle.std.proofs.Common.{◌≡◌, Option, Some, None, refl, sym, ◌∙◌, ap, subst}
+use Rattle.std.proofs.lemmas.Bool.{false≢true}
 use Rattle.history.specs.declared.event.Seen.{Seen}
 use Rattle.history.specs.declared.event.Settings.{Settings}
 use Rattle.history.specs.History.{Past, past_of}
@@ -27,3 +28,14 @@ tell_silent-requires g c =
     let past : Past = past_of settings.journal h in
     let is : None ≡ seen_ahead settings past c.args.event = ap seen_in (sym c.in-None.is) ∙ c.in-Ok.ensures.seen h stands in
     record { some = (h, stands, subst (λ (a : Option Seen). IsEcho (reply_of settings past c.args.event) a) (sym is) (echoes settings past c.args.event)) }
+
+-- Of what is seen ahead, only a lookup's view takes memory.
+pub returns-in-Err-clause-step : goal.returns-in-Err-clause-step
+returns-in-Err-clause-step g c = record {
+  answers = c.requires.timely;
+  stands = λ h stands. stands;
+  full = λ n is. cc;
+  same_store = refl;
+  same_settings = refl;
+  by_limit = λ h stands admits. absurd (false≢true (c.in-Err.ensures.admission admits));
+}

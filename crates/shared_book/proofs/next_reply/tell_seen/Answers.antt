@@ -8,4 +8,5 @@ returns-in-Ok-clause-step g c = record {
   full = λ n is. cc;
   same_store = tt;
   same_settings = c.follow.ensures.settings;
+  by_limit = tt;
 }

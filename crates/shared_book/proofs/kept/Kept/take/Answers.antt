@@ -1,8 +1,8 @@
 -- First the window moves on, and then the book takes the event.
-use Rattle.std.proofs.Common.{sym, subst}
+use Rattle.std.proofs.Common.{sym, subst, refl, inl, inr}
 use Rattle.std.proofs.lemmas.Bool.{false≢true}
 use Rattle.history.specs.Answers.{IsTimely}
-use Rattle.shared_book.proofs.RecordLaws.{always_ok, no_memory}
+use Rattle.shared_book.proofs.RecordLaws.{always_ok}
 use Rattle.shared_book.proofs.kept.Kept.take.Goals as goal
 
 pub append-requires-clause-timely : goal.append-requires-clause-timely
@@ -13,17 +13,19 @@ returns-in-Ok-clause-step g c = record {
   between = c.make_room.new.self;
   moves = c.make_room.ensures.moves;
   room = always_ok c.append.result c.in-Ok.ensures.room;
-  taken = c.append.ensures.taken;
+  taken = inl c.append.ensures.taken;
 }
 
 pub returns-in-Err-clause-step : goal.returns-in-Err-clause-step
-returns-in-Err-clause-step g c =
-    let b = g.B.Book in record {
-      between = c.make_room.new.self;
-      moves = c.make_room.ensures.moves;
-      room = tt;
-      taken = no_memory b.stands_for b.settings b.stored g.met.B.Book.one_count c.args.self.now c.make_room.new.self c.make_room.ensures.kept c.make_room.ensures.moves.same_book c.args.pass.now c.args.event c.requires.timely;
-    }
+returns-in-Err-clause-step g c = record {
+  between = c.make_room.new.self;
+  moves = c.make_room.ensures.moves;
+  room = tt;
+  taken = inr (
+    c.in-Err.ensures.full,
+    record { timely = subst (λ n. IsTimely n c.args.event) (sym c.make_room.ensures.moves.same_total) c.requires.timely; told = refl; same = refl; same_pass = refl },
+  );
+}
 
 pub returns-in-Ok-clause-free : goal.returns-in-Ok-clause-free
 returns-in-Ok-clause-free g c = λ free.

@@ -1,8 +1,7 @@
--- Why an event is not timely, and what a timely one for which there is no memory changes.
+-- Why an event is not timely.
 use Rattle.std.proofs.Common.{arith}
-use Rattle.history.specs.Answers.{IsTimely}
 use Rattle.shared_book.specs.Kept.{KeptState}
-use Rattle.shared_book.proofs.RecordLaws.{count_ended, no_copy, too_late}
+use Rattle.shared_book.proofs.RecordLaws.{count_ended, too_late}
 use Rattle.shared_book.proofs.kept.Kept.timely.Goals as goal
 
 pub returns-then-moment-ge-MOMENT_END-clause-err : goal.returns-then-moment-ge-MOMENT_END-clause-err
@@ -18,13 +17,3 @@ returns-then-self-clause-err g c =
     = record { book = i.book; opening = i.opening; first = i.window.first; window = i.window.calls.items; limit = i.window.limit; total = i.total; callers = i.callers } in
     rw (← c.self.view_is) (λ pass. count_ended b.stands_for b.settings b.stored g.met.B.Book.one_count old c.self.invariant.2 pass c.args.event.now
     (omega (arith, c.if-moment-ge-MOMENT_END.false, c.moment.ensures)) (omega (arith, c.if-self.true)))
-
-pub returns-clause-no_memory : goal.returns-clause-no_memory
-returns-clause-no_memory g c =
-    let b = g.B.Book in
-    let i = c.self.inside in
-    let old : KeptState g.row.B.Denot
-    = record { book = i.book; opening = i.opening; first = i.window.first; window = i.window.calls.items; limit = i.window.limit; total = i.total; callers = i.callers } in
-    let timely : IsTimely i.total c.args.event.now
-    = record { moment = omega (arith, c.if-moment-ge-MOMENT_END.false, c.moment.ensures); count_goes_on = omega (arith, c.if-self.false) } in
-    rw (← c.self.view_is) (λ pass. no_copy b.stands_for b.settings b.stored g.met.B.Book.one_count old c.self.invariant.2 pass c.args.event.now timely)

@@ -1,5 +1,5 @@
 use Rattle.std.proofs.Common.{inl, inr}
-use Rattle.shared_book.proofs.shared.SharedBook.split.Goals as goal
+use Rattle.shared_book.proofs.lock.Held.split.Goals as goal
 
 pub returns-clause-refused : goal.returns-clause-refused
 returns-clause-refused g c = λ is.

@@ -1,4 +1,4 @@
-use Rattle.shared_book.proofs.shared.SharedBook.sweep_some.Goals as goal
+use Rattle.shared_book.proofs.lock.Held.sweep_some.Goals as goal
 
 pub returns : goal.returns
 returns g c = record {
