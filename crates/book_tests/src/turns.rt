@@ -67,10 +67,11 @@ fn fill_and_mix(alloc: Global, shelf: &mut Shelf) -> Result<(), Fail>
     Ok(())
 }
 
-/// A turn that visits 256 names of which nothing can be freed, and an admission after it.
+/// A turn that ends the rest of the names in doubt, one that visits 256 of them, of which nothing can be freed, and an admission after it.
 fn turn<R: Abort>(rt: &R, alloc: Global, shelf: &mut Shelf) -> Result<(), Fail>
     requires { IsShelf shelf.old }
 {
+    assert!(rt; shelf.sweep_some(60));
     assert!(rt; shelf.sweep_some(60));
     assert!(rt; shelf.stored() == 301);
     let other = shelf.admit(address(alloc, b"new.test", Rank::Answer, 60)?, 60);
@@ -107,12 +108,14 @@ fn no_flush<R: Abort>(rt: &R, alloc: Global, shelf: &mut Shelf) -> Result<(), Fa
 {
     fill_and_mix(alloc, shelf)?;
     shelf.settle(2);
-    turn(rt, alloc, shelf)
+    assert!(rt; !shelf.sweep_some(60));
+    assert!(rt; shelf.stored() == 300);
+    Ok(())
 }
 
-/// So does a number of which no flush is kept.
+/// A number of which no flush is kept leaves no name in doubt.
 #[test]
-fn a_number_that_is_not_kept_fills_a_turn(rt: HostRuntime) -> Result<(), Fail> {
+fn a_number_that_is_not_kept_leaves_no_name_in_doubt(rt: HostRuntime) -> Result<(), Fail> {
     no_flush(&rt, rt.alloc(), &mut Shelf::new(rt.alloc(), 301))
 }
 

@@ -72,7 +72,7 @@ pub count_push : (kinds : List KindColumn) (own : KindColumn) → is_counted own
 count_push [] own none = ap (λ b. one_if b + 0) none
 count_push (x ∷ kinds) own none = ap (λ n. one_if (is_counted x.column) + n) (count_push kinds own none)
 
-count_put : (kinds : List KindColumn) (place : ℕ) (new d : KindColumn) → place < length kinds
+pub count_put : (kinds : List KindColumn) (place : ℕ) (new d : KindColumn) → place < length kinds
     → count_kinds (slice_set kinds place new) + one_if (is_counted (get_or kinds place d).column) ≡ count_kinds kinds + one_if (is_counted new.column)
 count_put [] place new d low = absurd (omega arith)
 count_put (x ∷ kinds) zero new d low = omega arith

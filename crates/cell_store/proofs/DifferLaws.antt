@@ -1,5 +1,5 @@
 -- No two neighbours of a column have the same content, whatever is done to it.
-use Rattle.std.proofs.Common.{◌≡◌, ℕ, zero, suc, ◌+◌, Bool, true, false, cond, Option, Some, None, List, [], ◌∷◌, length, map, drop, refl, sym, ap, ◌∙◌, subst, arith, inl, inr}
+use Rattle.std.proofs.Common.{◌≡◌, ℕ, zero, suc, ◌+◌, Bool, true, false, cond, Option, Some, None, List, [], ◌∷◌, length, map, drop, refl, sym, ap, ◌∙◌, subst, inl, inr}
 use Rattle.std.specs.Prelude.{◌==◌, ◌&&◌, ◌||◌}
 use Rattle.std.specs.List.{list_any}
 use Rattle.std.proofs.lemmas.Bool.{cases_Bool, eq-eqb, eqb-true, false≢true}
@@ -10,7 +10,7 @@ use Rattle.cell_store.specs.Version.{lowered}
 use Rattle.cell_store.specs.Slots.{held_names, names, renamed_held, renamed}
 use Rattle.cell_store.specs.Merge.{same_held}
 use Rattle.cell_store.specs.Few.{content, contents, same_content, turns, DoDiffer}
-use Rattle.cell_store.proofs.EntryLaws.{Content, content_exact, content_itself, contents_lowered, content_renamed, contents_renamed, renamed_content}
+use Rattle.cell_store.proofs.EntryLaws.{Content, content_exact, content_itself, contents_lowered, contents_renamed, renamed_content}
 use Rattle.cell_store.proofs.FewLaws.{apart_parts}
 
 -- ---- a flush becomes permanent

@@ -1,5 +1,5 @@
 -- The first moment at which a find of a column is dead: by slot and by find.
-use Rattle.std.proofs.Common.{◌≡◌, ℕ, ◌<◌, zero, suc, cond, min, Option, Some, None, List, [], ◌∷◌, length, map, refl, sym, ap, ◌∙◌, arith}
+use Rattle.std.proofs.Common.{◌≡◌, ℕ, ◌<◌, zero, suc, min, Option, Some, None, List, [], ◌∷◌, length, map, refl, ap, ◌∙◌, arith}
 use Rattle.std.specs.Prelude.{fold, slice_get}
 use Rattle.std.specs.List.{AllByRecursion}
 use Rattle.std.specs.Option.{option_map}

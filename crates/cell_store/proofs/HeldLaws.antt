@@ -1,5 +1,5 @@
 -- Names of which no place counts: no version of them has a find, so they can go.
-use Rattle.std.proofs.Common.{◌≡◌, ℕ, zero, suc, ◌+◌, ◌-◌, ◌<◌, ◌≤◌, ◌⊎◌, Bool, true, false, cond, Option, Some, None, List, [], ◌∷◌, length, take, get_or, slice_set, slice_get, refl, sym, ap, ◌∙◌, subst, arith, inl, inr}
+use Rattle.std.proofs.Common.{◌≡◌, ℕ, zero, suc, ◌<◌, Bool, true, false, cond, Option, Some, None, List, [], ◌∷◌, length, get_or, slice_get, refl, sym, ap, ◌∙◌, subst, arith, inl, inr}
 use Rattle.std.specs.Prelude.{◌==◌, ◌||◌, fold, is_some, nat_le, nat_lt, IfSome, swap_remove}
 use Rattle.std.specs.List.{list_any}
 use Rattle.std.specs.Option.{option_map_or}
@@ -7,9 +7,6 @@ use Rattle.std.proofs.lemmas.Bool.{cases_Bool}
 use Rattle.indexmap.specs.IndexMap.{IndexMap, get, Updates}
 use Rattle.dns_name.specs.Labels.{Labels}
 use Rattle.dns_name.specs.Order.{name_eq, name_eq_exact}
-use Rattle.dns_text.specs.declared.record.Question.{Question}
-use Rattle.ranked.specs.declared.find.Find.{Find}
-use Rattle.ranked.specs.declared.cell.Admitted.{Admitted}
 use Rattle.cell_store.specs.declared.version.Place.{Place}
 use Rattle.cell_store.specs.declared.version.Version.{Version}
 use Rattle.cell_store.specs.declared.owner.KindColumn.{KindColumn}
@@ -19,7 +16,7 @@ use Rattle.cell_store.specs.Version.{nothing, later_place, place_at}
 use Rattle.cell_store.specs.Column.{Cells, place_in, has_find, is_counted}
 use Rattle.cell_store.specs.Owner.{cell_in, column_held, column_of}
 use Rattle.cell_store.specs.Count.{count_entries, count_kinds, count_of, one_if}
-use Rattle.cell_store.specs.Store.{cell_by_owner, cell_of, AreCountedFrom, AreLeft, AreSameCells}
+use Rattle.cell_store.specs.Store.{cell_by_owner, cell_of, AreLeft, AreSameCells}
 use Rattle.cell_store.proofs.CountLaws.{count_swap}
 use Rattle.cell_store.proofs.StoreLaws.{forgot_cells}
 
@@ -54,7 +51,7 @@ place_empty cells v off = pick (nat_lt cells.upto v)
     pick true = refl
     pick false = fold_empty v cells.versions nothing refl off
 
-column_empty : (column : Option Cells) (v : ℕ) → option_map_or is_counted column false ≡ false → column_held None column v ≡ None
+pub column_empty : (column : Option Cells) (v : ℕ) → option_map_or is_counted column false ≡ false → column_held None column v ≡ None
 column_empty None v off = refl
 column_empty (Some cells) v off = pick (place_in cells v).left
   where

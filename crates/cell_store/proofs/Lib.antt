@@ -17,6 +17,7 @@ mod PlaceLaws
 mod StoreLaws
 mod HeldLaws
 mod NamedLaws
+mod EmptyLaws
 mod EndLaws
 mod SpotLaws
 mod DifferLaws

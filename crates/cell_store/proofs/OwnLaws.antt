@@ -8,7 +8,7 @@ use Rattle.std.proofs.lemmas.Map.Keys.{IsDistinct-push}
 use Rattle.ranked.specs.declared.find.Find.{Find}
 use Rattle.ranked.specs.declared.find.Scope.TheVariants.{One, Whole}
 use Rattle.ranked.specs.declared.cell.Admitted.{Admitted}
-use Rattle.ranked.specs.Cell.{after_admission, turns_away, is_alive}
+use Rattle.ranked.specs.Cell.{turns_away, is_alive}
 use Rattle.cell_store.specs.declared.version.Place.{Place}
 use Rattle.cell_store.specs.declared.owner.KindColumn.{KindColumn}
 use Rattle.cell_store.specs.declared.owner.WholeFind.{WholeFind}
@@ -17,7 +17,7 @@ use Rattle.cell_store.specs.Version.{after_find, nothing, own, place_at, whole}
 use Rattle.cell_store.specs.Column.{Cells, place_in, is_counted}
 use Rattle.cell_store.specs.Owner.{column_of, IsLeftWithin, IsOwn, IsUpTo, IsSettled, IsWholeUpTo, whole_settled}
 use Rattle.cell_store.specs.Prune.{IsLess}
-use Rattle.cell_store.specs.Sweep.{alive_at, swept, whole_swept, is_dead}
+use Rattle.cell_store.specs.Sweep.{alive_at, swept}
 use Rattle.cell_store.specs.Walk.{IsEach}
 use Rattle.cell_store.specs.HeldLaws.{uncounted_own}
 use Rattle.cell_store.proofs.OwnerLaws.{all_at, all_put, head_not}

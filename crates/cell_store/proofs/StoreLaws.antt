@@ -1,6 +1,6 @@
 -- The cells of all names, when those of one have changed.
 use Rattle.std.proofs.Common.{◌≡◌, ℕ, zero, suc, ◌+◌, ◌≤◌, max, Bool, true, false, cond, Option, Some, None, List, [], ◌∷◌, refl, sym, ap, ◌∙◌, subst, arith, slice_get, inl, inr}
-use Rattle.std.specs.Prelude.{◌==◌, ◌&&◌, ◌||◌, not, nat_lt, position, is_some, length, IfSome}
+use Rattle.std.specs.Prelude.{◌==◌, ◌&&◌, ◌||◌, not, nat_lt, position, is_some, length, IfSome, Result, Ok, Err, OnOk}
 use Rattle.std.specs.Option.{option_map_or}
 use Rattle.std.proofs.lemmas.Bool.{cases_Bool, eq-eqb, false≢true}
 use Rattle.std.specs.List.{AllByRecursion, list_any, position_or_len}
@@ -18,8 +18,8 @@ use Rattle.ranked.specs.Find.{touches, has_kind}
 use Rattle.ranked.specs.Cell.{after_admission}
 use Rattle.cell_store.specs.declared.owner.OwnerCells.{OwnerCells}
 use Rattle.dns_name.specs.Below.{is_at_or_below}
-use Rattle.cell_store.specs.Owner.{cell_in, IsUpTo, CanSettle}
-use Rattle.cell_store.specs.Store.{cell_by_owner, cell_of, name_place, AreUpTo, CanSettleAt, StayBut, StayButAt}
+use Rattle.cell_store.specs.Owner.{cell_in, CanSettle, HasSameCells, IsUpTo}
+use Rattle.cell_store.specs.Store.{cell_by_owner, cell_of, name_place, AreSameCells, AreUpTo, CanSettleAt, StayBut, StayButAt}
 use Rattle.cell_store.specs.Count.{has_pair, has_place, pair_eq, scope_eq, AddPair, KeepPairs, KeepsPlaces}
 use Rattle.cell_store.proofs.PlaceLaws.{or_right}
 
@@ -65,6 +65,15 @@ module _ {S : Type 0} (old before after : IndexMap Labels OwnerCells S) (owner k
           step q.kind v ∙ (ap (λ (n : Labels). cell_by_owner (get name_eq old n) q.kind (cond (list_any (λ kind. kind == q.kind) kinds) (max number v) v)) (name_eq_exact owner q.owner same)
           ∙ sym (ap (λ b. cell_of old q (cond (b && list_any (λ kind. kind == q.kind) kinds) (max number v) v)) same))
       split false apart = sym (ap (λ b. cell_of old q (cond (b && list_any (λ kind. kind == q.kind) kinds) (max number v) v)) apart)
+
+  -- flushes of types of the name can become permanent
+  pub settles_updated : {T E : Type 0} (result : Result T E) (kinds : List ℕ) → OnOk result (AllByRecursion (λ kind. (n : ℕ) → CanSettle n kind new) kinds) → OnOk result (AllByRecursion (λ kind. (n : ℕ) → CanSettleAt n kind owner after) kinds)
+  settles_updated (Err fault) kinds all = tt
+  settles_updated (Ok done) kinds all =
+      let h : Updates name_eq old after owner (Some new) =
+      subst (λ (m : IndexMap Labels OwnerCells S). Updates name_eq m after owner (Some new)) known (subst (λ (k : Labels). Updates name_eq before after k (Some new)) one updates) in
+      let there : get name_eq after owner ≡ Some new = h.0 owner ∙ ap (λ b. cond b (Some new) (get name_eq old owner)) (name_equiv.refl owner) in
+      subst (λ (o : Option OwnerCells). AllByRecursion (λ kind. (n : ℕ) → IfSome o (CanSettle n kind)) kinds) (sym there) all
 
   -- a fact of the cells of each name
   pub each_updated : (P : OwnerCells → Type 0) → (IfSome (get name_eq old owner) P → P new) → (name : Labels) → IfSome (get name_eq old name) P → IfSome (get name_eq after name) P
@@ -219,6 +228,14 @@ module _ {S : Type 0} (old new : IndexMap Labels OwnerCells S) (place : ℕ) (ke
       split : (b : Bool) → (name_place name old.entries == place) ≡ b → IfSome (cond b (Some cells) (get name_eq old name)) P
       split true at = step (subst (λ (o : Option OwnerCells). IfSome o P) (there_at (name_eq name) old.entries place key lent there at).0 was)
       split false off = was
+
+  -- no cell changes
+  pub same_at : HasSameCells lent cells → AreSameCells old new
+  same_at step q v = ap (λ (o : Option OwnerCells). cell_by_owner o q.kind v) (at_place q.owner) ∙ split (name_place q.owner old.entries == place) refl
+    where
+      split : (b : Bool) → (name_place q.owner old.entries == place) ≡ b → cell_by_owner (cond b (Some cells) (get name_eq old q.owner)) q.kind v ≡ cell_of old q v
+      split true at = step q.kind v ∙ ap (λ (o : Option OwnerCells). cell_by_owner o q.kind v) (sym (there_at (name_eq q.owner) old.entries place key lent there at).0)
+      split false off = refl
 
   -- no place counts that did not
   pub pairs_at : KeepsPlaces lent cells → KeepPairs old new

@@ -1,5 +1,6 @@
 -- The places that count against the limit: a find of a whole name, and a column that has a find in some version.
-use Rattle.std.specs.Prelude.{◌≡◌, ◌⊎◌, ℕ, ◌+◌, ◌≤◌, ◌==◌, ◌&&◌, ◌||◌, Bool, true, false, List, [], ◌∷◌, None, is_some, if◌then◌else◌}
+use Rattle.std.specs.Prelude.{◌≡◌, ◌⊎◌, ℕ, ◌+◌, ◌≤◌, ◌==◌, ◌&&◌, ◌||◌, Bool, true, false, List, [], ◌∷◌, None, is_some, length, if◌then◌else◌}
+use Rattle.std.specs.List.{filter}
 use Rattle.std.specs.Option.{option_map_or}
 use Rattle.indexmap.specs.IndexMap.{IndexMap, get}
 use Rattle.dns_name.specs.Labels.{Labels}
@@ -24,6 +25,18 @@ count_kinds (own ∷ kinds) = one_if (is_counted own.column) + count_kinds kinds
 -- the number of places of a name that count
 abbrev pub count_of : OwnerCells → ℕ
 count_of cells = one_if (is_some cells.whole) + count_kinds cells.kinds.items
+
+-- the columns that count
+abbrev pub counted_kinds : List KindColumn → List KindColumn
+counted_kinds kinds = filter (λ own. is_counted own.column) kinds
+
+-- Each column of a name counts, unless a find of the whole name is cached: there a column without a find may hide that one.
+abbrev pub IsTidy : OwnerCells → Type 0
+IsTidy cells = cells.whole ≡ None → length cells.kinds.items ≤ count_of cells
+
+-- Some place of a name counts, and the name is tidy.
+abbrev pub IsInUse : OwnerCells → Type 0
+IsInUse cells = (1 ≤ count_of cells) × IsTidy cells
 
 -- the number of places of some names that count
 abbrev pub count_entries : List (Labels × OwnerCells) → ℕ

@@ -1,5 +1,5 @@
 -- The finds of a name are alive before its first end: lemmas.
-use Rattle.std.proofs.Common.{◌≡◌, ℕ, ◌+◌, ◌-◌, ◌<◌, ◌≤◌, Bool, true, false, cond, min, Option, Some, None, List, [], ◌∷◌, refl, sym, ap, ◌∙◌, subst, arith}
+use Rattle.std.proofs.Common.{◌≡◌, ℕ, ◌+◌, ◌<◌, ◌≤◌, Bool, true, false, cond, min, Option, Some, None, List, [], ◌∷◌, refl, ap, arith}
 use Rattle.std.specs.Prelude.{fold, nat_le, nat_lt, ◌==◌, not, is_some, IfSome}
 use Rattle.std.specs.List.{AllByRecursion}
 use Rattle.std.proofs.lemmas.Bool.{false≢true}
@@ -7,7 +7,6 @@ use Rattle.std.proofs.lemmas.Bool.Decides.{nat_tests}
 use Rattle.ranked.specs.declared.find.Find.{Find}
 use Rattle.ranked.specs.declared.cell.Admitted.{Admitted}
 use Rattle.ranked.specs.Cell.{is_alive}
-use Rattle.ranked.specs.Find.{admission_of}
 use Rattle.cell_store.specs.declared.version.Place.{Place}
 use Rattle.cell_store.specs.declared.version.Version.{Version}
 use Rattle.cell_store.specs.declared.owner.KindColumn.{KindColumn}
@@ -15,7 +14,7 @@ use Rattle.cell_store.specs.declared.owner.WholeFind.{WholeFind}
 use Rattle.cell_store.specs.declared.owner.OwnerCells.{OwnerCells}
 use Rattle.cell_store.specs.Version.{nothing, later_place, place_at}
 use Rattle.cell_store.specs.Column.{Cells, place_in}
-use Rattle.cell_store.specs.Owner.{cell_in, column_of, column_held, whole_cell, whole_held, place_held}
+use Rattle.cell_store.specs.Owner.{cell_in, column_of, column_held, whole_cell, whole_held}
 use Rattle.cell_store.specs.Sweep.{alive_at, is_dead}
 use Rattle.cell_store.specs.Ends.{cell_end, earlier, first_end, kind_earlier, latest, name_end}
 

@@ -4,7 +4,6 @@ use Rattle.ranked.specs.declared.cell.Admitted.{Admitted}
 use Rattle.cell_store.specs.declared.version.Version.{Version}
 use Rattle.cell_store.specs.declared.owner.KindColumn.{KindColumn}
 use Rattle.cell_store.specs.declared.owner.OwnerCells.{OwnerCells}
-use Rattle.cell_store.specs.Column.{Cells}
 use Rattle.cell_store.specs.Owner.{whole_cell}
 
 -- the latest moment: an empty cell ends then

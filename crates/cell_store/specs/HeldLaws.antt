@@ -20,7 +20,7 @@ use Rattle.cell_store.specs.declared.owner.WholeFind.{WholeFind}
 use Rattle.cell_store.specs.declared.owner.OwnerCells.{OwnerCells}
 use Rattle.cell_store.specs.Version.{nothing, later_place, place_at}
 use Rattle.cell_store.specs.Column.{Cells, place_in, has_find, is_counted}
-use Rattle.cell_store.specs.Owner.{cell_in, column_of, column_held, whole_held, whole_cell, place_held, IsOwn, IsUpTo}
+use Rattle.cell_store.specs.Owner.{cell_in, column_of, column_held, whole_held, whole_cell, IsOwn, IsUpTo}
 use Rattle.cell_store.specs.Store.{cell_of, cell_by_owner, AreAbout, AreUpTo}
 use Rattle.cell_store.specs.Count.{has_place, has_pair, pair_of}
 

@@ -11,6 +11,7 @@ pub mod WalkLaws
 pub mod Count
 pub mod Sweep
 pub mod StoredLaws
+pub mod TopLaws
 pub mod HeldLaws
 pub mod Seed
 pub mod Ends

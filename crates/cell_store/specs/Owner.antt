@@ -71,6 +71,10 @@ pub record IsUpTo (top : ℕ) (cells : OwnerCells) : Type 0 where
   pub wide : IfSome cells.whole (λ whole. whole.find.scope ≡ Whole)
   pub own : AllByRecursion (λ own. IsOwn own.kind own.column) cells.kinds.items
 
+-- No admission to a name has reached a version past some one.
+abbrev pub HasTop : OwnerCells → Type 0
+HasTop cells = (top : ℕ) × IsUpTo top cells
+
 -- It is the first place of a column of this type.
 pub record IsPlaceOf (kinds : List KindColumn) (kind place : ℕ) : Type 0 where
   pub low : place < length kinds

@@ -12,7 +12,7 @@ use Rattle.ranked.specs.declared.cell.Admitted.{Admitted}
 use Rattle.ranked.specs.Find.{touches}
 use Rattle.cell_store.specs.declared.owner.OwnerCells.{OwnerCells}
 use Rattle.cell_store.specs.Owner.{cell_in, IsUpTo, CanSettle}
-use Rattle.cell_store.specs.Count.{count_of, stored_in}
+use Rattle.cell_store.specs.Count.{count_of, stored_in, IsInUse}
 
 -- the content of a cell in a version, by the cells of its name
 abbrev pub cell_by_owner : Option OwnerCells → ℕ → ℕ → Option (Admitted Find)
@@ -25,6 +25,10 @@ cell_of owners question v = cell_by_owner (get name_eq owners question.owner) qu
 -- No admission has reached a version past this one.
 abbrev pub AreUpTo : {S : Type 0} → ℕ → IndexMap Labels OwnerCells S → Type 0
 AreUpTo top owners = (name : Labels) → IfSome (get name_eq owners name) (IsUpTo top)
+
+-- No admission has reached a version past some one.
+abbrev pub HaveTop : {S : Type 0} → IndexMap Labels OwnerCells S → Type 0
+HaveTop owners = (top : ℕ) × AreUpTo top owners
 
 -- A flush of a type of a name can become permanent with no memory.
 abbrev pub CanSettleAt : {S : Type 0} → ℕ → ℕ → Labels → IndexMap Labels OwnerCells S → Type 0
@@ -59,9 +63,9 @@ IsDroppedAt place old new false = (new ≡ old) × IfSome (slice_get old place) 
 abbrev pub AreCountedFrom : {S : Type 0} → ℕ → IndexMap Labels OwnerCells S → Type 0
 AreCountedFrom place owners = (i : ℕ) → place ≤ i → IfSome (slice_get owners.entries i) (λ entry. 1 ≤ count_of entry.1)
 
--- Each name has a place that counts.
+-- Each name has a place that counts, and each column counts unless it may hide a find of the whole name.
 abbrev pub EachCounts : List (Labels × OwnerCells) → Type 0
-EachCounts entries = (i : ℕ) → IfSome (slice_get entries i) (λ entry. 1 ≤ count_of entry.1)
+EachCounts entries = (i : ℕ) → IfSome (slice_get entries i) (λ entry. IsInUse entry.1)
 
 -- the place of a name among the entries, or their number if it is not there
 abbrev pub name_place : Labels → List (Labels × OwnerCells) → ℕ

@@ -24,6 +24,8 @@ mod versions;
 mod column;
 // The cells of one name.
 mod owner;
+// Columns without a find.
+mod empty;
 // The content of a cell in a version.
 mod content;
 // Names whose versions may have different content.
@@ -34,6 +36,7 @@ mod seed;
 mod store;
 
 pub use column::Column;
+pub use empty::drop_empty_at;
 pub use owner::{KindColumn, OwnerCells, WholeFind};
 pub use seed::NameSeed;
 pub use store::{

@@ -1,6 +1,6 @@
 //! The cells of one name.
 
-ghost use Rattle.std.specs.Prelude.{◌≡◌, ◌<◌, ◌≤◌, ◌==◌, ◌+◌, ◌-◌, ◌^◌, ℕ, [], ◌∷◌, Some, None, true, false, not, max, map, length, vec_len, is_some};
+ghost use Rattle.std.specs.Prelude.{◌≡◌, ◌<◌, ◌≤◌, ◌==◌, ◌+◌, ◌-◌, ◌^◌, ℕ, [], ◌∷◌, Some, None, true, false, not, max, map, length, vec_len, vec_capacity, is_some};
 ghost use Rattle.std.specs.Prelude.{IfOk, IsOk, OnOk, OnErr, IfSome, IfNone, if◌then◌else◌};
 ghost use Rattle.std.specs.List.{AllByRecursion, list_any};
 ghost use Rattle.std.specs.Option.{option_map_or};
@@ -105,7 +105,7 @@ fn settle_each(kinds: &mut Vec<KindColumn>, number: u64)
 
 impl OwnerCells {
     ghost use Rattle.cell_store.specs.Owner.{cell_in, CanSettle, HasSameCells, IsUpTo, KeepsSettling, KeepsUpTo, whole_settled};
-    ghost use Rattle.cell_store.specs.Count.{count_of, has_place, AddsPlace, HasSamePlaces, KeepsPlaces, LosesFinds};
+    ghost use Rattle.cell_store.specs.Count.{count_of, has_place, AddsPlace, HasSamePlaces, IsTidy, KeepsPlaces, LosesFinds};
 
     /// No cells.
     pub fn new(alloc: Global) -> OwnerCells
@@ -114,6 +114,7 @@ impl OwnerCells {
         ensures settles { (n k : ℕ) → CanSettle n k result }
         ensures count { count_of result ≡ 0 }
         ensures places { (scope : Scope) → has_place result scope ≡ false }
+        ensures tidy { IsTidy result }
     {
         OwnerCells {
             alloc,
@@ -130,6 +131,8 @@ impl OwnerCells {
         ensures settles { (n k : ℕ) → n ≤ top → CanSettle n k self.new }
         ensures count { count_of self.new ≡ 1 }
         ensures places { AddsPlace Whole self.old self.new }
+        ensures tidy { IsTidy self.new }
+        ensures room { vec_capacity self.new.kinds ≡ 0 }
     {
         // The list goes, with its room: it counts no more, and may have had a column for each of many types.
         self.kinds = Vec::new(self.alloc);
@@ -165,6 +168,9 @@ impl OwnerCells {
         ensures settles { KeepsSettling self.old self.new }
         ensures places { HasSamePlaces self.old self.new }
         ensures opened { OnOk result ((1 ≤ vec_len self.new.kinds) × IsPlaceOf self.new.kinds.items kind (vec_len self.new.kinds - 1)) }
+        ensures size { (vec_len self.new.kinds ≤ vec_len self.old.kinds + 1)
+            × OnErr result (vec_len self.new.kinds ≡ vec_len self.old.kinds) }
+        ensures room { vec_capacity self.new.kinds ≤ max (vec_capacity self.old.kinds) (vec_len self.new.kinds) }
     {
         let column = self.derived(top)?;
         // Most names have one type: a growth by the usual rule would take room for four.
@@ -199,6 +205,7 @@ impl OwnerCells {
         ensures settles { KeepsSettling self.old self.new }
         ensures places { HasSamePlaces self.old self.new }
         ensures opened { OnOk result (AllByRecursion (λ kind. (n : ℕ) → CanSettle n kind self.new) kinds.now) }
+        ensures still { self.old.whole ≡ None → self.new ≡ self.old }
     {
         for kind in kinds {
             self.open(*kind, top)?;
@@ -215,6 +222,8 @@ impl OwnerCells {
         ensures settles { KeepsSettling self.old self.new }
         ensures places { HasSamePlaces self.old self.new }
         ensures place { IfOk result (IsPlaceOf self.new.kinds.items kind) }
+        ensures size { (vec_len self.new.kinds ≤ vec_len self.old.kinds + one_if (not (has_place self.old (One kind))))
+            × OnErr result (vec_len self.new.kinds ≡ vec_len self.old.kinds) }
         ensures free { has_place self.old (One kind) ≡ true → IsOk result }
     {
         if let Some(place) = place_of(&self.kinds, kind) {
@@ -257,6 +266,7 @@ impl OwnerCells {
         ensures count { (count_of self.new ≤ count_of self.old + one_if (not (has_place self.old (One kind))))
             × AddsPlace (One kind) self.old self.new }
         ensures free { has_place self.old (One kind) ≡ true → IsOk result }
+        ensures tidy { IsTidy self.old → IsTidy self.new }
     {
         let place = self.place_for(kind, top)?;
         let outranked = self.turns_away(find.find(), moment);
@@ -276,6 +286,7 @@ impl OwnerCells {
         ensures count { count_of self.new ≤ count_of self.old + one_if (not (has_place self.old find.scope)) }
         ensures places { AddsPlace find.scope self.old self.new }
         ensures free { has_place self.old find.scope ≡ true → IsOk result }
+        ensures tidy { IsTidy self.old → IsTidy self.new }
     {
         match find.find().scope {
             Scope::One(kind) => self.admit_kind(find, kind, moment, top),

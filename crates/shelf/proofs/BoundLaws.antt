@@ -26,7 +26,8 @@ use Rattle.winner_tree.specs.Tree.{moment_at, never}
 use Rattle.shelf.specs.declared.settling.Settling.{Settling}
 use Rattle.shelf.specs.declared.shelf.KeptFlush.{KeptFlush}
 use Rattle.shelf.specs.declared.shelf.Shelf.{Shelf}
-use Rattle.shelf.specs.Clean.{AreKeyed, IsAlive, IsClean, IsEnd}
+use Rattle.shelf.specs.Clean.{zeros_to, AreKeyed, IsAlive, IsClean, IsEnd}
+use Rattle.shelf.specs.Settling.{most_left}
 use Rattle.shelf.specs.Told.{IsShelf}
 use Rattle.shelf.specs.First.{life_at, name_life, AreBounds}
 use Rattle.shelf.proofs.LifeLaws.{name_most, whole_most}
@@ -122,10 +123,14 @@ bound_at kept entries ends once keyed i low =
     let same : get_or ends i never ≡ get_or ends i 0 = get_or_default ends i never 0 low in
     omega (arith, end_low kept e (get_or ends i 0) (all_at Once entries i e once there.1) end, life, same)
 
+-- no flush has names left to reach, so no moment is in doubt
+pub no_doubt : (shelf : Shelf) → IsShelf shelf → shelf.settlings.items ≡ [] → shelf.ends.left ≡ 0
+no_doubt shelf is none = omega (arith, is.doubt, ap most_left none)
+
 pub shelf_bounds : (shelf : Shelf) → IsShelf shelf → IsUnique name_eq shelf.owners → AreBounds shelf.settlings.items shelf.kept.items shelf.owners.entries shelf.ends.moments
 shelf_bounds shelf is unique none = (
-  is.ends.now.size,
+  is.ends.size,
   λ i low.
       subst (λ (s : List Settling). moment_at shelf.ends.moments i ≤ life_at s shelf.kept.items shelf.owners.entries i) (sym none)
-      (bound_at shelf.kept.items shelf.owners.entries shelf.ends.moments (each_once shelf.top shelf.owners.entries unique is.upto) is.ends.now i low),
+      (bound_at shelf.kept.items shelf.owners.entries shelf.ends.moments (each_once shelf.top shelf.owners.entries unique is.upto) (subst (λ n. AreKeyed (IsEnd shelf.kept.items) shelf.owners.entries (zeros_to n shelf.ends.moments)) (no_doubt shelf is none) is.ends.now) i low),
 )

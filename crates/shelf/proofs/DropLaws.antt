@@ -5,6 +5,7 @@ use Rattle.std.proofs.Math.ListN.{set, length-set}
 use Rattle.std.proofs.lemmas.Bool.Decides.{nat_tests}
 use Rattle.std.proofs.lemmas.List.{length-take-le}
 use Rattle.std.proofs.lemmas.Map.Entries.{length-keys_of}
+use Rattle.std.specs.List.{position_or_len}
 use Rattle.std.specs.Map.{keys_of}
 use Rattle.indexmap.specs.IndexMap.{IndexMap, get}
 use Rattle.dns_name.specs.Labels.{Labels}
@@ -18,11 +19,12 @@ use Rattle.shelf.specs.declared.ends.Ends.{Ends}
 use Rattle.shelf.specs.declared.lasts.Lasts.{Lasts}
 use Rattle.shelf.specs.declared.settling.Settling.{Settling}
 use Rattle.shelf.specs.declared.shelf.KeptFlush.{KeptFlush}
-use Rattle.shelf.specs.Clean.{evens, AreBy, AreEnds, AreKeyed, IsEnd}
+use Rattle.shelf.specs.Clean.{evens, sure, AreBy, AreEnds, AreKeyed, IsEnd}
 use Rattle.shelf.specs.Lasts.{AreLow, AreWinners}
 use Rattle.shelf.specs.Settling.{settled_version, AreReached, IsMoved, IsReaching, IsSettling}
 use Rattle.shelf.proofs.AboutLaws.{about_same}
-use Rattle.shelf.proofs.EndLaws.{ends_reset, keyed_swap, low_by}
+use Rattle.shelf.proofs.DoubtLaws.{keyed_lower, low_lower, zeros_length}
+use Rattle.shelf.proofs.EndLaws.{end_zero, ends_reset, keyed_swap, low_by}
 use Rattle.shelf.proofs.EvenLaws.{by_none}
 use Rattle.shelf.proofs.LowLaws.{life_like, low_swap}
 use Rattle.shelf.proofs.SettlingLaws.{all_each, reached_low, swapped_place, IsThere}
@@ -49,10 +51,10 @@ module _ {S : Type 0} (old new : IndexMap Labels OwnerCells S) (place : ℕ) (e 
           swapped_place e.0 q.owner apart old.entries (min left (length old.entries)) (omega arith) d place low was_there short in
           same q (after_settle (is_at_or_below q.owner zone) number v) ∙ (reached_low zone number left old is q v far' ∙ sym (same q v))
 
-pub same_reached : {S : Type 0} (old new : IndexMap Labels OwnerCells S) → new.entries ≡ old.entries → AreSameCells old new → (zone : Labels) (number left : ℕ) → AreReached zone number left old → AreReached zone number left new
+pub same_reached : {S : Type 0} (old new : IndexMap Labels OwnerCells S) → keys_of new.entries ≡ keys_of old.entries → AreSameCells old new → (zone : Labels) (number left : ℕ) → AreReached zone number left old → AreReached zone number left new
 same_reached old new put same zone number left is q v far =
     same q (after_settle (is_at_or_below q.owner zone) number v)
-    ∙ (is q v (subst (λ (l : List (Labels × OwnerCells)). left ≤ name_place q.owner l) put far) ∙ sym (same q v))
+    ∙ (is q v (subst (λ (l : List Labels). left ≤ position_or_len (name_eq q.owner) l) put far) ∙ sym (same q v))
 
 -- the name that the clause speaks of
 pub gone_at : {S : Type 0} (entries : List (Labels × OwnerCells)) (new : IndexMap Labels OwnerCells S) (place : ℕ) (e : Labels × OwnerCells) (removed : Bool) → slice_get entries place ≡ Some e → removed ≡ true
@@ -88,7 +90,7 @@ swapped_size xs place d = length-take-le (length xs - 1) (set xs place (get_or x
 -- the entry of a name has changed, if the name is there; else nothing has
 pub ends_absent : (kept : List KeptFlush) (name : Labels) (old new : List (Labels × OwnerCells)) (ends : Ends) → AreEnds kept old ends → StayBut name old new → length new ≡ length old → None ≡ position (name_eq name) (keys_of old) → AreEnds kept new ends
 ends_absent kept name old new ends is stay size none = ends_reset kept name old new ends ends is stay size
-    (by_none ends ends (name_place name old) (length (keys_of old)) (is.now.size ∙ sym (length-keys_of old)) is.flags (refl, refl) none refl refl)
+    (by_none ends ends (name_place name old) (length (keys_of old)) (is.size ∙ sym (length-keys_of old)) is.flags (refl, refl) refl none refl refl)
 
 -- the place of a name that is there
 pub spot_of : (p n place : ℕ) → Some place ≡ cond (nat_lt p n) (Some p) None → (place ≡ p) × (p < n)
@@ -122,12 +124,13 @@ module _ (before middle new : List (Labels × OwnerCells)) (place : ℕ) (d : La
         (low_swap flushes middle l was.lasts.ends.items place d (long ∙ sym size) (wide ∙ sym size) (omega (arith, size, low))
         (λ i off some. omega (arith, was_low i some, life_like flushes before middle i i (others i off)))))
 
-    pub ends_gone : AreEnds kept before was → AreEnds kept new (record { moments = after.moments; mixed = after.mixed; lasts = lasts })
+    pub ends_gone : AreEnds kept before was → AreEnds kept new (record { moments = after.moments; mixed = after.mixed; left = after.left; lasts = lasts })
     ends_gone is = record {
-      now = subst (λ (l : List ℕ). AreKeyed (IsEnd kept) new l) (sym by.moments) (keyed_gone (IsEnd kept) was.moments is.now);
+      size = sym (zeros_length after.left after.moments) ∙ (by.sure.size ∙ (keyed_gone (IsEnd kept) (sure was) is.now).size);
+      now = keyed_lower (IsEnd kept) (end_zero kept) new (swap_remove (sure was) place 0) (sure after) by.sure (keyed_gone (IsEnd kept) (sure was) is.now);
       ever = subst (λ (l : List ℕ). AreKeyed (IsEnd []) new l) (sym by.unmixed) (keyed_gone (IsEnd []) (evens was) is.ever);
       flags = by.flags;
-      low = low_gone kept was.moments after.moments is.now.size by.moments is.winners.size is.low;
+      low = low_lower kept new (swap_remove (sure was) place 0) (sure after) lasts.ends.items by.sure (low_gone kept (sure was) (swap_remove (sure was) place 0) is.now.size refl is.winners.size is.low);
       low_ever = low_gone [] (evens was) (evens after) is.ever.size by.unmixed is.winners.size is.low_ever;
       winners = tree middle d entries (winners_same middle was.lasts after.lasts by.lasts (winners_named before middle was.lasts names is.winners));
     }

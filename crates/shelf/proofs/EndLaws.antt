@@ -29,10 +29,11 @@ use Rattle.ranked.specs.Flush.{covers}
 use Rattle.shelf.specs.declared.shelf.Shelf.{Shelf}
 use Rattle.shelf.specs.declared.shelf.KeptFlush.{KeptFlush}
 use Rattle.shelf.specs.Kept.{is_kept, is_version}
-use Rattle.shelf.specs.Clean.{dropped, evens, fitted, touched, AreBy, AreEnds, AreEvened, AreKeyed, IsClean, IsEnd}
+use Rattle.shelf.specs.Clean.{dropped, evens, fitted, sure, touched, zeros_to, AreBy, AreEnds, AreEvened, AreKeyed, EndsMixed, IsClean, IsEnd, IsLower}
 use Rattle.shelf.specs.Lasts.{last_at, AreLow, AreWinners, IsShaped}
 use Rattle.shelf.specs.declared.ends.Ends.{Ends}
 use Rattle.shelf.specs.declared.lasts.Lasts.{Lasts}
+use Rattle.shelf.proofs.DoubtLaws.{keyed_lower, low_lower, lower_fitted, lower_same, lower_twice, zeros_high, zeros_length, zeros_low}
 use Rattle.shelf.proofs.LowLaws.{low_dropped, low_kept, low_lasts, low_still, AreStill}
 use Rattle.shelf.proofs.ListLaws.{always_some, append_zero, get_set_other, get_set_same, get_some, get_take, lt_or, same_or, set_zero, some_map}
 use Rattle.shelf.proofs.WinnerLaws.{same_size, winners_named, winners_same}
@@ -244,10 +245,11 @@ keyed_kept kept more step entries ends keyed = keyed_map (IsEnd kept) (IsEnd mor
 pub ends_kept : (kept more : List KeptFlush) → ((q : Question) (v : ℕ) → is_version kept q v ≡ true → is_version more q v ≡ true) → (entries : List (Labels × OwnerCells)) (ends : Ends)
     → AreEnds kept entries ends → AreEnds more entries ends
 ends_kept kept more step entries ends is = record {
-  now = keyed_kept kept more step entries ends.moments is.now;
+  size = is.size;
+  now = keyed_kept kept more step entries (sure ends) is.now;
   ever = is.ever;
   flags = is.flags;
-  low = low_kept kept more step entries ends.moments ends.lasts.ends.items is.low;
+  low = low_kept kept more step entries (sure ends) ends.lasts.ends.items is.low;
   low_ever = is.low_ever;
   winners = is.winners;
 }
@@ -262,11 +264,12 @@ pub ends_by : (kept : List KeptFlush) (old new : List (Labels × OwnerCells)) (f
     → ((P : Labels × OwnerCells → ℕ → Type 0) → ((e : Labels × OwnerCells) → P e 0) → (l : List ℕ) → AreKeyed P old l → AreKeyed P new (f l)) → ((l : List ℕ) → length l ≡ length old → AreStill old new l (f l))
     → keys_of new ≡ keys_of old → AreBy f was ends → AreEnds kept old was → AreEnds kept new ends
 ends_by kept old new f was ends step still names by is = record {
-  now = subst (λ (l : List ℕ). AreKeyed (IsEnd kept) new l) (sym by.moments) (step (IsEnd kept) (end_zero kept) was.moments is.now);
+  size = sym (zeros_length ends.left ends.moments) ∙ (by.sure.size ∙ (step (IsEnd kept) (end_zero kept) (sure was) is.now).size);
+  now = keyed_lower (IsEnd kept) (end_zero kept) new (f (sure was)) (sure ends) by.sure (step (IsEnd kept) (end_zero kept) (sure was) is.now);
   ever = subst (λ (l : List ℕ). AreKeyed (IsEnd []) new l) (sym by.unmixed) (step (IsEnd []) (end_zero []) (evens was) is.ever);
   flags = by.flags;
-  low = low_by kept new f (λ l. l) was.moments ends.moments was.lasts.ends.items ends.lasts.ends.items by.moments by.lasts.0
-      (low_still kept old new was.moments (f was.moments) was.lasts.ends.items (still was.moments is.now.size) is.low);
+  low = low_lower kept new (f (sure was)) (sure ends) ends.lasts.ends.items by.sure (low_by kept new f (λ l. l) (sure was) (f (sure was)) was.lasts.ends.items ends.lasts.ends.items refl by.lasts.0
+      (low_still kept old new (sure was) (f (sure was)) was.lasts.ends.items (still (sure was) is.now.size) is.low));
   low_ever = low_by [] new f (λ l. l) (evens was) (evens ends) was.lasts.ends.items ends.lasts.ends.items by.unmixed by.lasts.0
       (low_still [] old new (evens was) (f (evens was)) was.lasts.ends.items (still (evens was) is.ever.size) is.low_ever);
   winners = winners_same new was.lasts ends.lasts by.lasts (winners_named old new was.lasts names is.winners);
@@ -284,11 +287,12 @@ or_false false b is = let no : false ≡ true = is in absurd cc
 -- a flush has gone: only names that are mixed are to be visited
 pub ends_mixed : (kept more : List KeptFlush) (entries : List (Labels × OwnerCells)) (was ends : Ends) → AreEnds kept entries was → AreEvened was ends → AreEnds more entries ends
 ends_mixed kept more entries was ends is by = record {
-  now = subst (λ (l : List ℕ). AreKeyed (IsEnd more) entries l) (sym by.moments) (keyed_kept [] more (λ q v there. or_false (v == 0) (is_kept more q v) there) entries (evens was) is.ever);
+  size = by.size ∙ is.size;
+  now = keyed_lower (IsEnd more) (end_zero more) entries (evens was) (sure ends) by.sure (keyed_kept [] more (λ q v there. or_false (v == 0) (is_kept more q v) there) entries (evens was) is.ever);
   ever = subst (λ (l : List ℕ). AreKeyed (IsEnd []) entries l) (sym by.unmixed) is.ever;
   flags = by.flags;
-  low = low_by more entries (λ l. l) (λ l. l) (evens was) ends.moments was.lasts.ends.items ends.lasts.ends.items by.moments by.lasts.0
-      (low_kept [] more (λ q v there. or_false (v == 0) (is_kept more q v) there) entries (evens was) was.lasts.ends.items is.low_ever);
+  low = low_lower more entries (evens was) (sure ends) ends.lasts.ends.items by.sure (low_by more entries (λ l. l) (λ l. l) (evens was) (evens was) was.lasts.ends.items ends.lasts.ends.items refl by.lasts.0
+      (low_kept [] more (λ q v there. or_false (v == 0) (is_kept more q v) there) entries (evens was) was.lasts.ends.items is.low_ever));
   low_ever = low_by [] entries (λ l. l) (λ l. l) (evens was) (evens ends) was.lasts.ends.items ends.lasts.ends.items by.unmixed by.lasts.0 is.low_ever;
   winners = winners_same entries was.lasts ends.lasts by.lasts is.winners;
 }
@@ -302,6 +306,69 @@ pub version_more : (kept : List KeptFlush) (own : KeptFlush) (q : Question) (v :
 version_more kept own q v there =
     ap (λ b. v == 0 || b) (list_any-append (λ (x : KeptFlush). x.number == v && covers x.flush q) kept (own ∷ []))
     ∙ or_more (v == 0) (list_any (λ (x : KeptFlush). x.number == v && covers x.flush q) kept) (list_any (λ (x : KeptFlush). x.number == v && covers x.flush q) (own ∷ [])) there
+
+-- Each moment that is sure was so before, or is right whatever flushes are kept, or is 0.
+abbrev AreSettled : Ends → Ends → Type 0
+AreSettled was ends = (i : ℕ) → (get_or (sure ends) i 0 ≡ 0) ⊎ ((get_or (sure ends) i 0 ≡ get_or (sure was) i 0) ⊎ (get_or (sure ends) i 0 ≡ get_or (evens was) i 0))
+
+pub ends_settled : (kept : List KeptFlush) (entries : List (Labels × OwnerCells)) (was ends : Ends) → length ends.moments ≡ length was.moments → IsLower (evens was) (evens ends) → length ends.mixed.items ≡ length ends.moments → ends.lasts ≡ was.lasts
+    → AreSettled was ends → AreEnds kept entries was → AreEnds kept entries ends
+ends_settled kept entries was ends size even flags same settled is = record {
+  size = size ∙ is.size;
+  now = record {
+    size = zeros_length ends.left ends.moments ∙ (size ∙ is.size);
+    each = λ i. elim (settled i) [
+      | inl none ↦ subst (λ n. IfSome (slice_get entries i) (λ e. IsEnd kept e n)) (sym none) (always_some (λ e. IsEnd kept e 0) (slice_get entries i) (end_zero kept))
+      | inr known ↦ elim known [
+        | inl before ↦ subst (λ n. IfSome (slice_get entries i) (λ e. IsEnd kept e n)) (sym before) (is.now.each i)
+        | inr ever ↦ subst (λ n. IfSome (slice_get entries i) (λ e. IsEnd kept e n)) (sym ever) (ever_now.each i)
+      ]
+    ];
+  };
+  ever = keyed_lower (IsEnd []) (end_zero []) entries (evens was) (evens ends) even is.ever;
+  flags = flags;
+  low = λ i some. elim (settled i) [
+    | inl none ↦ absurd (omega (arith, some, none))
+    | inr known ↦ elim known [
+      | inl before ↦ omega (arith, is.low i (omega (arith, some, before)), ap (λ (l : Lasts). last_at l.ends.items i) same)
+      | inr ever ↦ omega (arith, ever_low i (omega (arith, some, ever)), ap (λ (l : Lasts). last_at l.ends.items i) same)
+    ]
+  ];
+  low_ever = low_lower [] entries (evens was) (evens ends) ends.lasts.ends.items even (subst (λ (l : Lasts). AreLow [] entries (evens was) l.ends.items) (sym same) is.low_ever);
+  winners = subst (λ (l : Lasts). AreWinners entries l) (sym same) is.winners;
+}
+  where
+    ever_now : AreKeyed (IsEnd kept) entries (evens was)
+    ever_now = keyed_kept [] kept (λ q v there. or_false (v == 0) (is_kept kept q v) there) entries (evens was) is.ever
+
+    ever_low : AreLow kept entries (evens was) was.lasts.ends.items
+    ever_low = low_kept [] kept (λ q v there. or_false (v == 0) (is_kept kept q v) there) entries (evens was) was.lasts.ends.items is.low_ever
+
+-- the name at a place was the last in doubt
+pub place_settled : (was ends : Ends) (place : ℕ) → was.left ≡ place + 1 → ends.left ≡ place → EndsMixed place was.moments was.mixed.items ends.moments → AreSettled was ends
+place_settled was ends place before now mixed i = elim (lt_or i place) [
+  | inl low ↦ inl (ap (λ n. get_or (zeros_to n ends.moments) i 0) now ∙ zeros_low place ends.moments i low)
+  | inr past ↦ elim mixed [
+    | inl ended ↦
+        let moment : get_or (sure ends) i 0 ≡ get_or (set was.moments place 0) i 0 = read past ∙ ap (λ (l : List ℕ). get_or l i 0) ended in
+        elim (same_or i place) [
+          | inl here ↦ inl (moment ∙ (ap (λ n. get_or (set was.moments place 0) n 0) here ∙ set_zero was.moments place))
+          | inr off ↦ inr (inl (moment ∙ (get_or-set_other was.moments place i 0 0 off ∙ sym (known past off))))
+        ]
+    | inr same ↦
+        let moment : get_or (sure ends) i 0 ≡ get_or was.moments i 0 = read past ∙ ap (λ (l : List ℕ). get_or l i 0) same.0 in
+        elim (same_or i place) [
+          | inl here ↦ inr (inr (moment ∙ (ap (λ n. get_or was.moments n 0) here ∙ (sym same.1 ∙ sym (ap (λ n. get_or (evens was) n 0) here)))))
+          | inr off ↦ inr (inl (moment ∙ sym (known past off)))
+        ]
+  ]
+]
+  where
+    read : place ≤ i → get_or (sure ends) i 0 ≡ get_or ends.moments i 0
+    read past = ap (λ n. get_or (zeros_to n ends.moments) i 0) now ∙ zeros_high place ends.moments i past
+
+    known : place ≤ i → (i ≡ place → ⊥) → get_or (sure was) i 0 ≡ get_or was.moments i 0
+    known past off = zeros_high was.left was.moments i (omega (arith, before, past, off))
 
 -- a name has changed, and is to be visited
 pub ends_reset : (kept : List KeptFlush) (name : Labels) (old new : List (Labels × OwnerCells)) (was ends : Ends) → AreEnds kept old was → StayBut name old new → length new ≡ length old
@@ -324,10 +391,12 @@ pub reset_ends : (shelf : Shelf) (owners : IndexMap Labels OwnerCells NameSeed) 
     → length owners.entries ≡ length shelf.owners.entries → AreBy (λ l. set l (name_place flush.name shelf.owners.entries) 0) shelf.ends ends → AreEnds shelf.kept.items owners.entries ends
 reset_ends shelf owners flush ends is stay size by = ends_reset shelf.kept.items flush.name shelf.owners.entries owners.entries shelf.ends ends is stay size by
 
-by_twice : (f g : List ℕ → List ℕ) (a b c : Ends) → AreBy f a b → AreBy g b c → AreBy (λ l. g (f l)) a c
-by_twice f g a b c first then = record {
+by_twice : (f g : List ℕ → List ℕ) (a b c : Ends) → ((was now : List ℕ) → IsLower was now → IsLower (g was) (g now)) → AreBy f a b → AreBy g b c → AreBy (λ l. g (f l)) a c
+by_twice f g a b c step first then = record {
   moments = then.moments ∙ ap g first.moments;
   unmixed = then.unmixed ∙ ap g first.unmixed;
+  sure = lower_twice (g (f (sure a))) (g (sure b)) (sure c) (step (f (sure a)) (sure b) first.sure) then.sure;
+  left = omega (arith, first.left, then.left);
   flags = then.flags;
   lasts = (then.lasts.0 ∙ first.lasts.0, then.lasts.1 ∙ first.lasts.1);
 }
@@ -339,8 +408,11 @@ module _ (shelf : Shelf) (owners : IndexMap Labels OwnerCells NameSeed) (find le
   held_moments l = fitted (length owners.entries) (touched (name_place find.owner shelf.owners.entries) l)
 
   held_by : AreBy held_moments shelf.ends ends
-  held_by = by_twice (touched (name_place find.owner shelf.owners.entries)) (fitted (length owners.entries)) shelf.ends middle ends
+  held_by = by_twice (touched (name_place find.owner shelf.owners.entries)) (fitted (length owners.entries)) shelf.ends middle ends (lower_fitted (length owners.entries))
       (subst (λ (x : Find). AreBy (touched (name_place x.owner shelf.owners.entries)) shelf.ends middle) same first) then
+
+  pub held_left : ends.left ≤ shelf.ends.left
+  held_left = held_by.left
 
   pub held_shape : IsShaped ends.lasts
   held_shape = (winners_same shelf.owners.entries shelf.ends.lasts ends.lasts held_by.lasts is.winners).shape
@@ -352,24 +424,28 @@ module _ (shelf : Shelf) (owners : IndexMap Labels OwnerCells NameSeed) (find le
       split (inl size) = absurd (omega (arith, more, size, ap length held_by.lasts.0, is.winners.size))
       split (inr grown) = room (ap (λ (x : Find). name_place x.owner shelf.owners.entries) same ∙ grown.0)
 
-  held_low : (kept : List KeptFlush) (was now : List ℕ) (after : Lasts) → length was ≡ length shelf.owners.entries → now ≡ held_moments was → ((i : ℕ) → last_at after.ends.items i ≡ last_at ends.lasts.ends.items i)
+  held_low : (kept : List KeptFlush) (was now : List ℕ) (after : Lasts) → length was ≡ length shelf.owners.entries → IsLower (held_moments was) now → ((i : ℕ) → last_at after.ends.items i ≡ last_at ends.lasts.ends.items i)
       → AreLow kept shelf.owners.entries was shelf.ends.lasts.ends.items → AreLow kept owners.entries now after.ends.items
   held_low kept was now after size moments lasts low =
       low_lasts kept owners.entries now shelf.ends.lasts.ends.items after.ends.items (λ i. lasts i ∙ ap (λ (l : List ℕ). last_at l i) held_by.lasts.0)
-      (low_by kept owners.entries held_moments (λ l. l) was now shelf.ends.lasts.ends.items shelf.ends.lasts.ends.items moments refl
+      (low_lower kept owners.entries (held_moments was) now shelf.ends.lasts.ends.items moments
       (low_still kept shelf.owners.entries owners.entries was (held_moments was) shelf.ends.lasts.ends.items (still_touched find.owner shelf.owners.entries owners.entries was size stay) low))
 
   pub held_ends : (after : Lasts) → ((i : ℕ) → last_at after.ends.items i ≡ last_at ends.lasts.ends.items i)
       → ((name : Labels) (old : List (Labels × OwnerCells)) → StayBut name old owners.entries → AreWinners old ends.lasts → AreWinners owners.entries after)
-      → AreEnds shelf.kept.items owners.entries (record { moments = ends.moments; mixed = ends.mixed; lasts = after })
+      → AreEnds shelf.kept.items owners.entries (record { moments = ends.moments; mixed = ends.mixed; left = ends.left; lasts = after })
   held_ends after lasts follow = record {
-    now = subst (λ (l : List ℕ). AreKeyed (IsEnd shelf.kept.items) owners.entries l) (sym held_by.moments) (keyed_touched (IsEnd shelf.kept.items) (end_zero shelf.kept.items) find.owner shelf.owners.entries owners.entries shelf.ends.moments is.now stay);
+    size = sym (zeros_length ends.left ends.moments) ∙ (held_by.sure.size ∙ held_now.size);
+    now = keyed_lower (IsEnd shelf.kept.items) (end_zero shelf.kept.items) owners.entries (held_moments (sure shelf.ends)) (sure ends) held_by.sure held_now;
     ever = subst (λ (l : List ℕ). AreKeyed (IsEnd []) owners.entries l) (sym held_by.unmixed) (keyed_touched (IsEnd []) (end_zero []) find.owner shelf.owners.entries owners.entries (evens shelf.ends) is.ever stay);
     flags = held_by.flags;
-    low = held_low shelf.kept.items shelf.ends.moments ends.moments after is.now.size held_by.moments lasts is.low;
-    low_ever = held_low [] (evens shelf.ends) (evens ends) after is.ever.size held_by.unmixed lasts is.low_ever;
+    low = held_low shelf.kept.items (sure shelf.ends) (sure ends) after is.now.size held_by.sure lasts is.low;
+    low_ever = held_low [] (evens shelf.ends) (evens ends) after is.ever.size (lower_same (held_moments (evens shelf.ends)) (evens ends) held_by.unmixed) lasts is.low_ever;
     winners = follow find.owner shelf.owners.entries stay (winners_same shelf.owners.entries shelf.ends.lasts ends.lasts held_by.lasts is.winners);
   }
+    where
+      held_now : AreKeyed (IsEnd shelf.kept.items) owners.entries (held_moments (sure shelf.ends))
+      held_now = keyed_touched (IsEnd shelf.kept.items) (end_zero shelf.kept.items) find.owner shelf.owners.entries owners.entries (sure shelf.ends) is.now stay
 
 -- a find was refused, before its name was touched
 pub ends_same : (kept : List KeptFlush) (entries : List (Labels × OwnerCells)) (was ends : Ends) → AreBy (λ l. l) was ends → AreEnds kept entries was → AreEnds kept entries ends
@@ -385,13 +461,15 @@ module _ (kept : List KeptFlush) (name : Labels) (entries : List (Labels × Owne
   gone_low (Some p) low = omega (arith, low, gone_winners.size)
 
   pub gone_ends : (place : Option ℕ) (after : Lasts) → place ≡ position (name_eq name) (keys_of entries) → after.ends.items ≡ dropped place ends.lasts.ends.items → AreWinners (swap_remove_entry (name_eq name) entries) after
-      → AreEnds kept (swap_remove_entry (name_eq name) entries) (record { moments = ends.moments; mixed = ends.mixed; lasts = after })
+      → AreEnds kept (swap_remove_entry (name_eq name) entries) (record { moments = ends.moments; mixed = ends.mixed; left = ends.left; lasts = after })
   gone_ends place after at lasts winners = record {
-    now = subst (λ (l : List ℕ). AreKeyed (IsEnd kept) (swap_remove_entry (name_eq name) entries) l) (sym by.moments) (keyed_dropped (IsEnd kept) (name_eq name) entries was.moments is.now);
+    size = sym (zeros_length ends.left ends.moments) ∙ (by.sure.size ∙ (keyed_dropped (IsEnd kept) (name_eq name) entries (sure was) is.now).size);
+    now = keyed_lower (IsEnd kept) (end_zero kept) (swap_remove_entry (name_eq name) entries) (drop (sure was)) (sure ends) by.sure (keyed_dropped (IsEnd kept) (name_eq name) entries (sure was) is.now);
     ever = subst (λ (l : List ℕ). AreKeyed (IsEnd []) (swap_remove_entry (name_eq name) entries) l) (sym by.unmixed) (keyed_dropped (IsEnd []) (name_eq name) entries (evens was) is.ever);
     flags = by.flags;
-    low = low_by kept (swap_remove_entry (name_eq name) entries) drop drop was.moments ends.moments was.lasts.ends.items after.ends.items by.moments noted
-        (low_dropped kept (name_eq name) entries was.moments was.lasts.ends.items is.now.size is.winners.size is.low);
+    low = low_lower kept (swap_remove_entry (name_eq name) entries) (drop (sure was)) (sure ends) after.ends.items by.sure
+        (low_by kept (swap_remove_entry (name_eq name) entries) drop drop (sure was) (drop (sure was)) was.lasts.ends.items after.ends.items refl noted
+        (low_dropped kept (name_eq name) entries (sure was) was.lasts.ends.items is.now.size is.winners.size is.low));
     low_ever = low_by [] (swap_remove_entry (name_eq name) entries) drop drop (evens was) (evens ends) was.lasts.ends.items after.ends.items by.unmixed noted
         (low_dropped [] (name_eq name) entries (evens was) was.lasts.ends.items is.ever.size is.winners.size is.low_ever);
     winners = winners;

@@ -1,12 +1,14 @@
 -- The moments of the names that are not mixed.
-use Rattle.std.proofs.Common.{◌≡◌, ℕ, zero, suc, ◌+◌, ◌-◌, ◌<◌, ◌≤◌, Bool, true, false, cond, Option, Some, None, List, [], ◌∷◌, ◌++◌, length, take, get_or, refl, sym, ap, subst, ◌∙◌, arith}
+use Rattle.std.proofs.Common.{◌≡◌, ℕ, zero, suc, ◌+◌, ◌-◌, ◌<◌, ◌≤◌, Bool, true, false, cond, Option, Some, None, List, [], ◌∷◌, ◌++◌, length, take, get_or, refl, sym, ap, subst, ◌∙◌, arith, inl, inr}
 use Rattle.std.specs.Prelude.{nat_lt, replicate, swap_remove, IfSome}
 use Rattle.std.proofs.Math.ListN.{set, length-set, length-append}
-use Rattle.std.proofs.lemmas.List.{length-replicate, length-take-le}
+use Rattle.std.proofs.lemmas.List.{get_or_past, length-replicate, length-take-le}
 use Rattle.std.proofs.lemmas.Bool.Decides.{nat_tests}
-use Rattle.shelf.specs.Clean.{evens, evens_of, fitted, touched, touched_at, AreBy, AreEvened}
+use Rattle.shelf.specs.Clean.{evens, evens_of, fitted, sure, touched, touched_at, zeros_to, AreBy, AreEvened, EndsMixed, HasLowered, IsLower}
 use Rattle.shelf.specs.Lasts.{AreSameLasts}
 use Rattle.shelf.specs.declared.ends.Ends.{Ends}
+use Rattle.shelf.proofs.DoubtLaws.{lower_same, lower_swap, lower_zero, lowered_most, zeros_high, zeros_length, zeros_low, zeros_lower, zeros_more, zeros_none, zeros_set, zeros_take}
+use Rattle.shelf.proofs.ListLaws.{lt_or}
 
 pub evens_length : (ends : List ℕ) (mixed : List Bool) → length (evens_of ends mixed) ≡ length ends
 evens_length [] mixed = refl
@@ -151,6 +153,8 @@ pub by_place : (was ends : Ends) (p : ℕ) (place : Option ℕ) → place ≡ co
 by_place was ends p place is by = record {
   moments = by.moments ∙ touched_as p place was.moments is;
   unmixed = by.unmixed ∙ touched_as p place (evens was) (is ∙ ap (λ n. cond (nat_lt p n) (Some p) None) (sym (evens_length was.moments was.mixed.items)));
+  sure = subst (λ (l : List ℕ). IsLower l (sure ends)) (touched_as p place (sure was) (is ∙ ap (λ n. cond (nat_lt p n) (Some p) None) (sym (zeros_length was.left was.moments)))) by.sure;
+  left = by.left;
   flags = by.flags;
   lasts = by.lasts;
 }
@@ -160,7 +164,7 @@ set_past [] p high = refl
 set_past (x ∷ l) zero high = absurd (omega arith)
 set_past (x ∷ l) (suc p) high = ap (λ (r : List ℕ). x ∷ r) (set_past l p (omega arith))
 
-module _ (was ends : Ends) (p n : ℕ) (size : length was.moments ≡ n) (flags : length was.mixed.items ≡ length was.moments) (same : AreSameLasts was.lasts ends.lasts) where
+module _ (was ends : Ends) (p n : ℕ) (size : length was.moments ≡ n) (flags : length was.mixed.items ≡ length was.moments) (same : AreSameLasts was.lasts ends.lasts) (left : ends.left ≡ was.left) where
   -- the moment of a name that is there is 0
   pub by_zero : (place : ℕ) → Some place ≡ cond (nat_lt p n) (Some p) None → ends.moments ≡ set was.moments place 0 → ends.mixed.items ≡ was.mixed.items → AreBy (λ l. set l p 0) was ends
   by_zero place found moments mixed =
@@ -169,6 +173,8 @@ module _ (was ends : Ends) (p n : ℕ) (size : length was.moments ≡ n) (flags 
       record {
         moments = now;
         unmixed = (λ i. evens_of (now i) (mixed i)) ∙ evens_zero was.moments was.mixed.items p;
+        sure = lower_same (set (sure was) p 0) (sure ends) ((λ i. zeros_to (left i) (now i)) ∙ zeros_set was.left was.moments p);
+        left = omega (arith, left);
         flags = omega (arith, ap length mixed, flags, ap length now, length-set was.moments p 0);
         lasts = same;
       }
@@ -179,15 +185,19 @@ module _ (was ends : Ends) (p n : ℕ) (size : length was.moments ≡ n) (flags 
       record {
         moments = moments ∙ sym (set_past was.moments p (omega (arith, high, size)));
         unmixed = (λ i. evens_of (moments i) (mixed i)) ∙ sym (set_past (evens was) p (omega (arith, high, size, evens_length was.moments was.mixed.items)));
+        sure = lower_same (set (sure was) p 0) (sure ends) ((λ i. zeros_to (left i) (moments i)) ∙ sym (set_past (sure was) p (omega (arith, high, size, zeros_length was.left was.moments))));
+        left = omega (arith, left);
         flags = omega (arith, ap length mixed, flags, ap length moments);
         lasts = same;
       }
 
-module _ (was ends : Ends) (flags : length was.mixed.items ≡ length was.moments) (same : AreSameLasts was.lasts ends.lasts) where
+module _ (was ends : Ends) (flags : length was.mixed.items ≡ length was.moments) (same : AreSameLasts was.lasts ends.lasts) (left : ends.left ≡ was.left) where
   pub by_touched : (p : ℕ) (place : Option ℕ) → place ≡ Some p → ends.moments ≡ set was.moments p 0 → ends.mixed.items ≡ was.mixed.items → AreBy (touched_at place) was ends
   by_touched p place is moments mixed = subst (λ (o : Option ℕ). AreBy (touched_at o) was ends) (sym is) (record {
     moments = moments;
     unmixed = (λ i. evens_of (moments i) (mixed i)) ∙ evens_zero was.moments was.mixed.items p;
+    sure = lower_same (set (sure was) p 0) (sure ends) ((λ i. zeros_to (left i) (moments i)) ∙ zeros_set was.left was.moments p);
+    left = omega (arith, left);
     flags = omega (arith, ap length mixed, flags, ap length moments, length-set was.moments p 0);
     lasts = same;
   })
@@ -196,6 +206,8 @@ module _ (was ends : Ends) (flags : length was.mixed.items ≡ length was.moment
   by_more place is moments mixed = subst (λ (o : Option ℕ). AreBy (touched_at o) was ends) (sym is) (record {
     moments = moments;
     unmixed = (λ i. evens_of (moments i) (mixed i)) ∙ evens_more was.moments was.mixed.items flags;
+    sure = lower_same (sure was ++ 0 ∷ []) (sure ends) ((λ i. zeros_to (left i) (moments i)) ∙ zeros_more was.left was.moments);
+    left = omega (arith, left);
     flags = omega (arith, ap length mixed, length-append was.mixed.items (false ∷ []), flags, ap length moments, length-append was.moments (0 ∷ []));
     lasts = same;
   })
@@ -207,9 +219,14 @@ module _ (was ends : Ends) (flags : length was.mixed.items ≡ length was.moment
       let even : evens ends ≡ take (length (evens was) - 1) (evens was) =
       (λ i. evens_of (moments i) (cut i)) ∙ (evens_take (length was.moments - 1) was.moments was.mixed.items flags ∙ ap (λ k. take (k - 1) (evens was)) (sym (evens_length was.moments was.mixed.items))) in
       let is' : nat_lt n (length (evens was)) ≡ true = ap (nat_lt n) (evens_length was.moments was.mixed.items) ∙ is in
+      let low : sure ends ≡ take (length (sure was) - 1) (sure was) =
+      (λ i. zeros_to (left i) (moments i)) ∙ (zeros_take was.left (length was.moments - 1) was.moments ∙ ap (λ k. take (k - 1) (sure was)) (sym (zeros_length was.left was.moments))) in
+      let is'' : nat_lt n (length (sure was)) ≡ true = ap (nat_lt n) (zeros_length was.left was.moments) ∙ is in
       record {
         moments = moments ∙ sym (ap (λ b. cond b (take (length was.moments - 1) was.moments) was.moments) is);
         unmixed = even ∙ sym (ap (λ b. cond b (take (length (evens was) - 1) (evens was)) (evens was)) is');
+        sure = lower_same (fitted n (sure was)) (sure ends) (low ∙ sym (ap (λ b. cond b (take (length (sure was) - 1) (sure was)) (sure was)) is''));
+        left = omega (arith, left);
         flags = omega (arith, ap length cut, ap length moments, length-take-le (length was.moments - 1) was.mixed.items (omega (arith, flags)), length-take-le (length was.moments - 1) was.moments (omega arith));
         lasts = same;
       }
@@ -218,39 +235,84 @@ module _ (was ends : Ends) (flags : length was.mixed.items ≡ length was.moment
   by_fit_same n few =
       let is : nat_lt n (length was.moments) ≡ false = grind (arith, nat_tests) in
       let is' : nat_lt n (length (evens was)) ≡ false = ap (nat_lt n) (evens_length was.moments was.mixed.items) ∙ is in
+      let is'' : nat_lt n (length (sure was)) ≡ false = ap (nat_lt n) (zeros_length was.left was.moments) ∙ is in
       record {
         moments = sym (ap (λ b. cond b (take (length was.moments - 1) was.moments) was.moments) is);
         unmixed = sym (ap (λ b. cond b (take (length (evens was) - 1) (evens was)) (evens was)) is');
+        sure = lower_same (fitted n (sure was)) (sure was) (sym (ap (λ b. cond b (take (length (sure was) - 1) (sure was)) (sure was)) is''));
+        left = omega arith;
         flags = flags;
         lasts = (refl, refl);
       }
-
-  pub by_swap : (place : ℕ) (d : Bool) → place < length was.moments → ends.moments ≡ swap_remove was.moments place 0 → ends.mixed.items ≡ swap_remove was.mixed.items place d → length ends.mixed.items + 1 ≡ length was.mixed.items
-      → AreBy (λ l. swap_remove l place 0) was ends
-  by_swap place d low moments mixed fewer = record {
-    moments = moments;
-    unmixed = (λ i. evens_of (moments i) (mixed i)) ∙ evens_swap was.moments was.mixed.items place d flags low;
-    flags =
-        let last = length was.moments - 1 in
-        let left : length (swap_remove was.moments place 0) ≡ last = length-take-le last (set was.moments place (get_or was.moments last 0)) (omega (arith, length-set was.moments place (get_or was.moments last 0))) in
-        omega (arith, ap length moments, left, fewer, flags, low);
-    lasts = same;
-  }
 
   pub by_all : ends.moments ≡ replicate (length was.moments) 0 → ends.mixed.items ≡ was.mixed.items → AreBy (λ l. replicate (length l) 0) was ends
   by_all moments mixed = record {
     moments = moments;
     unmixed = (λ i. evens_of (moments i) (mixed i)) ∙ (evens_none (length was.moments) was.mixed.items ∙ ap (λ k. replicate k 0) (sym (evens_length was.moments was.mixed.items)));
+    sure = lower_same (replicate (length (sure was)) 0) (sure ends)
+        ((λ i. zeros_to (left i) (moments i)) ∙ (zeros_none was.left (length was.moments) ∙ ap (λ k. replicate k 0) (sym (zeros_length was.left was.moments))));
+    left = omega (arith, left);
     flags = omega (arith, ap length mixed, flags, ap length moments, length-replicate {A = ℕ} (length was.moments) 0);
     lasts = same;
   }
 
-  pub by_evened : (place : ℕ) → length was.moments ≤ place → ends.moments ≡ evens_to place was.moments was.mixed.items → ends.mixed.items ≡ was.mixed.items → AreEvened was ends
-  by_evened place high moments mixed =
-      let all : ends.moments ≡ evens was = moments ∙ to_all place was.moments was.mixed.items high in
-      record {
-        moments = all;
-        unmixed = (λ i. evens_of (all i) (mixed i)) ∙ evens_twice was.moments was.mixed.items;
-        flags = omega (arith, ap length mixed, flags, ap length all, evens_length was.moments was.mixed.items);
-        lasts = same;
-      }
+pub by_swap : (was ends : Ends) → length was.mixed.items ≡ length was.moments → AreSameLasts was.lasts ends.lasts → (place : ℕ) (d : Bool) → HasLowered place was.left ends.left → place < length was.moments → ends.moments ≡ swap_remove was.moments place 0 → ends.mixed.items ≡ swap_remove was.mixed.items place d → length ends.mixed.items + 1 ≡ length was.mixed.items
+    → AreBy (λ l. swap_remove l place 0) was ends
+by_swap was ends flags same place d lowered low moments mixed fewer = record {
+  moments = moments;
+  unmixed = (λ i. evens_of (moments i) (mixed i)) ∙ evens_swap was.moments was.mixed.items place d flags low;
+  sure = subst (λ (l : List ℕ). IsLower (swap_remove (sure was) place 0) (zeros_to ends.left l)) (sym moments) (lower_swap was.moments place was.left ends.left low lowered);
+  left = lowered_most place was.left ends.left lowered;
+  flags =
+      let last = length was.moments - 1 in
+      let left : length (swap_remove was.moments place 0) ≡ last = length-take-le last (set was.moments place (get_or was.moments last 0)) (omega (arith, length-set was.moments place (get_or was.moments last 0))) in
+      omega (arith, ap length moments, left, fewer, flags, low);
+  lasts = same;
+}
+
+pub by_evened : (was ends : Ends) → length was.mixed.items ≡ length was.moments → AreSameLasts was.lasts ends.lasts → (place : ℕ) → length was.moments ≤ place → ends.moments ≡ evens_to place was.moments was.mixed.items → ends.mixed.items ≡ was.mixed.items → AreEvened was ends
+by_evened was ends flags same place high moments mixed =
+    let all : ends.moments ≡ evens was = moments ∙ to_all place was.moments was.mixed.items high in
+    record {
+      size = ap length all ∙ evens_length was.moments was.mixed.items;
+      unmixed = (λ i. evens_of (all i) (mixed i)) ∙ evens_twice was.moments was.mixed.items;
+      sure = subst (λ (l : List ℕ). IsLower (evens was) (zeros_to ends.left l)) (sym all) (zeros_lower ends.left (evens was));
+      flags = omega (arith, ap length mixed, flags, ap length all, evens_length was.moments was.mixed.items);
+      lasts = same;
+    }
+
+-- each name is in doubt
+pub by_doubted : (was ends : Ends) → length was.mixed.items ≡ length was.moments → ends.moments ≡ was.moments → ends.mixed.items ≡ was.mixed.items → ends.left ≡ length was.moments → AreSameLasts was.lasts ends.lasts → AreEvened was ends
+by_doubted was ends flags moments mixed left same = record {
+  size = ap length moments;
+  unmixed = (λ i. evens_of (moments i) (mixed i));
+  sure = subst (λ n. IsLower (evens was) (zeros_to n ends.moments)) (sym left) (subst (λ (l : List ℕ). IsLower (evens was) (zeros_to (length was.moments) l)) (sym moments) (record {
+    size = zeros_length (length was.moments) was.moments ∙ sym (evens_length was.moments was.mixed.items);
+    each = λ i. inl (none i);
+  }));
+  flags = omega (arith, ap length mixed, flags, ap length moments);
+  lasts = same;
+}
+  where
+    none : (i : ℕ) → get_or (zeros_to (length was.moments) was.moments) i 0 ≡ 0
+    none i = elim (lt_or i (length was.moments)) [
+      | inl low ↦ zeros_low (length was.moments) was.moments i low
+      | inr past ↦ zeros_high (length was.moments) was.moments i past ∙ get_or_past was.moments i 0 past
+    ]
+
+-- the moment at a place is 0, or as it was
+pub mixed_length : (place : ℕ) (old : List ℕ) (mixed : List Bool) (new : List ℕ) → EndsMixed place old mixed new → length new ≡ length old
+mixed_length place old mixed new (inl ended) = ap length ended ∙ length-set old place 0
+mixed_length place old mixed new (inr same) = ap length same.0
+
+pub mixed_even : (place : ℕ) (was ends : Ends) → EndsMixed place was.moments was.mixed.items ends.moments → ends.mixed.items ≡ was.mixed.items → IsLower (evens was) (evens ends)
+mixed_even place was ends (inl ended) flags =
+    let zero : evens ends ≡ set (evens was) place 0 = (λ i. evens_of (ended i) (flags i)) ∙ evens_zero was.moments was.mixed.items place in
+    subst (λ (l : List ℕ). IsLower (evens was) l) (sym zero) (lower_zero (evens was) place)
+mixed_even place was ends (inr same) flags = lower_same (evens was) (evens ends) (λ i. evens_of (same.0 i) (flags i))
+
+pub mixed_past : (place : ℕ) (old : List ℕ) (mixed : List Bool) → length mixed ≡ length old → length old ≤ place → EndsMixed place old mixed old
+mixed_past place old mixed flags past = inr (refl, get_or_past (evens_of old mixed) place 0 (omega (arith, past, evens_length old mixed)) ∙ sym (get_or_past old place 0 past))
+
+pub mixed_read : (place : ℕ) (old : List ℕ) (mixed : List Bool) (d : Bool) → length mixed ≡ length old → place < length old → get_or mixed place d ≡ false → EndsMixed place old mixed old
+mixed_read place old mixed d flags low is = inr (refl, evens_read old mixed place d flags low ∙ ap (λ b. cond b 0 (get_or old place 0)) is)

@@ -1,6 +1,6 @@
 -- The cells for each choice of the kept flushes.
-use Rattle.std.proofs.Common.{◌≡◌, ℕ, zero, suc, ◌<◌, ◌≤◌, max, length, get_or, Bool, true, false, cond, Option, Some, None, List, [], ◌∷◌, ◌++◌, map, refl, sym, ap, ◌∙◌, subst, arith, ◌⊎◌, inl, inr}
-use Rattle.std.specs.Prelude.{fold, ◌==◌, ◌&&◌, IfSome}
+use Rattle.std.proofs.Common.{◌≡◌, ℕ, zero, suc, ◌+◌, ◌<◌, ◌≤◌, max, length, get_or, Bool, true, false, cond, Option, Some, None, List, [], ◌∷◌, ◌++◌, map, refl, sym, ap, ◌∙◌, subst, arith, ◌⊎◌, inl, inr}
+use Rattle.std.specs.Prelude.{fold, ◌==◌, ◌&&◌, ◌||◌, IfSome}
 use Rattle.std.specs.List.{AllByRecursion, list_any, remove}
 use Rattle.std.proofs.Math.Bool.{or-false}
 use Rattle.std.proofs.lemmas.Bool.{cases_Bool, eq-eqb, eqb-true}
@@ -152,7 +152,7 @@ chosen_without number kept q chosen not = without_fold number kept q chosen not 
 
 -- ---- by the list as the code has it
 
-read_first : (kept : List KeptFlush) (own first : KeptFlush) (later : List KeptFlush) → first ≡ get_or kept 0 first → kept ≡ own ∷ later → first ≡ own
+pub read_first : (kept : List KeptFlush) (own first : KeptFlush) (later : List KeptFlush) → first ≡ get_or kept 0 first → kept ≡ own ∷ later → first ≡ own
 read_first kept own first later read is = read ∙ ap (λ (l : List KeptFlush). get_or l 0 first) is
 
 rest_first : (kept left : List KeptFlush) (own : KeptFlush) (later : List KeptFlush) → left ≡ remove kept 0 → kept ≡ own ∷ later → left ≡ later
@@ -235,7 +235,7 @@ settles_kinds : {S : Type 0} (owners after : IndexMap Labels OwnerCells S) (numb
 settles_kinds owners after number name [] step all = tt
 settles_kinds owners after number name (k ∷ kinds) step all = (step k all.0, settles_kinds owners after number name kinds step all.1)
 
-settles_flush : {S : Type 0} (owners after : IndexMap Labels OwnerCells S) (number : ℕ) (flush : Flush) → ((k : ℕ) → CanSettleAt number k flush.name owners → CanSettleAt number k flush.name after)
+pub settles_flush : {S : Type 0} (owners after : IndexMap Labels OwnerCells S) (number : ℕ) (flush : Flush) → ((k : ℕ) → CanSettleAt number k flush.name owners → CanSettleAt number k flush.name after)
     → CanSettleFlush owners number flush → CanSettleFlush after number flush
 settles_flush owners after number flush step told = settles_kinds owners after number flush.name (types_of flush.reach) step told
 
@@ -263,6 +263,31 @@ covers_name flush q is = ap (λ r. reaches r flush.name q) is
 pub length_shown : (number : ℕ) (shown : Bool) (kept : List KeptFlush) → length (map (with_shown number shown) kept) ≡ length kept
 length_shown number shown [] = refl
 length_shown number shown (x ∷ kept) = ap suc (length_shown number shown kept)
+
+-- a flush of a number was kept and has gone, or none was
+pub without_or : (number : ℕ) (kept : List KeptFlush) → ((without number kept ≡ kept) × (list_any (λ (own : KeptFlush). own.number == number) kept ≡ false))
+    ⊎ ((length (without number kept) + 1 ≡ length kept) × (list_any (λ (own : KeptFlush). own.number == number) kept ≡ true))
+without_or number [] = inl (refl, refl)
+without_or number (x ∷ kept) = split (x.number == number) (without_or number kept)
+  where
+    split : (b : Bool) → ((without number kept ≡ kept) × (list_any (λ (own : KeptFlush). own.number == number) kept ≡ false)) ⊎ ((length (without number kept) + 1 ≡ length kept) × (list_any (λ (own : KeptFlush). own.number == number) kept ≡ true))
+        → ((cond b kept (x ∷ without number kept) ≡ x ∷ kept) × ((b || list_any (λ (own : KeptFlush). own.number == number) kept) ≡ false))
+        ⊎ ((length (cond b kept (x ∷ without number kept)) + 1 ≡ length (x ∷ kept)) × ((b || list_any (λ (own : KeptFlush). own.number == number) kept) ≡ true))
+    split true rest = inr (omega arith, refl)
+    split false (inl same) = inl (ap (λ (l : List KeptFlush). x ∷ l) same.0, same.1)
+    split false (inr less) = inr (omega (arith, less.0), less.1)
+
+pub less_without : (number : ℕ) (kept now : List KeptFlush) → now ≡ without number kept → length now < length kept → (length now + 1 ≡ length kept) × (list_any (λ (own : KeptFlush). own.number == number) kept ≡ true)
+less_without number kept now at fewer = elim (without_or number kept) [
+  | inl same ↦ absurd (omega (arith, fewer, ap length at, ap length same.0))
+  | inr less ↦ (omega (arith, ap length at, less.0), less.1)
+]
+
+pub same_without : (number : ℕ) (kept now : List KeptFlush) → now ≡ without number kept → length kept ≤ length now → (now ≡ kept) × (list_any (λ (own : KeptFlush). own.number == number) kept ≡ false)
+same_without number kept now at more = elim (without_or number kept) [
+  | inl same ↦ (at ∙ same.0, same.1)
+  | inr less ↦ absurd (omega (arith, more, ap length at, less.0))
+]
 
 pub length_without : (number : ℕ) (kept : List KeptFlush) → length (without number kept) ≤ length kept
 length_without number [] = omega arith

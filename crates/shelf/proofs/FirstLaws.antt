@@ -12,8 +12,8 @@ use Rattle.shelf.specs.declared.shelf.KeptFlush.{KeptFlush}
 use Rattle.shelf.specs.declared.oldest.Candidate.{Candidate}
 use Rattle.shelf.specs.First.{life_at, name_at, name_life, AreBounds, Beats, IsAhead, IsBefore, IsCandidate, IsEnough, IsFirst, IsNoLater, IsSooner, IsSoonerOf}
 use Rattle.shelf.specs.declared.ends.Ends.{Ends}
-use Rattle.shelf.specs.Clean.{AreEnds}
-use Rattle.shelf.specs.Lasts.{last_at, winner_at, AreVisited, IsNoted}
+use Rattle.shelf.specs.Clean.{zeros_to, AreEnds}
+use Rattle.shelf.specs.Lasts.{last_at, winner_at, AreLow, AreVisited, IsNoted}
 use Rattle.shelf.proofs.WinnerLaws.{root_leads}
 use Rattle.shelf.proofs.OrderLaws.{below_low, below_root, below_split, sooner_itself, sooner_same, sooner_then}
 
@@ -156,14 +156,15 @@ module _ (settlings : List Settling) (kept : List KeptFlush) (entries : List (La
 
   -- ---- the first by the seconds that the last visits noted
 
-  noted_beats : (ends : Ends) (own : Candidate) → AreEnds kept entries ends → AreVisited settlings ends.moments → IsNoted settlings kept entries ends.lasts.ends.items t (winner_at ends.lasts.winners.items 0) own
+  noted_beats : (ends : Ends) (own : Candidate) → AreEnds kept entries ends → (settlings ≡ [] → ends.left ≡ 0) → AreVisited settlings ends.moments → IsNoted settlings kept entries ends.lasts.ends.items t (winner_at ends.lasts.winners.items 0) own
       → (i : ℕ) → i < length entries → IsBefore settlings kept entries own.place i
-  noted_beats ends own is visited noted i there =
+  noted_beats ends own is all visited noted i there =
       let lasts = ends.lasts.ends.items in
       let w = winner_at ends.lasts.winners.items 0 in
-      let long : i < length ends.moments = omega (arith, there, is.now.size) in
+      let long : i < length ends.moments = omega (arith, there, is.size) in
+      let known : AreLow kept entries ends.moments lasts = subst (λ n. AreLow kept entries (zeros_to n ends.moments) lasts) (all visited.0) is.low in
       let some : 0 < moment_at ends.moments i = visited.1 i (below_root i) long in
-      let low : last_at lasts i ≤ life_at [] kept entries i = is.low i (omega (arith, some, get_or_default ends.moments i never 0 long)) in
+      let low : last_at lasts i ≤ life_at [] kept entries i = known i (omega (arith, some, get_or_default ends.moments i never 0 long)) in
       let same : life i ≡ life_at [] kept entries i = ap (λ (s : List Settling). life_at s kept entries i) visited.0 in
       let first : IsSooner (last_at lasts w) (name_at entries w) (life i) (name_at entries i) =
       later_bound (last_at lasts w) (last_at lasts i) (life i) (name_at entries w) (name_at entries i) (omega (arith, low, same)) (root_leads entries ends.lasts is.winners i there) in
@@ -171,14 +172,14 @@ module _ (settlings : List Settling) (kept : List KeptFlush) (entries : List (La
       let name : name_at entries w ≡ name_at entries own.place = ap (name_at entries) (sym noted.0) in
       sooner_same (last_at lasts w) (life own.place) (life i) (life i) (name_at entries w) (name_at entries own.place) (name_at entries i) (name_at entries i) end name refl refl first
 
-  pub noted_first : (ends : Ends) (place : ℕ) (result : Option Candidate) → AreEnds kept entries ends → AreVisited settlings ends.moments → place ≡ winner_at ends.lasts.winners.items 0
+  pub noted_first : (ends : Ends) (place : ℕ) (result : Option Candidate) → AreEnds kept entries ends → (settlings ≡ [] → ends.left ≡ 0) → AreVisited settlings ends.moments → place ≡ winner_at ends.lasts.winners.items 0
       → IfSome result (IsNoted settlings kept entries ends.lasts.ends.items t place) → IfSome result (λ own. IsFirst settlings kept entries t (IsBelow 0) None (Some own))
-  noted_first ends place None is visited at noted = tt
-  noted_first ends place (Some own) is visited at noted = record {
+  noted_first ends place None is all visited at noted = tt
+  noted_first ends place (Some own) is all visited at noted = record {
     candidate = noted.1;
     later = tt;
     beats = λ i below alive. elim (within_or i (length entries)) [
-      | inl there ↦ noted_beats ends own is visited (subst (λ p. IsNoted settlings kept entries ends.lasts.ends.items t p own) at noted) i there
+      | inl there ↦ noted_beats ends own is all visited (subst (λ p. IsNoted settlings kept entries ends.lasts.ends.items t p own) at noted) i there
       | inr far ↦
           let none : slice_get entries i ≡ None = slice_get_past entries i far in
           let dead : life_at settlings kept entries i ≡ 0 = ap (λ (o : Option (Labels × OwnerCells)). option_map_or (λ e. name_life settlings kept e.0 e.1) o 0) none in

@@ -2,7 +2,9 @@
 use Rattle.std.proofs.Common.{◌≡◌, ◌∙◌, ◌∷◌, [], ℕ, Bool, true, false, List, refl, sym, ap, arith}
 use Rattle.std.specs.Prelude.{◌==◌, ◌&&◌, if◌then◌else◌}
 use Rattle.shelf.specs.declared.shelf.KeptFlush.{KeptFlush}
+use Rattle.shelf.specs.declared.settling.Settling.{Settling}
 use Rattle.shelf.specs.Kept.{stands_first}
+use Rattle.shelf.specs.Settling.{cleared_once, joined_by, settled_once}
 use Rattle.shelf.specs.Told.{without}
 
 left_true : (a b : Bool) → (a && b) ≡ true → a ≡ true
@@ -24,3 +26,16 @@ pub oldest_same : {X : (ℕ → Bool) → Type 0} (number : ℕ) (olds : List Ke
 oldest_same number [] chosen e c same = absurd cc
 oldest_same number (own ∷ later) chosen e c same =
     same own later chosen refl (ap chosen (number_of own.number number (left_true (own.number == number) own.shown e)) ∙ (c ∙ e))
+
+-- If the oldest has its number and is in force, it is permanent.
+pub oldest_settled : (P : ℕ → Type 0) (number : ℕ) (olds : List KeptFlush) (was now : List Settling) → stands_first number olds ≡ true
+    → ((own : KeptFlush) (later : List KeptFlush) → olds ≡ own ∷ later → (names : ℕ) × (P names × (now ≡ joined_by own.flush.reach own.flush.name own.number names was))) → (names : ℕ) × (P names × (now ≡ settled_once number names olds was))
+oldest_settled P number [] was now e step = absurd cc
+oldest_settled P number (own ∷ later) was now e step =
+    let here = step own later refl in
+    (here.0, (here.1.0, here.1.1 ∙ ap (λ (b : Bool). if b then joined_by own.flush.reach own.flush.name own.number here.0 was else cleared_once number here.0 (own ∷ later) was) (sym e)))
+
+-- Else no flush joins the permanent ones.
+pub cleared_settled : (number names : ℕ) (olds : List KeptFlush) (was : List Settling) → stands_first number olds ≡ false → cleared_once number names olds was ≡ settled_once number names olds was
+cleared_settled number names [] was e = refl
+cleared_settled number names (own ∷ later) was e = ap (λ (b : Bool). if b then joined_by own.flush.reach own.flush.name own.number names was else cleared_once number names (own ∷ later) was) (sym e)

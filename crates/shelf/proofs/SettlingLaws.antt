@@ -18,12 +18,14 @@ use Rattle.dns_text.specs.declared.record.Question.{Question}
 use Rattle.ranked.specs.declared.find.Find.{Find}
 use Rattle.ranked.specs.declared.cell.Admitted.{Admitted}
 use Rattle.ranked.specs.Find.{admission_of, touches}
+use Rattle.ranked.specs.declared.flush.Reach.{Reach}
+use Rattle.ranked.specs.declared.flush.Reach.TheVariants.{OneType, Name, Zone}
 use Rattle.cell_store.specs.declared.owner.OwnerCells.{OwnerCells}
 use Rattle.cell_store.specs.Count.{KeepPairs}
 use Rattle.cell_store.specs.Owner.{after_settle, after_touch}
 use Rattle.cell_store.specs.Store.{cell_by_owner, cell_of, name_place, AreAbout, AreSameCells, AreUpTo}
 use Rattle.shelf.specs.declared.settling.Settling.{Settling}
-use Rattle.shelf.specs.Settling.{first_at, is_outdone, later_settled, settled_cell, settled_version, steps_left, unmoved, with_left, without_outdone, AreReached, HaveStepped, IsMoved, IsReaching, IsSettling}
+use Rattle.shelf.specs.Settling.{doubted, doubting, first_at, is_outdone, joining, later_settled, most_left, most_settling, settled_cell, settled_version, steps_left, unmoved, with_left, with_room, without_outdone, AreReached, HaveStepped, IsMoved, IsReaching, IsSettling}
 use Rattle.shelf.specs.Sweep.{count_ended, EndNear}
 use Rattle.shelf.proofs.AboutLaws.{about_moved}
 use Rattle.shelf.proofs.ListLaws.{get_set_other, get_set_same, get_some, get_take, lt_or}
@@ -202,6 +204,30 @@ module _ {S : Type 0} (covered : Question → Bool) (number top : ℕ) (old new 
 pub moved_like : {S : Type 0} (moved other : Question → ℕ → ℕ) (top : ℕ) (was now : List Settling) (old new : IndexMap Labels OwnerCells S) → ((q : Question) (v : ℕ) → moved q v ≡ other q v) → IsMoved moved top was now old new → IsMoved other top was now old new
 moved_like moved other top was now old new same is = record { cells = λ q v. is.cells q v ∙ ap (settled_cell was old q) (same q v); upto = is.upto; about = is.about; settling = is.settling }
 
+-- one after the other
+pub moved_then : {S : Type 0} (moved : Question → ℕ → ℕ) (top : ℕ) (was middle now : List Settling) (old between new : IndexMap Labels OwnerCells S) → IsMoved unmoved top was middle old between → IsMoved moved top middle now between new
+    → IsMoved moved top was now old new
+moved_then moved top was middle now old between new first second = record {
+  cells = λ q v. second.cells q v ∙ first.cells q (moved q v);
+  upto = second.upto;
+  about = λ is. second.about (first.about is);
+  settling = second.settling;
+}
+
+pub moved_after : {S : Type 0} (moved : Question → ℕ → ℕ) (top : ℕ) (was middle now : List Settling) (old between new : IndexMap Labels OwnerCells S) → IsMoved moved top was middle old between → IsMoved unmoved top middle now between new
+    → IsMoved moved top was now old new
+moved_after moved top was middle now old between new first second = record {
+  cells = λ q v. second.cells q v ∙ first.cells q v;
+  upto = second.upto;
+  about = λ is. second.about (first.about is);
+  settling = second.settling;
+}
+
+-- number 0 moves nothing
+pub after_zero : (b : Bool) (v : ℕ) → after_settle b 0 v ≡ v
+after_zero true v = omega arith
+after_zero false v = refl
+
 pub moved_same : {S : Type 0} (top : ℕ) (settlings : List Settling) (owners : IndexMap Labels OwnerCells S) → AreUpTo top owners → AllByRecursion (IsSettling top owners) settlings → IsMoved unmoved top settlings settlings owners owners
 moved_same top settlings owners upto all = record { cells = λ q v. refl; upto = upto; about = λ is. is; settling = all }
 
@@ -290,6 +316,103 @@ moved_some top left own (x ∷ later) now old new some read at is all =
     let first : own ≡ x = read in
     subst (λ (l : List Settling). IsMoved unmoved top (x ∷ later) l old new) (sym at)
     (moved_first top left x later old new (subst (λ (o : Settling). IsReaching o.zone o.number top o.left left old new) first is) all)
+
+-- the entry that ends the names in doubt joins the list
+pub doubt_moved : {S : Type 0} (root : Labels) (top : ℕ) (was now : List Settling) (owners : IndexMap Labels OwnerCells S) → IsMoved (λ q v. after_settle (is_at_or_below q.owner root) 0 v) top was now owners owners → IsMoved unmoved top was now owners owners
+doubt_moved root top was now owners is = moved_like (λ q v. after_settle (is_at_or_below q.owner root) 0 v) unmoved top was now owners owners (λ q v. after_zero (is_at_or_below q.owner root) v) is
+
+pub doubt_items : (root : Labels) (names : ℕ) (was now : List Settling) → root ≡ [] → now ≡ without_outdone root 0 was ++ record { zone = root; number = 0; left = names } ∷ [] → now ≡ without_outdone [] 0 was ++ doubting names ∷ []
+doubt_items root names was now is at = at ∙ ap (λ (z : Labels). without_outdone z 0 was ++ record { zone = z; number = 0; left = names } ∷ []) is
+
+-- those of number 0 that it outdoes, and itself, change no version
+fold_doubt : (name : Labels) (settlings : List Settling) (v : ℕ) → settled_version (without_outdone [] 0 settlings) name v ≡ settled_version settlings name v
+fold_doubt name [] v = refl
+fold_doubt name (own ∷ later) v = split (is_outdone [] 0 own) refl (fold_doubt name later (later_settled name v own))
+  where
+    split : (b : Bool) → is_outdone [] 0 own ≡ b → settled_version (without_outdone [] 0 later) name (later_settled name v own) ≡ settled_version later name (later_settled name v own)
+        → settled_version (cond (not b) (own ∷ without_outdone [] 0 later) (without_outdone [] 0 later)) name v ≡ settled_version later name (later_settled name v own)
+    split false is rest = rest
+    split true is rest =
+        let low : nat_le own.number 0 ≡ true = (and_parts (nat_le own.number 0) (is_at_or_below own.zone []) is).0 in
+        let zero : own.number ≡ 0 = grind (arith, nat_tests) in
+        let same : later_settled name v own ≡ v = ap (λ n. after_settle (is_at_or_below name own.zone) n v) zero ∙ after_zero (is_at_or_below name own.zone) v in
+        ap (settled_version (without_outdone [] 0 later) name) (sym same) ∙ rest
+
+pub doubt_versions : (names : ℕ) (was now : List Settling) → now ≡ without_outdone [] 0 was ++ doubting names ∷ [] → (name : Labels) (v : ℕ) → settled_version now name v ≡ settled_version was name v
+doubt_versions names was now at name v =
+    ap (λ (l : List Settling). settled_version l name v) at
+    ∙ (fold-append (later_settled name) v (without_outdone [] 0 was) (doubting names ∷ [])
+    ∙ (after_zero (is_at_or_below name []) (settled_version (without_outdone [] 0 was) name v)
+    ∙ fold_doubt name was v))
+
+-- number 0 reaches each name at once
+pub reach_zero : {S : Type 0} (zone : Labels) (number top from to : ℕ) (owners : IndexMap Labels OwnerCells S) → number ≡ 0 → AreUpTo top owners → IsReaching zone number top from to owners owners
+reach_zero zone number top from to owners none upto = record {
+  cells = λ q v. refl;
+  upto = upto;
+  about = λ is. is;
+  reached = λ is q v far. ap (cell_of owners q) (ap (λ n. after_settle (is_at_or_below q.owner zone) n v) none ∙ after_zero (is_at_or_below q.owner zone) v);
+  others = λ own is. is;
+}
+
+-- ---- the most that one of them has left
+
+push_left : (own : Settling) (settlings : List Settling) → own.left ≤ most_left (settlings ++ own ∷ [])
+push_left own [] = omega arith
+push_left own (x ∷ settlings) = omega (arith, push_left own settlings)
+
+pub pushed_left : (own : Settling) (front now : List Settling) → now ≡ front ++ own ∷ [] → own.left ≤ most_left now
+pushed_left own front now at = omega (arith, push_left own front, ap most_left at)
+
+pub joining_left : (reach : Reach) (zone : Labels) (number names : ℕ) → (joining reach zone number names).left ≡ names
+joining_left (OneType kind) zone number names = refl
+joining_left Name zone number names = refl
+joining_left Zone zone number names = refl
+
+-- the first has gone on, or has gone
+pub stepped_left : (from left old new : ℕ) (was now : List Settling) (own : Settling) → 0 < length was → own ≡ get_or was 0 own → now ≡ first_at left was → from ≡ own.left → new ≤ old → (old ≤ from → new ≤ left) → old ≤ most_left was → new ≤ most_left now
+stepped_left from left old new [] now own some read at here less step few = absurd (omega (arith, some))
+stepped_left from left old new (x ∷ later) now own some read at here less step few =
+    subst (λ (l : List Settling). new ≤ most_left l) (sym at) (split (left == 0) refl)
+  where
+    same : x.left ≡ from
+    same = sym (here ∙ ap (λ (o : Settling). o.left) read)
+
+    split : (b : Bool) → (left == 0) ≡ b → new ≤ most_left (cond b later (with_left left x ∷ later))
+    split true none = let zero : left ≡ 0 = eqb-true left 0 none in elim (lt_or from old) [
+      | inl more ↦ omega (arith, more, less, few, same)
+      | inr low ↦ omega (arith, step low, zero)
+    ]
+    split false some = elim (lt_or from old) [
+      | inl more ↦ omega (arith, more, less, few, same)
+      | inr low ↦ omega (arith, step low)
+    ]
+
+-- ---- room for one more
+
+pub is_full : (settlings : List Settling) → most_settling ≤ length settlings → with_room settlings ≡ first_at 0 settlings
+is_full settlings full =
+    let off : nat_lt (length settlings) most_settling ≡ false = grind (arith, nat_tests) in
+    ap (λ b. cond b settlings (first_at 0 settlings)) off
+
+pub has_room : (settlings : List Settling) → length settlings < most_settling → with_room settlings ≡ settlings
+has_room settlings few =
+    let on : nat_lt (length settlings) most_settling ≡ true = grind (arith, nat_tests) in
+    ap (λ b. cond b settlings (first_at 0 settlings)) on
+
+pub doubted_full : (names : ℕ) (settlings : List Settling) → most_settling ≤ length settlings → settlings ≡ doubted names settlings
+doubted_full names settlings full =
+    let off : nat_lt (length settlings) most_settling ≡ false = grind (arith, nat_tests) in
+    ap (λ b. cond b (without_outdone [] 0 settlings ++ doubting names ∷ []) settlings) (sym off)
+
+pub doubted_room : (names : ℕ) (settlings : List Settling) → length settlings < most_settling → without_outdone [] 0 settlings ++ doubting names ∷ [] ≡ doubted names settlings
+doubted_room names settlings few =
+    let on : nat_lt (length settlings) most_settling ≡ true = grind (arith, nat_tests) in
+    ap (λ b. cond b (without_outdone [] 0 settlings ++ doubting names ∷ []) settlings) (sym on)
+
+pub room_made : (settlings now : List Settling) → now ≡ first_at 0 settlings → most_settling ≤ length settlings → length settlings ≤ most_settling → length now < most_settling
+room_made [] now at full few = absurd (omega (arith, full))
+room_made (own ∷ later) now at full few = omega (arith, ap length at, few)
 
 -- ---- steps
 

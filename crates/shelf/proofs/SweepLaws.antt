@@ -19,9 +19,9 @@ use Rattle.cell_store.specs.declared.owner.KindColumn.{KindColumn}
 use Rattle.cell_store.specs.declared.owner.WholeFind.{WholeFind}
 use Rattle.cell_store.specs.declared.owner.OwnerCells.{OwnerCells}
 use Rattle.cell_store.specs.Column.{Cells, is_counted}
-use Rattle.cell_store.specs.Owner.{cell_in, column_of, column_held, IsUpTo, CanSettle}
+use Rattle.cell_store.specs.Owner.{cell_in, column_of, column_held, CanSettle, HasSameCells, IsUpTo, KeepsSettling, KeepsUpTo}
 use Rattle.cell_store.specs.Store.{cell_of, cell_by_owner, AreAbout, AreLeft, AreSameCells, AreUpTo, CanSettleAt}
-use Rattle.cell_store.specs.Count.{has_pair, has_place, KeepPairs, LosesFinds}
+use Rattle.cell_store.specs.Count.{has_pair, has_place, HasSamePlaces, IsTidy, KeepPairs, LosesFinds}
 use Rattle.cell_store.specs.Prune.{is_asked}
 use Rattle.cell_store.specs.Sweep.{alive_at, is_dead, whole_swept}
 use Rattle.cell_store.specs.Walk.{IsEach, IsEntry, IsFound}
@@ -149,16 +149,21 @@ kind_found (x ∷ kinds) k has = elim (cases_Bool (x.kind == k)) [
       (suc rest.0, (omega (arith, rest.1.0), λ d. rest.1.1 d))
 ]
 
-pub swept_all : (kept : List KeptFlush) (t : ℕ) (name : Labels) (place : ℕ) (old new : OwnerCells) (d : KindColumn) → IsSweptTo kept t name place old new → length new.kinds.items ≤ place → IsSwept kept t name old new
-swept_all kept t name place old new d is high = record {
-  cells = is.cells;
+-- and then the columns without a find go
+pub swept_all : (kept : List KeptFlush) (t : ℕ) (name : Labels) (place : ℕ) (old cur new : OwnerCells) (d : KindColumn) → IsSweptTo kept t name place old cur → length cur.kinds.items ≤ place
+    → HasSameCells cur new → HasSamePlaces cur new → KeepsUpTo cur new → KeepsSettling cur new → new.whole ≡ cur.whole → IsTidy new → IsSwept kept t name old new
+swept_all kept t name place old cur new d is high same places upto settles whole tidy = record {
+  cells = λ k v there. ap (alive_at t) (same k v) ∙ is.cells k v there;
   alive = λ k has.
-      let at = kind_found new.kinds.items k has in
-      subst (λ n. has_place new (One n) ≡ true → IsAlive kept name t new n) (at.1.1 d) (is.alive at.0 d (omega (arith, at.1.0, high)) at.1.0) has;
-  whole = is.whole;
-  upto = is.upto;
-  settles = is.settles;
-  lost = is.lost;
+      let had : has_place cur (One k) ≡ true = sym (places.places (One k)) ∙ has in
+      let at = kind_found cur.kinds.items k had in
+      let rest : IsAlive kept name t cur k = subst (λ n. has_place cur (One n) ≡ true → IsAlive kept name t cur n) (at.1.1 d) (is.alive at.0 d (omega (arith, at.1.0, high)) at.1.0) had in
+      (rest.0, (rest.1.0, ap (λ (h : Option (Admitted Find)). is_some (alive_at t h)) (same k rest.0) ∙ rest.1.1));
+  whole = whole ∙ is.whole;
+  upto = λ top u. upto top (is.upto top u);
+  settles = λ n k u. settles n k (is.settles n k u);
+  lost = lost_twice old cur new is.lost (record { count = omega (arith, places.count); places = λ scope has. sym (places.places scope) ∙ has; cells = λ k v. inl (same k v) });
+  tidy = tidy;
 }
 
 pub not_dead : (t : ℕ) (whole : Option WholeFind) → is_dead t (whole_swept t whole) ≡ false

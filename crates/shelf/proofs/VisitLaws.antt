@@ -2,7 +2,7 @@
 use Rattle.std.proofs.Common.{◌≡◌, ℕ, zero, suc, ◌+◌, ◌-◌, ◌<◌, ◌≤◌, max, min, Bool, true, false, cond, Option, Some, None, List, [], ◌∷◌, length, get_or, refl, sym, ap, ◌∙◌, subst, arith, ◌⊎◌, inl, inr}
 use Rattle.std.specs.Prelude.{is_some, replicate, IfNone, IfSome, slice_get, swap_remove}
 use Rattle.std.specs.Map.{keys_of, lookup}
-use Rattle.std.proofs.Math.ListN.{set}
+use Rattle.std.proofs.Math.ListN.{set, length-set}
 use Rattle.std.proofs.Math.Nat.{min-eq_left}
 use Rattle.std.proofs.lemmas.Bool.Decides.{nat_tests}
 use Rattle.std.proofs.lemmas.List.{get_or_default}
@@ -12,19 +12,19 @@ use Rattle.dns_name.specs.Labels.{Labels}
 use Rattle.dns_name.specs.Order.{name_eq, name_eq_exact}
 use Rattle.ranked.specs.declared.find.Scope.TheVariants.{One}
 use Rattle.cell_store.specs.declared.owner.OwnerCells.{OwnerCells}
-use Rattle.cell_store.specs.Count.{count_of, has_place, stored_in}
+use Rattle.cell_store.specs.Count.{count_of, has_place, stored_in, IsTidy}
 use Rattle.cell_store.specs.Ends.{latest, name_end}
 use Rattle.cell_store.specs.EndLaws.{alive_before, alive_earlier, some_alive, whole_before, whole_earlier}
 use Rattle.cell_store.specs.Owner.{cell_in}
 use Rattle.cell_store.specs.Store.{AreLeft, AreSameCells, EachCounts}
-use Rattle.cell_store.specs.Mixed.{IsLikeFirst}
+use Rattle.cell_store.specs.Mixed.{has_mixed, IsLikeFirst}
 use Rattle.cell_store.specs.Sweep.{alive_at, is_dead}
 use Rattle.ranked.specs.declared.find.Find.{Find}
 use Rattle.ranked.specs.declared.cell.Admitted.{Admitted}
 use Rattle.std.proofs.lemmas.Bool.{false≢true}
 use Rattle.cell_store.specs.Walk.{IsEach, IsEntry}
 use Rattle.shelf.specs.declared.shelf.KeptFlush.{KeptFlush}
-use Rattle.shelf.specs.Clean.{evens, AreBy, AreEnds, AreKeyed, IsAlive, IsClean, IsEnd}
+use Rattle.shelf.specs.Clean.{evens, sure, zeros_to, AreBy, AreEnds, AreKeyed, IsAlive, IsClean, IsEnd, IsLower}
 use Rattle.shelf.specs.declared.ends.Ends.{Ends}
 use Rattle.shelf.specs.declared.settling.Settling.{Settling}
 use Rattle.shelf.specs.Settling.{reached_at_once, steps_left, HaveStepped}
@@ -32,10 +32,11 @@ use Rattle.shelf.specs.Sweep.{asked_at, count_ended, one_ended, turn_at_most, un
 use Rattle.shelf.specs.First.{life_at}
 use Rattle.shelf.specs.Lasts.{AreWinners}
 use Rattle.shelf.specs.declared.lasts.Lasts.{Lasts}
+use Rattle.shelf.proofs.DoubtLaws.{keyed_lower, low_lower, zeros_length}
 use Rattle.shelf.proofs.DropLaws.{ends_gone, keyed_gone}
 use Rattle.shelf.proofs.EndLaws.{end_zero, ends_zero, keyed_map, keyed_set, keyed_zero, low_by}
 use Rattle.shelf.proofs.ListLaws.{always_some, some_map}
-use Rattle.shelf.proofs.NamedLaws.{each_gone, each_kept}
+use Rattle.shelf.proofs.NamedLaws.{each_gone, each_kept, used_some}
 use Rattle.shelf.proofs.LowLaws.{low_put, low_put_ever}
 use Rattle.shelf.proofs.WinnerLaws.{winners_named}
 use Rattle.shelf.proofs.SweepLaws.{less_left, less_more, less_same, not_dead, swept_less}
@@ -126,15 +127,18 @@ next_first : (kept : List KeptFlush) (t : ℕ) (name : Labels) (cells : OwnerCel
 next_first kept t name cells end like next some =
     let now = next some in ((λ s low. clean_first kept s name cells like (now.0 s low)), clean_first kept t name cells like now.1, now.2)
 
-pub swept_at : (kept : List KeptFlush) (t place : ℕ) (entries news : List (Labels × OwnerCells)) (key : Labels) (old new : OwnerCells) (end after : ℕ) (mixed : Bool) → (mixed ≡ false → IsLikeFirst new) → slice_get entries place ≡ Some (key, old) → IsSwept kept t key old new
+pub swept_at : (kept : List KeptFlush) (t place : ℕ) (entries news : List (Labels × OwnerCells)) (key : Labels) (old new : OwnerCells) (end after : ℕ) (mixed : Bool) → (mixed ≡ false → IsLikeFirst new) → mixed ≡ has_mixed new → slice_get entries place ≡ Some (key, old) → IsSwept kept t key old new
     → news ≡ set_value_at entries place new → end ≡ max (name_end new) after → after ≡ min (t + 1) latest → IsSweptAt kept t place entries news end mixed
-swept_at kept t place entries news key old new end after mixed like there is put at then = subst (λ (l : List (Labels × OwnerCells)). IsSweptAt kept t place entries l end mixed) (sym put) (record {
+swept_at kept t place entries news key old new end after mixed like flag there is put at then = subst (λ (l : List (Labels × OwnerCells)). IsSweptAt kept t place entries l end mixed) (sym put) (record {
   each = each_at kept t entries place key old new there (lessened kept t key old new is);
   others = others_at entries place new;
   size = size_at entries place new;
   next = here_at (λ e. IsNext kept t e end) entries place key old new there (next_at kept t key old new end after is at then);
   ever = λ none. here_at (λ e. IsNext [] t e end) entries place key old new there (next_first kept t key new end (like none) (next_at kept t key old new end after is at then));
   alike = λ none. here_at (λ e. IsLikeFirst e.1) entries place key old new there (like none);
+  tidy = here_at (λ e. IsTidy e.1) entries place key old new there is.tidy;
+  exact = here_at (λ e. end ≡ max (name_end e.1) (min (t + 1) latest)) entries place key old new there (at ∙ ap (max (name_end new)) then);
+  flag = here_at (λ e. mixed ≡ has_mixed e.1) entries place key old new there flag;
 })
 
 -- ---- a visit
@@ -168,36 +172,39 @@ module _ {S : Type 0} (kept : List KeptFlush) (t place end : ℕ) (mixed : Bool)
 
   -- the ends, with other seconds
   abbrev noting : Lasts → Ends
-  noting lasts = record { moments = after.moments; mixed = after.mixed; lasts = lasts }
+  noting lasts = record { moments = after.moments; mixed = after.mixed; left = after.left; lasts = lasts }
 
   -- the name stays
-  pub on_kept : after.moments ≡ set ends.moments place end → evens after ≡ set (evens ends) place (cond mixed 0 end) → length after.mixed.items ≡ length after.moments → after.lasts ≡ ends.lasts
+  pub on_kept : after.moments ≡ set ends.moments place end → IsLower (set (sure ends) place end) (sure after) → after.left ≤ ends.left → evens after ≡ set (evens ends) place (cond mixed 0 end) → length after.mixed.items ≡ length after.moments → after.lasts ≡ ends.lasts
       → new.entries ≡ middle.entries → IfSome (slice_get middle.entries place) (λ e. 1 ≤ count_of e.1)
       → (lasts : Lasts) (last : ℕ) → last ≡ min (life_at [] kept new.entries place) latest → lasts.ends.items ≡ set after.lasts.ends.items place last → (AreWinners new.entries after.lasts → AreWinners new.entries lasts)
       → (asked most : ℕ) (first : IndexMap Labels OwnerCells S) → asked ≤ t → asked < latest → IsUnderway kept t asked first most old ends was → IsUnderway kept t asked first most new (noting lasts) stored
-  on_kept moments unmixed flags same entries some lasts last noted seconds tree asked most first before small is = record {
+  on_kept moments lower fell unmixed flags same entries some lasts last noted seconds tree asked most first before small is = record {
     less = less_more kept t first old new is.less less;
     ends = subst (λ (l : List (Labels × OwnerCells)). AreEnds kept l (noting lasts)) (sym entries) (record {
-      now = subst (λ (l : List ℕ). AreKeyed (IsEnd kept) middle.entries l) (sym moments)
-          (keyed_set (IsEnd kept) old.entries middle.entries ends.moments place end is.ends.now swept.others swept.size low
+      size = sym (zeros_length after.left after.moments) ∙ (lower.size ∙ (length-set (sure ends) place end ∙ (is.ends.now.size ∙ sym swept.size)));
+      now = keyed_lower (IsEnd kept) (end_zero kept) middle.entries (set (sure ends) place end) (sure after) lower
+          (keyed_set (IsEnd kept) old.entries middle.entries (sure ends) place end is.ends.now swept.others swept.size low
           (some_map (λ e. IsEnd kept e end × IsClean kept t e.0 e.1 × ((s : ℕ) → s ≤ t → s < latest → s < end)) (λ e. IsEnd kept e end) (slice_get middle.entries place) (λ e all. all.0) both));
       ever = subst (λ (l : List ℕ). AreKeyed (IsEnd []) middle.entries l) (sym unmixed)
           (keyed_set (IsEnd []) old.entries middle.entries (evens ends) place (cond mixed 0 end) is.ends.ever swept.others swept.size low (ever_end t (slice_get middle.entries place) end mixed swept.ever some));
       flags = flags;
-      low = low_by kept middle.entries (λ l. set l place end) (λ l. set l place last) ends.moments after.moments ends.lasts.ends.items lasts.ends.items moments put
-          (low_put old.entries middle.entries place last swept.others kept ends.moments ends.lasts.ends.items end (omega (arith, low, size)) (omega (arith, low, is.ends.winners.size)) at is.ends.low);
+      low = low_lower kept middle.entries (set (sure ends) place end) (sure after) lasts.ends.items lower
+          (low_by kept middle.entries (λ l. set l place end) (λ l. set l place last) (sure ends) (set (sure ends) place end) ends.lasts.ends.items lasts.ends.items refl put
+          (low_put old.entries middle.entries place last swept.others kept (sure ends) ends.lasts.ends.items end (omega (arith, low, is.ends.now.size)) (omega (arith, low, is.ends.winners.size)) at is.ends.low));
       low_ever = low_by [] middle.entries (λ l. set l place (cond mixed 0 end)) (λ l. set l place last) (evens ends) (evens after) ends.lasts.ends.items lasts.ends.items unmixed put
           (low_put_ever old.entries middle.entries place last swept.others kept (evens ends) ends.lasts.ends.items end mixed (omega (arith, low, is.ends.ever.size)) (omega (arith, low, is.ends.winners.size)) at swept.alike is.ends.low_ever);
       winners = subst (λ (l : List (Labels × OwnerCells)). AreWinners l lasts) entries
           (tree (subst (λ (x : Lasts). AreWinners new.entries x) (sym same) (winners_named old.entries new.entries ends.lasts (ap keys_of entries ∙ named) is.ends.winners)));
     });
+    sure = omega (arith, fell, is.sure);
     due = subst (λ (l : List (Labels × OwnerCells)). AreKeyed (IsDue kept t asked) l after.moments) (sym entries)
         (subst (λ (l : List ℕ). AreKeyed (IsDue kept t asked) middle.entries l) (sym moments)
         (keyed_set (IsDue kept t asked) old.entries middle.entries ends.moments place end is.due swept.others swept.size low
         (some_map (λ e. IsEnd kept e end × IsClean kept t e.0 e.1 × ((s : ℕ) → s ≤ t → s < latest → s < end)) (λ e. IsDue kept t asked e end) (slice_get middle.entries place) (λ e all late. all.1) both)));
     counted = counted ∙ sym count;
     fewer = omega (arith, fewer, is.fewer);
-    named = λ each. subst (λ (l : List (Labels × OwnerCells)). EachCounts l) (sym entries) (each_kept old.entries middle.entries ends.moments place size swept.others swept.size low some (is.named each));
+    named = λ each. subst (λ (l : List (Labels × OwnerCells)). EachCounts l) (sym entries) (each_kept old.entries middle.entries ends.moments place size swept.others swept.size low (used_some (slice_get middle.entries place) some swept.tidy) (is.named each));
   }
     where
       put : lasts.ends.items ≡ set ends.lasts.ends.items place last
@@ -216,6 +223,7 @@ module _ {S : Type 0} (kept : List KeptFlush) (t place end : ℕ) (mixed : Bool)
   on_gone by d entries lasts seconds tree asked most first is = record {
     less = less_more kept t first old new is.less less;
     ends = ends_gone old.entries middle.entries new.entries place d low swept.others named entries kept ends after lasts by seconds tree is.ends;
+    sure = omega (arith, by.left, is.sure);
     due = subst (λ (l : List ℕ). AreKeyed (IsDue kept t asked) new.entries l) (sym by.moments)
         (keyed_gone old.entries middle.entries new.entries place d low swept.others named entries (IsDue kept t asked) ends.moments is.due);
     counted = counted ∙ sym count;
@@ -335,22 +343,24 @@ all_alive kept t owners all = record {
 
 -- ---- the first visit
 
-pub start : {S : Type 0} (kept : List KeptFlush) (t : ℕ) (owners : IndexMap Labels OwnerCells S) (ends : Ends) (stored : ℕ) → AreEnds kept owners.entries ends → stored ≡ stored_in owners → IsUnderway kept t t owners stored owners ends stored
+pub start : {S : Type 0} (kept : List KeptFlush) (t : ℕ) (owners : IndexMap Labels OwnerCells S) (ends : Ends) (stored : ℕ) → AreEnds kept owners.entries ends × (ends.left ≡ 0) → stored ≡ stored_in owners → IsUnderway kept t t owners stored owners ends stored
 start kept t owners ends stored is counted = record {
   less = less_same kept t owners;
-  ends = is;
-  due = keyed_map (IsEnd kept) (IsDue kept t t) (λ e n now late. now t late) owners.entries ends.moments is.now;
+  ends = is.0;
+  sure = is.1;
+  due = keyed_map (IsEnd kept) (IsDue kept t t) (λ e n now late. now t late) owners.entries ends.moments (subst (λ n. AreKeyed (IsEnd kept) owners.entries (zeros_to n ends.moments)) is.1 is.0.now);
   counted = counted;
   fewer = omega arith;
   named = λ each. each;
 }
 
-pub start_all : {S : Type 0} (kept : List KeptFlush) (t asked : ℕ) (owners : IndexMap Labels OwnerCells S) (old ends : Ends) (stored : ℕ) → AreEnds kept owners.entries old → AreBy (λ l. replicate (length l) 0) old ends → stored ≡ stored_in owners
+pub start_all : {S : Type 0} (kept : List KeptFlush) (t asked : ℕ) (owners : IndexMap Labels OwnerCells S) (old ends : Ends) (stored : ℕ) → AreEnds kept owners.entries old × (old.left ≡ 0) → AreBy (λ l. replicate (length l) 0) old ends → stored ≡ stored_in owners
     → IsUnderway kept t asked owners stored owners ends stored
 start_all kept t asked owners old ends stored is by counted = record {
   less = less_same kept t owners;
-  ends = ends_zero kept owners.entries old ends is by;
-  due = subst (λ (l : List ℕ). AreKeyed (IsDue kept t asked) owners.entries l) (sym by.moments) (keyed_zero (IsDue kept t asked) (due_zero kept t asked) owners.entries (length old.moments) is.now.size);
+  ends = ends_zero kept owners.entries old ends is.0 by;
+  sure = omega (arith, by.left, is.1);
+  due = subst (λ (l : List ℕ). AreKeyed (IsDue kept t asked) owners.entries l) (sym by.moments) (keyed_zero (IsDue kept t asked) (due_zero kept t asked) owners.entries (length old.moments) is.0.size);
   counted = counted;
   fewer = omega arith;
   named = λ each. each;

@@ -1,5 +1,5 @@
 -- The names that need no sweep, and the moment from which each may need one.
-use Rattle.std.specs.Prelude.{◌≡◌, ◌<◌, ◌≤◌, ℕ, Bool, true, false, nat_lt, ◌-◌, ◌++◌, [], ◌∷◌, is_some, IfSome, Option, None, Some, List, length, take, slice_get, slice_index_or, slice_set, swap_remove, if◌then◌else◌}
+use Rattle.std.specs.Prelude.{◌≡◌, ◌⊎◌, zero, suc, ◌<◌, ◌≤◌, ◌+◌, ℕ, Bool, true, false, nat_lt, ◌-◌, ◌++◌, [], ◌∷◌, is_some, IfSome, Option, None, Some, List, length, take, slice_get, slice_index_or, slice_set, swap_remove, if◌then◌else◌}
 use Rattle.dns_name.specs.Labels.{Labels}
 use Rattle.ranked.specs.declared.find.Scope.TheVariants.{One}
 use Rattle.cell_store.specs.declared.owner.OwnerCells.{OwnerCells}
@@ -58,29 +58,60 @@ evens_of (end ∷ ends) (mixed ∷ more) = (if mixed then 0 else end) ∷ evens_
 abbrev pub evens : Ends → List ℕ
 evens ends = evens_of ends.moments ends.mixed.items
 
--- The moments have changed in this way, and so have those of the names that are not mixed.
+-- the moments, and 0 for the names before a place
+abbrev pub zeros_to : ℕ → List ℕ → List ℕ
+zeros_to zero ends = ends
+zeros_to (suc left) [] = []
+zeros_to (suc left) (end ∷ ends) = 0 ∷ zeros_to left ends
+
+-- the moments of the names about which no flush that has gone leaves a doubt, and 0 for the others
+abbrev pub sure : Ends → List ℕ
+sure ends = zeros_to ends.left ends.moments
+
+-- Each moment is as it was, or 0.
+pub record IsLower (was now : List ℕ) : Type 0 where
+  pub size : length now ≡ length was
+  pub each : (i : ℕ) → (slice_index_or now i 0 ≡ 0) ⊎ (slice_index_or now i 0 ≡ slice_index_or was i 0)
+
+-- the place before which moments are in doubt is as it was, or has gone down by one
+abbrev pub HasLowered : ℕ → ℕ → ℕ → Type 0
+HasLowered place old new = (new ≡ old) ⊎ ((new ≡ place) × (old ≡ place + 1))
+
+-- The moment at a place is 0 now, or it is as it was, and right whatever flushes are kept.
+abbrev pub EndsMixed : ℕ → List ℕ → List Bool → List ℕ → Type 0
+EndsMixed place old mixed new = (new ≡ slice_set old place 0) ⊎ ((new ≡ old) × (slice_index_or (evens_of old mixed) place 0 ≡ slice_index_or old place 0))
+
+-- The moments have changed in this way, and so have those of the names that are not mixed, and those that are sure.
 pub record AreBy (f : List ℕ → List ℕ) (old new : Ends) : Type 0 where
   pub moments : new.moments ≡ f old.moments
   pub unmixed : evens new ≡ f (evens old)
+  pub sure : IsLower (f (sure old)) (sure new)
+  pub left : new.left ≤ old.left
   pub flags : length new.mixed.items ≡ length new.moments
   pub lasts : AreSameLasts old.lasts new.lasts
 
--- The moments of the names that are mixed are 0, and the others are as they were.
+-- No moment of a name that is mixed is sure, and the others are as they were.
 pub record AreEvened (old new : Ends) : Type 0 where
-  pub moments : new.moments ≡ evens old
+  pub size : length new.moments ≡ length old.moments
   pub unmixed : evens new ≡ evens old
+  pub sure : IsLower (evens old) (sure new)
   pub flags : length new.mixed.items ≡ length new.moments
   pub lasts : AreSameLasts old.lasts new.lasts
 
--- No name needs a sweep before its moment. A name that is not mixed needs none whatever flushes are kept: version 0 alone says so.
+-- No name needs a sweep before its moment, but for names that a flush which has gone left in doubt. A name that is not mixed needs none whatever flushes are kept: version 0 alone says so.
 -- The last find of a name does not end before the second that the last visit noted, unless the next sweep is to visit it.
 pub record AreEnds (kept : List KeptFlush) (entries : List (Labels × OwnerCells)) (ends : Ends) : Type 0 where
-  pub now : AreKeyed (IsEnd kept) entries ends.moments
+  pub size : length ends.moments ≡ length entries
+  pub now : AreKeyed (IsEnd kept) entries (sure ends)
   pub ever : AreKeyed (IsEnd []) entries (evens ends)
   pub flags : length ends.mixed.items ≡ length ends.moments
-  pub low : AreLow kept entries ends.moments ends.lasts.ends.items
+  pub low : AreLow kept entries (sure ends) ends.lasts.ends.items
   pub low_ever : AreLow [] entries (evens ends) ends.lasts.ends.items
   pub winners : AreWinners entries ends.lasts
+
+-- Moments are in doubt from no later place than before, and if they were from one place at most, then now from the other at most.
+abbrev pub HasSettled : ℕ → ℕ → Ends → Ends → Type 0
+HasSettled from to old new = (new.left ≤ old.left) × (old.left ≤ from → new.left ≤ to)
 
 -- There is a moment and a second for each entry, and a flag for each moment.
 abbrev pub HaveEnds : List (Labels × OwnerCells) → Ends → Type 0

@@ -1,5 +1,5 @@
 -- The kept flushes: whether they are in force, and the versions that they give.
-use Rattle.std.specs.Prelude.{ℕ, Bool, false, List, [], ◌∷◌, ◌==◌, ◌&&◌, ◌||◌, if◌then◌else◌}
+use Rattle.std.specs.Prelude.{ℕ, Bool, false, not, List, [], ◌∷◌, ◌==◌, ◌&&◌, ◌||◌, if◌then◌else◌}
 use Rattle.std.specs.List.{list_any}
 use Rattle.dns_text.specs.declared.record.Question.{Question}
 use Rattle.ranked.specs.Flush.{covers}
@@ -8,6 +8,10 @@ use Rattle.shelf.specs.declared.shelf.KeptFlush.{KeptFlush}
 -- a kept flush, in force or not if it has this number
 abbrev pub with_shown : ℕ → Bool → KeptFlush → KeptFlush
 with_shown number shown own = record { flush = own.flush; number = own.number; shown = if own.number == number then shown else own.shown }
+
+-- a kept flush, in force if it was not, or not if it was, if it has this number
+abbrev pub turned_over : ℕ → KeptFlush → KeptFlush
+turned_over number own = record { flush = own.flush; number = own.number; shown = if own.number == number then not own.shown else own.shown }
 
 -- whether the oldest flush has this number and is in force
 abbrev pub stands_first : ℕ → List KeptFlush → Bool

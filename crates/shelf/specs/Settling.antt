@@ -1,16 +1,19 @@
 -- Permanent flushes of zones that have not reached the cells of each name yet.
-use Rattle.std.specs.Prelude.{◌≡◌, ◌≤◌, ◌+◌, ◌&&◌, ◌==◌, ◌∷◌, [], ℕ, Bool, nat_le, not, min, fold, List, Option, if◌then◌else◌}
-use Rattle.std.specs.List.{AllByRecursion, filter}
+use Rattle.std.specs.Prelude.{◌≡◌, ◌≤◌, ◌+◌, ◌++◌, ◌&&◌, ◌==◌, ◌∷◌, [], ℕ, Bool, false, length, nat_le, nat_lt, not, max, min, fold, List, Option, if◌then◌else◌}
+use Rattle.std.specs.List.{AllByRecursion, filter, list_any}
 use Rattle.indexmap.specs.IndexMap.{IndexMap}
 use Rattle.dns_name.specs.Labels.{Labels}
 use Rattle.dns_name.specs.Below.{is_at_or_below}
 use Rattle.dns_text.specs.declared.record.Question.{Question}
 use Rattle.ranked.specs.declared.find.Find.{Find}
 use Rattle.ranked.specs.declared.cell.Admitted.{Admitted}
+use Rattle.ranked.specs.declared.flush.Reach.{Reach}
+use Rattle.ranked.specs.declared.flush.Reach.TheVariants.{OneType, Name, Zone}
 use Rattle.cell_store.specs.declared.owner.OwnerCells.{OwnerCells}
 use Rattle.cell_store.specs.Owner.{after_settle}
 use Rattle.cell_store.specs.Store.{cell_of, name_place, AreAbout, AreUpTo}
 use Rattle.shelf.specs.declared.settling.Settling.{Settling}
+use Rattle.shelf.specs.declared.shelf.KeptFlush.{KeptFlush}
 
 -- the version so far, or that of a flush, if it covers the name and is newer
 abbrev pub later_settled : Labels → ℕ → Settling → ℕ
@@ -54,6 +57,11 @@ pub record IsMoved {S : Type 0} (moved : Question → ℕ → ℕ) (top : ℕ) (
 abbrev pub steps_of : Settling → ℕ
 steps_of own = own.left + 1
 
+-- the most names that one of them has left
+abbrev pub most_left : List Settling → ℕ
+most_left [] = 0
+most_left (own ∷ later) = max own.left (most_left later)
+
 -- what the flushes have left
 abbrev pub steps_left : List Settling → ℕ
 steps_left [] = 0
@@ -71,10 +79,6 @@ is_outdone zone number own = nat_le own.number number && is_at_or_below own.zone
 abbrev pub without_outdone : Labels → ℕ → List Settling → List Settling
 without_outdone zone number settlings = filter (λ own. not (is_outdone zone number own)) settlings
 
--- the same version
-abbrev pub unmoved : Question → ℕ → ℕ
-unmoved question v = v
-
 -- a flush with so many names left to reach
 abbrev pub with_left : ℕ → Settling → Settling
 with_left left own = record { zone = own.zone; number = own.number; left = left }
@@ -83,6 +87,52 @@ with_left left own = record { zone = own.zone; number = own.number; left = left 
 abbrev pub first_at : ℕ → List Settling → List Settling
 first_at left [] = []
 first_at left (own ∷ later) = if left == 0 then later else with_left left own ∷ later
+
+-- the most flushes that have names left to reach
+abbrev pub most_settling : ℕ
+most_settling = 256
+
+-- the flushes, without the first if there are as many as there may be
+abbrev pub with_room : List Settling → List Settling
+with_room settlings = if nat_lt (length settlings) most_settling then settlings else first_at 0 settlings
+
+-- A flush that has gone leaves moments in doubt. An entry of number 0 changes no version: its steps only end the names in doubt.
+abbrev pub doubting : ℕ → Settling
+doubting names = record { zone = []; number = 0; left = names }
+
+-- what joins the permanent flushes with another one: itself, if it is one of a zone
+abbrev pub joining : Reach → Labels → ℕ → ℕ → Settling
+joining (OneType kind) zone number names = doubting names
+joining Name zone number names = doubting names
+joining Zone zone number names = record { zone = zone; number = number; left = names }
+
+-- the flushes once another one is permanent: it joins them, without those that it outdoes
+abbrev pub joined_by : Reach → Labels → ℕ → ℕ → List Settling → List Settling
+joined_by reach zone number names settlings =
+    let own = joining reach zone number names in without_outdone own.zone own.number (with_room settlings) ++ own ∷ []
+
+-- the flushes once an undone one has gone
+abbrev pub doubted : ℕ → List Settling → List Settling
+doubted names settlings = if nat_lt (length settlings) most_settling then without_outdone [] 0 settlings ++ doubting names ∷ [] else settlings
+
+-- the same, if the flush of a number was kept
+abbrev pub cleared_once : ℕ → ℕ → List KeptFlush → List Settling → List Settling
+cleared_once number names kept settlings = if list_any (λ own. own.number == number) kept then doubted names settlings else settlings
+
+-- the flushes once the kept flush of a number has gone: it is permanent if it was the oldest and in force
+abbrev pub settled_once : ℕ → ℕ → List KeptFlush → List Settling → List Settling
+settled_once number names [] settlings = settlings
+settled_once number names (own ∷ later) settlings =
+    if own.number == number && own.shown then joined_by own.flush.reach own.flush.name own.number names settlings else cleared_once number names (own ∷ later) settlings
+
+-- No flush is outdone by a later one.
+abbrev pub AreUseful : List Settling → Type 0
+AreUseful [] = Unit {0}
+AreUseful (own ∷ later) = AllByRecursion (λ other. is_outdone other.zone other.number own ≡ false) later × AreUseful later
+
+-- the same version
+abbrev pub unmoved : Question → ℕ → ℕ
+unmoved question v = v
 
 -- the steps that the first flush has left
 abbrev pub first_steps : List Settling → ℕ

@@ -1,5 +1,5 @@
 -- How much a shelf stores: at most the different pairs of its admissions, and at least those of the finds that are alive in some version.
-use Rattle.std.specs.Prelude.{◌≡◌, ◌≤◌, ◌&&◌, ℕ, Bool, true, false, is_some, List, [], ◌∷◌, Some, Result, IsOk, IsErrOf}
+use Rattle.std.specs.Prelude.{◌≡◌, ◌≤◌, ◌&&◌, ℕ, Bool, true, false, is_some, length, sum_by, List, [], ◌∷◌, Some, Result, IsOk, IsErrOf, if◌then◌else◌}
 use Rattle.std.specs.Set.{distinct_count, is_member}
 use Rattle.dns_name.specs.Labels.{Labels}
 use Rattle.dns_name.specs.Order.{name_eq}
@@ -8,6 +8,7 @@ use Rattle.ranked.specs.declared.find.Find.{Find}
 use Rattle.ranked.specs.declared.find.Scope.{Scope}
 use Rattle.ranked.specs.Find.{has_kind}
 use Rattle.ranked.specs.declared.cell.Admitted.{Admitted}
+use Rattle.cell_store.specs.declared.owner.OwnerCells.{OwnerCells}
 use Rattle.cell_store.specs.Count.{has_pair, pair_eq, pair_of}
 use Rattle.cell_store.specs.Sweep.{alive_at}
 use Rattle.shelf.specs.declared.shelf.KeptFlush.{KeptFlush}
@@ -72,3 +73,11 @@ pub record IsNeeded (shelf : Shelf) (t : ℕ) (pair : Labels × Scope) : Type 0 
 -- Each place that counts is needed at a moment.
 abbrev pub AreNeeded : ℕ → Shelf → Type 0
 AreNeeded t shelf = (pair : Labels × Scope) → has_pair shelf.owners pair ≡ true → IsNeeded shelf t pair
+
+-- the columns of a name, or 0 if a find of the whole name is cached
+abbrev pub plain_columns : OwnerCells → ℕ
+plain_columns cells = if is_some cells.whole then 0 else length cells.kinds.items
+
+-- the columns of all names of which no find of the whole name is cached
+abbrev pub columns_in : List (Labels × OwnerCells) → ℕ
+columns_in entries = sum_by (λ entry. plain_columns entry.1) entries

@@ -1,5 +1,5 @@
 -- The sweep: the cells after it.
-use Rattle.std.specs.Prelude.{◌≡◌, ◌≢◌, ◌<◌, ◌≤◌, ◌+◌, ◌-◌, ◌*◌, ℕ, Bool, true, false, IfSome, List, [], ◌∷◌, ◌++◌, fold, min, nat_le, sum_by, length, slice_get, if◌then◌else◌}
+use Rattle.std.specs.Prelude.{◌≡◌, ◌≢◌, ◌<◌, ◌≤◌, ◌+◌, ◌-◌, ◌*◌, ℕ, Bool, true, false, IfSome, List, [], ◌∷◌, ◌++◌, fold, max, min, nat_le, sum_by, length, slice_get, if◌then◌else◌}
 use Rattle.indexmap.specs.IndexMap.{IndexMap, get}
 use Rattle.dns_name.specs.Labels.{Labels}
 use Rattle.dns_name.specs.Order.{name_eq}
@@ -7,11 +7,11 @@ use Rattle.dns_text.specs.declared.record.Question.{Question}
 use Rattle.ranked.specs.declared.find.Scope.TheVariants.{One}
 use Rattle.cell_store.specs.declared.owner.OwnerCells.{OwnerCells}
 use Rattle.cell_store.specs.Owner.{cell_in, IsUpTo, CanSettle}
-use Rattle.cell_store.specs.Count.{count_of, has_place, stored_in, KeepPairs, LosesFinds}
-use Rattle.cell_store.specs.Ends.{latest}
+use Rattle.cell_store.specs.Count.{count_of, has_place, stored_in, IsTidy, KeepPairs, LosesFinds}
+use Rattle.cell_store.specs.Ends.{latest, name_end}
 use Rattle.cell_store.specs.Walk.{IsEach, IsEntry}
 use Rattle.cell_store.specs.Store.{cell_of, AreAbout, AreCountedFrom, AreUpTo, EachCounts, KeepSettling}
-use Rattle.cell_store.specs.Mixed.{IsLikeFirst}
+use Rattle.cell_store.specs.Mixed.{has_mixed, IsLikeFirst}
 use Rattle.cell_store.specs.Sweep.{alive_at, is_dead, whole_swept}
 use Rattle.shelf.specs.declared.shelf.KeptFlush.{KeptFlush}
 use Rattle.ranked.specs.Flush.{covers}
@@ -30,7 +30,7 @@ number_more question done own = if covers own.flush question then done ++ own.nu
 abbrev pub numbers_of : List KeptFlush → Question → List ℕ
 numbers_of kept question = fold (number_more question) [] kept
 
--- The cells of a name after a sweep. Each version keeps what is alive, and gets nothing. Each column that counts has a find that is alive in some version.
+-- The cells of a name after a sweep. Each version keeps what is alive, and gets nothing. Each column that counts has a find that is alive in some version, and the name is tidy.
 pub record IsSwept (kept : List KeptFlush) (t : ℕ) (name : Labels) (old new : OwnerCells) : Type 0 where
   pub cells : (k v : ℕ) → is_version kept (record { owner = name; kind = k }) v ≡ true → alive_at t (cell_in new k v) ≡ alive_at t (cell_in old k v)
   pub alive : (k : ℕ) → has_place new (One k) ≡ true → IsAlive kept name t new k
@@ -38,6 +38,7 @@ pub record IsSwept (kept : List KeptFlush) (t : ℕ) (name : Labels) (old new : 
   pub upto : (top : ℕ) → IsUpTo top old → IsUpTo top new
   pub settles : (n k : ℕ) → CanSettle n k old → CanSettle n k new
   pub lost : LosesFinds old new
+  pub tidy : IsTidy new
 
 -- Each place that counts has a find that is alive in some version, and each name has a place that counts.
 pub record AreAlive {S : Type 0} (kept : List KeptFlush) (t : ℕ) (owners : IndexMap Labels OwnerCells S) : Type 0 where
@@ -64,7 +65,7 @@ pub record AreLessened {S : Type 0} (kept : List KeptFlush) (t : ℕ) (old new :
 abbrev pub IsNext : List KeptFlush → ℕ → Labels × OwnerCells → ℕ → Type 0
 IsNext kept t entry end = 1 ≤ count_of entry.1 → IsEnd kept entry end × IsClean kept t entry.0 entry.1 × ((s : ℕ) → s ≤ t → s < latest → s < end)
 
--- The name at a place was swept, and the others are as they were. If it is not mixed, it does not matter which flushes are kept.
+-- The name at a place was swept, and the others are as they were. If it is not mixed, it does not matter which flushes are kept. The moment is the first end of its finds, or the next second, if that is later.
 pub record IsSweptAt (kept : List KeptFlush) (t place : ℕ) (old new : List (Labels × OwnerCells)) (end : ℕ) (mixed : Bool) : Type 0 where
   pub each : IsEach (IsEntry (IsLessened kept t)) old new
   pub others : (i : ℕ) → i ≢ place → slice_get new i ≡ slice_get old i
@@ -72,6 +73,9 @@ pub record IsSweptAt (kept : List KeptFlush) (t place : ℕ) (old new : List (La
   pub next : IfSome (slice_get new place) (λ entry. IsNext kept t entry end)
   pub ever : mixed ≡ false → IfSome (slice_get new place) (λ entry. IsNext [] t entry end)
   pub alike : mixed ≡ false → IfSome (slice_get new place) (λ entry. IsLikeFirst entry.1)
+  pub tidy : IfSome (slice_get new place) (λ entry. IsTidy entry.1)
+  pub exact : IfSome (slice_get new place) (λ entry. end ≡ max (name_end entry.1) (min (t + 1) latest))
+  pub flag : IfSome (slice_get new place) (λ entry. mixed ≡ has_mixed entry.1)
 
 -- A name that ends after a moment needs no sweep at another.
 abbrev pub IsDue : List KeptFlush → ℕ → ℕ → Labels × OwnerCells → ℕ → Type 0
@@ -81,6 +85,7 @@ IsDue kept t asked entry end = asked < end → IsClean kept t entry.0 entry.1
 pub record IsUnderway {S : Type 0} (kept : List KeptFlush) (t asked : ℕ) (first : IndexMap Labels OwnerCells S) (most : ℕ) (owners : IndexMap Labels OwnerCells S) (ends_now : Ends) (stored : ℕ) : Type 0 where
   pub less : AreLessened kept t first owners
   pub ends : AreEnds kept owners.entries ends_now
+  pub sure : ends_now.left ≡ 0
   pub due : AreKeyed (IsDue kept t asked) owners.entries ends_now.moments
   pub counted : stored ≡ stored_in owners
   pub fewer : stored ≤ most

@@ -19,7 +19,7 @@ use Rattle.shelf.specs.declared.shelf.KeptFlush.{KeptFlush}
 use Rattle.shelf.specs.declared.shelf.Shelf.{Shelf}
 pub use Rattle.shelf.specs.Kept.{is_kept, is_version}
 use Rattle.shelf.specs.Clean.{AreEnds}
-use Rattle.shelf.specs.Settling.{settled_cell, IsSettling}
+use Rattle.shelf.specs.Settling.{most_left, most_settling, settled_cell, AreUseful, IsSettling}
 use Rattle.ranked.specs.Flush.{covers, flushed_types}
 
 -- an admission of a find at a moment, or a flush with its number
@@ -79,7 +79,7 @@ CanSettleFlush owners number flush = AllByRecursion (λ kind. CanSettleAt number
 abbrev pub CanSettleKept : {S : Type 0} → IndexMap Labels OwnerCells S → KeptFlush → Type 0
 CanSettleKept owners own = CanSettleFlush owners own.number own.flush
 
--- No admission has reached a version past the greatest number, and each cell has only a find about its question. Each kept flush can become permanent with no memory. The places that count are counted, and are at most the limit. No name needs a sweep before its end. Each permanent flush has reached each name from its place on. There is room for each kept flush to become permanent. Each name of the index has a place that counts.
+-- No admission has reached a version past the greatest number, and each cell has only a find about its question. Each kept flush can become permanent with no memory. The places that count are counted, and are at most the limit. No name needs a sweep before its end. Each permanent flush has reached each name from its place on, and none is outdone by a later one. They are at most 256. One of them has each name left that a flush left in doubt. There is room for each kept flush to become permanent. Each name of the index has a place that counts, and each of its columns counts unless a find of the whole name is cached.
 pub record IsShelf (shelf : Shelf) : Type 0 where
   pub upto : AreUpTo shelf.top shelf.owners
   pub about : AreAbout shelf.owners
@@ -94,6 +94,9 @@ pub record IsShelf (shelf : Shelf) : Type 0 where
   pub settling : AllByRecursion (IsSettling shelf.top shelf.owners) shelf.settlings.items
   pub space : length shelf.settlings.items + length shelf.kept.items ≤ vec_capacity shelf.settlings
   pub named : EachCounts shelf.owners.entries
+  pub useful : AreUseful shelf.settlings.items
+  pub short : length shelf.settlings.items ≤ most_settling
+  pub doubt : shelf.ends.left ≤ most_left shelf.settlings.items
 
 -- the version so far, or that of a flush if it is chosen and covers the question
 abbrev pub later_chosen : Question → (ℕ → Bool) → ℕ → KeptFlush → ℕ

@@ -1,17 +1,18 @@
 //! The first form of `Shelf::settle`: once a flush has gone, the next sweep visits each name with more than one version, whether the flush
-//! covers it or not. Today's does the same. Another form has to return what this one does, so a test compares them.
+//! covers it or not. Today's lets it do so for a few names at a time. A test compares what both show, and what they keep once swept.
 
 ghost use Rattle.std.specs.Prelude.{◌≡◌, length};
-ghost use Rattle.shelf.specs.Clean.{AreEvened};
+ghost use Rattle.shelf.specs.Clean.{evens, AreEvened};
 ghost use Rattle.shelf.specs.Told.{without, IsShelf};
 
 use crate::ends::Ends;
 use crate::flushing::settle_flush;
 use crate::shelf::{KeptFlush, Shelf};
 
-// Lets the next sweep visit each name whose moment may be wrong once a kept flush has gone.
-fn end_mixed(ends: &mut Ends)
-    ensures { length ends.old.mixed.items ≡ length ends.old.moments → AreEvened ends.old ends.new }
+// Makes the moment of each name that is mixed 0.
+fn end_each(ends: &mut Ends)
+    ensures moments { length ends.old.mixed.items ≡ length ends.old.moments → ends.new.moments ≡ evens ends.old }
+    ensures same { (ends.new.mixed ≡ ends.old.mixed) × (ends.new.lasts ≡ ends.old.lasts) }
 {
     let mut place = 0;
     while place < ends.mixed.len() && place < ends.moments.len() {
@@ -20,6 +21,15 @@ fn end_mixed(ends: &mut Ends)
         }
         place += 1;
     }
+}
+
+// Lets the next sweep visit each name whose moment may be wrong once a kept flush has gone.
+fn end_mixed(ends: &mut Ends)
+    ensures evened { length ends.old.mixed.items ≡ length ends.old.moments → AreEvened ends.old ends.new }
+    ensures left { ends.new.left ≡ 0 }
+{
+    end_each(ends);
+    ends.left = 0;
 }
 
 // Whether the oldest flush has a number and is in force.
@@ -76,6 +86,7 @@ fn settle_oldest(shelf: &mut Shelf)
     let own = shelf.kept.remove(0);
     end_mixed(&mut shelf.ends);
     settle_flush(
+        shelf.alloc,
         &mut shelf.owners,
         &mut shelf.ends,
         &mut shelf.stored,

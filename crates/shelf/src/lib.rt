@@ -25,6 +25,10 @@ mod laws;
 mod sweep;
 // The name to forget first.
 mod oldest;
+// The cells that would be shown, if one flush were undone or redone.
+mod preview;
+// The names that a flush hides, for an operator's eyes.
+mod hidden;
 // The cells that are kept for a question.
 mod kept;
 // The first form of letting a flush go.

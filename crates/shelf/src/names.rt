@@ -5,14 +5,25 @@ ghost use Rattle.std.specs.Prelude.{◌≡◌, ◌≤◌, length};
 use crate::shelf::Shelf;
 
 impl Shelf {
+    ghost use Rattle.shelf.specs.Settling.{most_settling};
+    ghost use Rattle.shelf.specs.Stored.{columns_in};
     ghost use Rattle.shelf.specs.Told.{IsShelf};
 
     /// The number of names in the index. It is at most the number of counted places: a name of which no place counts is not there, whatever
-    /// emptied it.
+    /// emptied it. A column without a find is not there either, unless a find of the whole name is cached, which it may hide.
     pub fn names(&self) -> usize
         ensures value { result ≡ length self.now.owners.entries }
         ensures few { IsShelf self.now → result ≤ self.now.stored }
+        ensures columns { IsShelf self.now → columns_in self.now.owners.entries ≤ self.now.stored }
     {
         self.owners.len()
+    }
+
+    /// The number of permanent flushes of zones that have names left to reach. Each lookup reads their list.
+    pub fn reaching(&self) -> usize
+        ensures value { result ≡ length self.now.settlings.items }
+        ensures few { IsShelf self.now → result ≤ most_settling }
+    {
+        self.settlings.len()
     }
 }

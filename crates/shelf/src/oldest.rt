@@ -319,7 +319,7 @@ fn first_noted<'a>(
     ends: &Ends,
     moment: u64,
 ) -> Option<Candidate<'a>>
-    requires { AreEnds kept.now owners.now.entries ends.now }
+    requires { AreEnds kept.now owners.now.entries ends.now × (settlings.now ≡ [] → ends.now.left ≡ 0) }
     ensures { IfSome result (λ own. IsFirst settlings.now kept.now owners.now.entries moment (IsBelow 0) None (Some own)) }
 {
     if is_visited(settlings, &ends.moments) {
@@ -338,7 +338,7 @@ fn first_of_all<'a>(
     ends: &Ends,
     moment: u64,
 ) -> Option<Candidate<'a>>
-    requires ends { AreEnds kept.now owners.now.entries ends.now }
+    requires ends { AreEnds kept.now owners.now.entries ends.now × (settlings.now ≡ [] → ends.now.left ≡ 0) }
     requires bounds { AreBounds settlings.now kept.now owners.now.entries ends.now.moments }
     ensures { IsFirst settlings.now kept.now owners.now.entries moment (IsBelow 0) None result }
 {

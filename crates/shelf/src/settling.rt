@@ -1,6 +1,6 @@
 //! Permanent flushes of zones. They reach the cells of the names a few at a time, so that no call visits many of them.
 
-ghost use Rattle.std.specs.Prelude.{◌≡◌, ◌<◌, ◌≤◌, ◌+◌, ◌-◌, ◌^◌, ◌==◌, ◌&&◌, [], ℕ, true, false, List, length, vec_capacity, OnOk};
+ghost use Rattle.std.specs.Prelude.{◌≡◌, ◌<◌, ◌≤◌, ◌+◌, ◌-◌, ◌^◌, ◌==◌, ◌&&◌, ◌++◌, ◌∷◌, [], ℕ, true, false, List, length, vec_capacity, OnOk};
 ghost use Rattle.std.specs.List.{list_any, AllByRecursion};
 ghost use Rattle.dns_name.specs.Labels.{Labels};
 ghost use Rattle.dns_name.specs.Below.{is_at_or_below};
@@ -8,21 +8,26 @@ ghost use Rattle.dns_name.specs.Order.{name_eq};
 ghost use Rattle.cell_store.specs.Count.{stored_in, KeepPairs};
 ghost use Rattle.cell_store.specs.Owner.{after_settle};
 ghost use Rattle.cell_store.specs.declared.owner.OwnerCells.{OwnerCells};
-ghost use Rattle.cell_store.specs.Store.{AreLeft, AreSameCells, AreUpTo, CanSettleAt, EachCounts, KeepSettling, StayButAt};
+ghost use Rattle.cell_store.specs.Store.{AreSameCells, AreUpTo, CanSettleAt, EachCounts, HaveTop, KeepSettling, KeepUpTo, StayButAt};
 ghost use Rattle.shelf.specs.declared.shelf.KeptFlush.{KeptFlush};
-ghost use Rattle.shelf.specs.Clean.{AreEnds, HaveEnds};
+ghost use Rattle.shelf.specs.Clean.{AreEnds, HasSettled, HaveEnds};
 ghost use Rattle.shelf.specs.Sweep.{EndNear};
-ghost use Rattle.shelf.specs.Settling.{first_at, is_outdone, settled_version, steps_left, unmoved, with_left, without_outdone, AreReached, HaveStepped, IsMoved, IsReaching, IsSettling};
+ghost use Rattle.shelf.specs.Settling.{doubted, first_at, is_outdone, most_left, most_settling, settled_version, steps_left, unmoved, with_left, with_room, without_outdone, AreReached, AreUseful, HaveStepped, IsMoved, IsReaching, IsSettling};
 
-use crate::ends::{Ends, drop_at, put};
+use crate::ends::{Ends, doubt_all, drop_at, end_mixed, put, settle_doubt};
 use crate::shelf::Shelf;
-use cell_store::{Owners, drop_if_uncounted, settle_at, settle_kinds};
+use cell_store::{Owners, drop_empty_at, drop_if_uncounted, settle_at, settle_kinds};
 use dns_name::{Name, NoMemory};
+use std::alloc::Global;
 
 /// The names that a permanent flush reaches at one call, so that no call is long.
 pub(crate) const REACHED_AT_ONCE: usize = 256;
 
-/// A permanent flush of every type at or below a name.
+/// The most permanent flushes of zones that have names left to reach: each lookup reads their list.
+pub(crate) const MOST_SETTLING: usize = 256;
+
+/// A permanent flush of every type at or below a name. One of number 0 changes no version: after a flush has gone, it ends the names whose
+/// moments that left in doubt, a few at a time.
 #[derive(Drop)]
 pub struct Settling {
     pub zone: Name,
@@ -70,12 +75,14 @@ fn later(covered: bool, number: u64, version: u64) -> u64
     }
 }
 
-// Removes the name at a place if no place of it counts. Else the next sweep visits it. It takes no memory. The entry may have changed
-// since the moments were right.
+// Removes the name at a place if no place of it counts. Else its columns without a find go, and the next sweep visits it. It takes no
+// memory. The entry may have changed since the moments were right.
 fn drop_or_end(owners: &mut Owners, ends: &mut Ends, place: usize)
     requires low { place < length owners.old.entries }
+    requires top { HaveTop owners.old }
     requires size { HaveEnds owners.old.entries ends.old }
-    ensures cells { AreSameCells owners.old owners.new × AreLeft owners.old owners.new }
+    ensures cells { AreSameCells owners.old owners.new }
+    ensures kept { KeepUpTo owners.old owners.new × KeepSettling owners.old owners.new × KeepPairs owners.old owners.new }
     ensures counted { stored_in owners.new ≡ stored_in owners.old }
     ensures reached { (zone : Labels) (number left : ℕ) → AreReached zone number left owners.old → AreReached zone number left owners.new }
     ensures ends { (kept : List KeptFlush) (before : List (Labels × OwnerCells)) → StayButAt place before owners.old.entries →
@@ -83,13 +90,14 @@ fn drop_or_end(owners: &mut Owners, ends: &mut Ends, place: usize)
     ensures named { (before : List (Labels × OwnerCells)) → StayButAt place before owners.old.entries →
         EachCounts before → EachCounts owners.new.entries }
     ensures size { HaveEnds owners.new.entries ends.new }
-    ensures ended { EndNear ends.old.moments ends.new.moments (place + 1) place }
+    ensures ended { EndNear ends.old.moments ends.new.moments (place + 1) place × HasSettled (place + 1) place ends.old ends.new }
 {
     if drop_if_uncounted(owners, place) {
         drop_at(ends, place);
         ends.lasts.swap_remove(owners, place);
         return;
     }
+    drop_empty_at(owners, place);
     put(ends, place, 0, false);
 }
 
@@ -104,7 +112,7 @@ fn reach_at(
     place: usize,
 )
     requires size { HaveEnds owners.old.entries ends.old }
-    requires counted { stored.old ≡ stored_in owners.old }
+    requires counted { (stored.old ≡ stored_in owners.old) × HaveTop owners.old }
     ensures reaching { (top : ℕ) → AreUpTo top owners.old → IsReaching zone.now number top (place + 1) place owners.old owners.new }
     ensures settles { KeepSettling owners.old owners.new }
     ensures counted { (stored.new ≡ stored_in owners.new) × (stored.new ≤ stored.old)
@@ -112,13 +120,20 @@ fn reach_at(
     ensures pairs { KeepPairs owners.old owners.new }
     ensures ends { (kept : List KeptFlush) → AreEnds kept owners.old.entries ends.old → AreEnds kept owners.new.entries ends.new }
     ensures size { HaveEnds owners.new.entries ends.new }
-    ensures ended { EndNear ends.old.moments ends.new.moments (place + 1) place }
+    ensures ended { EndNear ends.old.moments ends.new.moments (place + 1) place × HasSettled (place + 1) place ends.old ends.new }
 {
+    // No flush has number 0: this one only ends names that are in doubt.
+    if number == 0 {
+        settle_doubt(ends, place);
+        return;
+    }
     // If names were forgotten since, there may be fewer.
     if place >= owners.len() {
+        settle_doubt(ends, place);
         return;
     }
     if !settle_at(owners, stored, place, zone, number) {
+        settle_doubt(ends, place);
         return;
     }
     drop_or_end(owners, ends, place);
@@ -135,7 +150,7 @@ fn reach(
     most: usize,
 ) -> usize
     requires size { HaveEnds owners.old.entries ends.old }
-    requires counted { stored.old ≡ stored_in owners.old }
+    requires counted { (stored.old ≡ stored_in owners.old) × HaveTop owners.old }
     ensures reaching { (top : ℕ) → AreUpTo top owners.old → IsReaching zone.now number top left result owners.old owners.new }
     ensures settles { KeepSettling owners.old owners.new }
     ensures counted { (stored.new ≡ stored_in owners.new) × (stored.new ≤ stored.old)
@@ -144,7 +159,7 @@ fn reach(
     ensures ends { (kept : List KeptFlush) → AreEnds kept owners.old.entries ends.old → AreEnds kept owners.new.entries ends.new }
     ensures size { HaveEnds owners.new.entries ends.new }
     ensures left { result ≡ left - most }
-    ensures ended { EndNear ends.old.moments ends.new.moments left result }
+    ensures ended { EndNear ends.old.moments ends.new.moments left result × HasSettled left result ends.old ends.new }
 {
     let last = left.saturating_sub(most);
     let mut place = left;
@@ -188,7 +203,7 @@ pub(crate) fn reach_some(
     most: usize,
 )
     requires size { HaveEnds owners.old.entries ends.old }
-    requires counted { stored.old ≡ stored_in owners.old }
+    requires counted { (stored.old ≡ stored_in owners.old) × HaveTop owners.old }
     ensures moved { (top : ℕ) → AreUpTo top owners.old → AllByRecursion (IsSettling top owners.old) settlings.old.items →
         IsMoved unmoved top settlings.old.items settlings.new.items owners.old owners.new }
     ensures settles { KeepSettling owners.old owners.new }
@@ -198,15 +213,50 @@ pub(crate) fn reach_some(
     ensures ends { (kept : List KeptFlush) → AreEnds kept owners.old.entries ends.old → AreEnds kept owners.new.entries ends.new }
     ensures size { HaveEnds owners.new.entries ends.new }
     ensures room { (length settlings.new.items ≤ length settlings.old.items)
-        × (vec_capacity settlings.new ≡ vec_capacity settlings.old) }
+        × (vec_capacity settlings.new ≡ vec_capacity settlings.old) × (AreUseful settlings.old.items → AreUseful settlings.new.items) }
     ensures left { HaveStepped most settlings.old.items settlings.new.items
-        × EndNear ends.old.moments ends.new.moments (steps_left settlings.old.items) (steps_left settlings.new.items) }
+        × EndNear ends.old.moments ends.new.moments (steps_left settlings.old.items) (steps_left settlings.new.items)
+        × (ends.old.left ≤ most_left settlings.old.items → ends.new.left ≤ most_left settlings.new.items) }
 {
     if settlings.is_empty() {
         return;
     }
     let own = &settlings[0];
     let left = reach(owners, ends, stored, &own.zone, own.number, own.left, most);
+    step_first(settlings, left);
+}
+
+// If there are as many permanent flushes as there may be, lets the oldest reach each name that it has left, so that it leaves the list. It
+// takes no memory.
+pub(crate) fn make_room(
+    owners: &mut Owners,
+    ends: &mut Ends,
+    stored: &mut u64,
+    settlings: &mut Vec<Settling>,
+)
+    requires size { HaveEnds owners.old.entries ends.old }
+    requires counted { (stored.old ≡ stored_in owners.old) × HaveTop owners.old }
+    ensures moved { (top : ℕ) → AreUpTo top owners.old → AllByRecursion (IsSettling top owners.old) settlings.old.items →
+        IsMoved unmoved top settlings.old.items settlings.new.items owners.old owners.new }
+    ensures kept { KeepUpTo owners.old owners.new × KeepSettling owners.old owners.new }
+    ensures counted { (stored.new ≡ stored_in owners.new) × (stored.new ≤ stored.old)
+        × (EachCounts owners.old.entries → EachCounts owners.new.entries) }
+    ensures pairs { KeepPairs owners.old owners.new }
+    ensures ends { (kept : List KeptFlush) → AreEnds kept owners.old.entries ends.old → AreEnds kept owners.new.entries ends.new }
+    ensures size { HaveEnds owners.new.entries ends.new }
+    ensures items { (settlings.new.items ≡ with_room settlings.old.items)
+        × (length settlings.old.items < most_settling → owners.new ≡ owners.old) }
+    ensures room { (length settlings.new.items ≤ length settlings.old.items)
+        × (vec_capacity settlings.new ≡ vec_capacity settlings.old)
+        × (length settlings.old.items ≤ most_settling → length settlings.new.items < most_settling) }
+{
+    if settlings.len() < MOST_SETTLING {
+        return;
+    }
+    let own = &settlings[0];
+    let left = reach(
+        owners, ends, stored, &own.zone, own.number, own.left, own.left,
+    );
     step_first(settlings, left);
 }
 
@@ -233,6 +283,8 @@ pub(crate) fn settle_zone(owners: &Owners, settlings: &mut Vec<Settling>, zone: 
     ensures moved { (top : ℕ) → number ≤ top → AreUpTo top owners.now → AllByRecursion (IsSettling top owners.now) settlings.old.items →
         IsMoved (λ q v. after_settle (is_at_or_below q.owner zone) number v) top
         settlings.old.items settlings.new.items owners.now owners.now }
+    ensures items { settlings.new.items ≡
+        without_outdone zone number settlings.old.items ++ record { zone = zone; number = number; left = length owners.now.entries } ∷ [] }
     ensures room { (length settlings.new.items ≤ length settlings.old.items + 1)
         × (vec_capacity settlings.new ≡ vec_capacity settlings.old) }
 {
@@ -242,6 +294,33 @@ pub(crate) fn settle_zone(owners: &Owners, settlings: &mut Vec<Settling>, zone: 
         number,
         left: owners.len(),
     });
+}
+
+// A flush that was undone has gone: the names whose moments may be wrong are ended a few at a time. If there are as many permanent flushes
+// as there may be, they are ended at once. It takes no memory.
+pub(crate) fn doubt_later(
+    alloc: Global,
+    owners: &Owners,
+    ends: &mut Ends,
+    settlings: &mut Vec<Settling>,
+)
+    ensures ends { (kept more : List KeptFlush) → AreEnds kept owners.now.entries ends.old → AreEnds more owners.now.entries ends.new }
+    ensures moved { (top : ℕ) → AreUpTo top owners.now → AllByRecursion (IsSettling top owners.now) settlings.old.items →
+        IsMoved unmoved top settlings.old.items settlings.new.items owners.now owners.now }
+    ensures versions { (name : Labels) (v : ℕ) → settled_version settlings.new.items name v ≡ settled_version settlings.old.items name v }
+    ensures room { (length settlings.new.items ≤ length settlings.old.items + 1)
+        × (vec_capacity settlings.new ≡ vec_capacity settlings.old) × (AreUseful settlings.old.items → AreUseful settlings.new.items)
+        × (length settlings.old.items ≤ most_settling → length settlings.new.items ≤ most_settling) }
+    ensures items { length settlings.old.items < vec_capacity settlings.old →
+        settlings.new.items ≡ doubted (length owners.now.entries) settlings.old.items }
+    ensures doubt { ends.new.left ≤ most_left settlings.new.items }
+{
+    if settlings.len() >= MOST_SETTLING || settlings.len() >= settlings.capacity() {
+        end_mixed(ends);
+        return;
+    }
+    doubt_all(owners, ends);
+    settle_zone(owners, settlings, Name::root(alloc), 0);
 }
 
 // Makes a flush of some types of a name permanent. If no place of the name counts then, it goes. Else the next sweep visits it. It takes no
@@ -255,7 +334,7 @@ pub(crate) fn settle_name(
     number: u64,
 )
     requires settles { AllByRecursion (λ kind. CanSettleAt number kind name.now owners.old) kinds.now }
-    requires counted { stored.old ≡ stored_in owners.old }
+    requires counted { (stored.old ≡ stored_in owners.old) × HaveTop owners.old }
     requires size { HaveEnds owners.old.entries ends.old }
     ensures moved { (top : ℕ) (settlings : List Settling) → AreUpTo top owners.old → AllByRecursion (IsSettling top owners.old) settlings →
         IsMoved (λ q v. after_settle (name_eq name.now q.owner && list_any (λ kind. kind == q.kind) kinds.now) number v) top
@@ -265,6 +344,7 @@ pub(crate) fn settle_name(
         × (EachCounts owners.old.entries → EachCounts owners.new.entries) }
     ensures pairs { KeepPairs owners.old owners.new }
     ensures ends { (kept : List KeptFlush) → AreEnds kept owners.old.entries ends.old → AreEnds kept owners.new.entries ends.new }
+    ensures left { ends.new.left ≤ ends.old.left }
 {
     let place = owners.get_index_of(name);
     settle_kinds(owners, stored, name, kinds, number);

@@ -1,6 +1,6 @@
 //! The shelf: cached cells, and the flushes that can be undone or redone.
 
-ghost use Rattle.std.specs.Prelude.{◌≡◌, ◌<◌, ◌≤◌, ◌+◌, ◌^◌, ◌∷◌, ◌&&◌, [], ℕ, Bool, List, None, true, false, not, map, option_copied, position};
+ghost use Rattle.std.specs.Prelude.{◌≡◌, ◌<◌, ◌≤◌, ◌+◌, ◌^◌, ◌∷◌, ◌&&◌, [], ℕ, Bool, List, None, true, false, not, length, map, option_copied, position};
 ghost use Rattle.std.specs.Prelude.{IfErr, IsOk, OnOk, OnErr, if◌then◌else◌};
 ghost use Rattle.std.specs.List.{AllByRecursion};
 ghost use Rattle.std.specs.Map.{keys_of};
@@ -12,20 +12,21 @@ ghost use Rattle.ranked.specs.Cell.{shown_at, turns_away};
 ghost use Rattle.ranked.specs.Find.{admission_of};
 ghost use Rattle.cell_store.specs.Count.{has_place_for, one_if, KeepPairs};
 ghost use Rattle.cell_store.specs.Owner.{held_now};
+ghost use Rattle.cell_store.specs.Store.{StayBut};
 ghost use Rattle.cell_store.specs.Sweep.{alive_at};
 ghost use Rattle.shelf.specs.declared.shelf.KeptFlush.{KeptFlush};
 ghost use Rattle.shelf.specs.Kept.{with_shown, stands_first};
 ghost use Rattle.shelf.specs.Room.{fate_of, kind_fate, is_taken, is_wanted, room_for, IsFault};
-ghost use Rattle.shelf.specs.Settling.{reached_at_once, steps_left, HaveStepped};
+ghost use Rattle.shelf.specs.Settling.{cleared_once, joined_by, most_settling, reached_at_once, settled_once, steps_left, HaveStepped};
 ghost use Rattle.shelf.specs.Sweep.{AreAlive, EndNear};
 ghost use Rattle.shelf.specs.Told.{without};
 ghost use Rattle.ranked.specs.declared.find.Scope.{Scope};
 
-use crate::ends::{Ends, drop_end, end_mixed, fit, no_ends, reset, touch};
+use crate::ends::{Ends, drop_end, fit, no_ends, reset, touch};
 use crate::fault::StoreFault;
-use crate::flushing::{open_flush, reserve, settle_flush};
+use crate::flushing::{open_flush, remove_number, reserve, settle_flush, stands_first};
 use crate::room::Room;
-use crate::settling::{REACHED_AT_ONCE, Settling, reach_some, reserve_settlings};
+use crate::settling::{REACHED_AT_ONCE, Settling, doubt_later, reach_some, reserve_settlings};
 use cell_store::{
     NameSeed, OwnerCells, Owners, admit_at, at, cells_at, forget_place, has_place_in, held_in,
 };
@@ -129,7 +130,7 @@ impl Shelf {
     }
 
     // The version of a question that is in force.
-    fn version(&self, owner: &Name, kind: u16) -> u64
+    pub(crate) fn version(&self, owner: &Name, kind: u16) -> u64
         ensures { result ≡ shown_version self.now.kept.items (record { owner = owner.now; kind = kind }) }
     {
         // Of the flushes that cover the question, the newest in force decides.
@@ -435,6 +436,7 @@ impl Shelf {
         ensures same { OnErr result (IsSame self.old self.new) }
         ensures limit { self.new.limit ≡ self.old.limit }
         ensures stored { self.new.stored ≡ self.old.stored }
+        ensures entries { StayBut flush.name self.old.owners.entries self.new.owners.entries }
     {
         reserve(&mut self.numbers, self.kept.len())?;
         reserve_settlings(&mut self.settlings, self.kept.len())?;
@@ -481,6 +483,9 @@ impl Shelf {
         ensures limit { self.new.limit ≡ self.old.limit }
         ensures stored { self.new.stored ≤ self.old.stored }
         ensures pairs { KeepPairs self.old.owners self.new.owners }
+        ensures left { (names : ℕ) × ((length self.old.settlings.items < most_settling → names ≡ length self.old.owners.entries)
+            × HaveStepped reached_at_once
+            (settled_once number names self.old.kept.items self.old.settlings.items) self.new.settlings.items) }
     {
         self.settle_kept(number);
         self.reach_names();
@@ -497,6 +502,8 @@ impl Shelf {
         ensures limit { self.new.limit ≡ self.old.limit }
         ensures stored { self.new.stored ≤ self.old.stored }
         ensures pairs { KeepPairs self.old.owners self.new.owners }
+        ensures settlings { (names : ℕ) × ((length self.old.settlings.items < most_settling → names ≡ length self.old.owners.entries)
+            × (self.new.settlings.items ≡ settled_once number names self.old.kept.items self.old.settlings.items)) }
     {
         if stands_first(&self.kept, number) {
             self.settle_oldest();
@@ -539,13 +546,16 @@ impl Shelf {
         ensures bounds { (self.new.top ≡ self.old.top) × (self.new.limit ≡ self.old.limit) }
         ensures stored { self.new.stored ≤ self.old.stored }
         ensures pairs { KeepPairs self.old.owners self.new.owners }
+        ensures settlings { (own : KeptFlush) (later : List KeptFlush) → self.old.kept.items ≡ own ∷ later →
+            (names : ℕ) × ((length self.old.settlings.items < most_settling → names ≡ length self.old.owners.entries)
+            × (self.new.settlings.items ≡ joined_by own.flush.reach own.flush.name own.number names self.old.settlings.items)) }
     {
         if self.kept.is_empty() {
             return;
         }
         let own = self.kept.remove(0);
-        end_mixed(&mut self.ends);
         settle_flush(
+            self.alloc,
             &mut self.owners,
             &mut self.ends,
             &mut self.stored,
@@ -566,32 +576,18 @@ impl Shelf {
         ensures limit { self.new.limit ≡ self.old.limit }
         ensures stored { self.new.stored ≡ self.old.stored }
         ensures owners { self.new.owners ≡ self.old.owners }
+        ensures settlings { IsShelf self.old → self.new.settlings.items ≡
+            cleared_once number (length self.old.owners.entries) self.old.kept.items self.old.settlings.items }
     {
+        let before = self.kept.len();
         remove_number(&mut self.kept, number);
-        end_mixed(&mut self.ends);
-    }
-}
-
-// Whether the oldest flush has a number and is in force.
-fn stands_first(kept: &[KeptFlush], number: u64) -> bool
-    ensures { result ≡ stands_first number kept.now }
-{
-    match kept.first() {
-        Some(own) => own.number == number && own.shown,
-        None => false,
-    }
-}
-
-// Removes the flush of a number.
-fn remove_number(kept: &mut Vec<KeptFlush>, number: u64)
-    ensures { kept.new.items ≡ without number kept.old.items }
-{
-    let mut place = 0;
-    while place < kept.len() {
-        if kept[place].number == number {
-            kept.remove(place);
-            return;
+        if self.kept.len() < before {
+            doubt_later(
+                self.alloc,
+                &self.owners,
+                &mut self.ends,
+                &mut self.settlings,
+            );
         }
-        place += 1;
     }
 }

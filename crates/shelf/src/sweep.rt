@@ -1,20 +1,21 @@
 //! The sweep: it removes expired finds, and the versions that no kept flush needs, at once or some names at a time.
 
-ghost use Rattle.std.specs.Prelude.{◌≡◌, ◌<◌, ◌≤◌, ◌+◌, ◌==◌, [], ℕ, Bool, true, false, is_some, length, map, slice_index_or, vec_capacity};
+ghost use Rattle.std.specs.Prelude.{◌≡◌, ◌<◌, ◌≤◌, ◌+◌, ◌==◌, [], ℕ, Bool, true, false, is_some, length, map, min, slice_index_or, vec_capacity};
 ghost use Rattle.indexmap.specs.IndexMap.{IndexMap};
 ghost use Rattle.dns_name.specs.Labels.{Labels};
 ghost use Rattle.dns_text.specs.declared.record.Question.{Question};
 ghost use Rattle.ranked.specs.declared.find.Scope.TheVariants.{One};
 ghost use Rattle.cell_store.specs.Count.{has_place, stored_in, KeepPairs, LosesFinds};
 ghost use Rattle.cell_store.specs.Ends.{latest};
-ghost use Rattle.cell_store.specs.Owner.{cell_in, column_of, KeepsSettling, KeepsUpTo};
+ghost use Rattle.cell_store.specs.Owner.{cell_in, column_of, HasTop, KeepsSettling, KeepsUpTo};
 ghost use Rattle.cell_store.specs.Prune.{is_asked};
-ghost use Rattle.cell_store.specs.Store.{EachCounts};
+ghost use Rattle.cell_store.specs.Store.{EachCounts, HaveTop};
 ghost use Rattle.cell_store.specs.declared.owner.OwnerCells.{OwnerCells};
 ghost use Rattle.cell_store.specs.declared.seed.NameSeed.{NameSeed};
 ghost use Rattle.cell_store.specs.Sweep.{alive_at};
 ghost use Rattle.shelf.specs.Clean.{AreEnds};
-ghost use Rattle.shelf.specs.Lasts.{IsShaped};
+ghost use Rattle.shelf.specs.First.{life_at};
+ghost use Rattle.shelf.specs.Lasts.{last_at, IsShaped};
 ghost use Rattle.shelf.specs.Settling.{reached_at_once};
 ghost use Rattle.shelf.specs.Sweep.{asked_at, count_ended, numbers_of, turn_at_most, unswept, AreAlive, AreLessened, IsSwept, IsSweptAt, IsUnderway};
 
@@ -68,7 +69,7 @@ fn sweep_type(
     cells.sweep_kind(kind, numbers, moment);
 }
 
-// Removes the finds of a name that have expired at a moment, and the versions that no kept flush needs.
+// Removes the finds of a name that have expired at a moment, the versions that no kept flush needs, and the columns without a find.
 fn sweep_name(
     cells: &mut OwnerCells,
     name: &Name,
@@ -77,6 +78,7 @@ fn sweep_name(
     moment: u64,
 )
     requires room { length kept.now ≤ vec_capacity numbers.old }
+    requires top { HasTop cells.old }
     ensures swept { IsSwept kept.now moment name.now cells.old cells.new }
     ensures capacity { vec_capacity numbers.new ≡ vec_capacity numbers.old }
 {
@@ -87,6 +89,7 @@ fn sweep_name(
         sweep_type(cells, name, kind, kept, numbers, moment);
         place += 1;
     }
+    cells.drop_empty();
 }
 
 // Sweeps the name at a place, and returns the moment of its next sweep. It is later than this one, but that of a name without finds.
@@ -102,6 +105,7 @@ fn sweep_at(
     requires low { place < length owners.old.entries }
     requires room { length kept.now ≤ vec_capacity numbers.old }
     requires counted { stored.old ≡ stored_in owners.old }
+    requires top { HaveTop owners.old }
     ensures swept { IsSweptAt kept.now moment place owners.old.entries owners.new.entries result.0 result.1 }
     ensures counted { stored.new ≡ stored_in owners.new }
     ensures fewer { stored.new ≤ stored.old }
@@ -129,12 +133,14 @@ fn visit(
     requires flags { length ends.old.mixed.items ≡ length ends.old.moments }
     requires lasts { (length ends.old.lasts.ends.items ≡ length owners.old.entries) × IsShaped ends.old.lasts }
     requires room { length kept.now ≤ vec_capacity numbers.old }
-    requires counted { stored.old ≡ stored_in owners.old }
+    requires counted { (stored.old ≡ stored_in owners.old) × HaveTop owners.old }
     ensures on { (asked most : ℕ) (first : IndexMap Labels OwnerCells NameSeed) → asked ≤ moment → asked < latest →
         IsUnderway kept.now moment asked first most owners.old ends.old stored.old →
         IsUnderway kept.now moment asked first most owners.new ends.new stored.new }
     ensures ended { (asked : ℕ) → asked ≤ moment → asked < latest → slice_index_or ends.old.moments place 0 ≤ asked →
         count_ended asked ends.new.moments + 1 ≡ count_ended asked ends.old.moments }
+    ensures noted { length owners.new.entries ≡ length owners.old.entries →
+        last_at ends.new.lasts.ends.items place ≡ min (life_at [] kept.now owners.new.entries place) latest }
     ensures capacity { vec_capacity numbers.new ≡ vec_capacity numbers.old }
 {
     let (end, mixed) = sweep_at(owners, stored, kept, numbers, place, moment);
@@ -161,6 +167,7 @@ fn sweep_ended(
     requires before { (asked ≤ moment) × (asked < latest) }
     requires room { length kept.now ≤ vec_capacity numbers.old }
     requires underway { IsUnderway kept.now moment asked owners.old stored.old owners.old ends.old stored.old }
+    requires top { HaveTop owners.old }
     ensures swept { IsUnderway kept.now moment asked owners.old stored.old owners.new ends.new stored.new }
     ensures none { count_ended asked ends.new.moments ≡ 0 }
     ensures alive { AreAlive kept.now moment owners.new }
@@ -186,9 +193,10 @@ pub(crate) fn sweep_few(
     requires small { moment < latest }
     requires room { length kept.now ≤ vec_capacity numbers.old }
     requires counted { stored.old ≡ stored_in owners.old }
-    requires ends { AreEnds kept.now owners.old.entries ends.old }
+    requires ends { AreEnds kept.now owners.old.entries ends.old × (ends.old.left ≡ 0) }
+    requires top { HaveTop owners.old }
     ensures less { AreLessened kept.now moment owners.old owners.new }
-    ensures ends { AreEnds kept.now owners.new.entries ends.new }
+    ensures ends { AreEnds kept.now owners.new.entries ends.new × (ends.new.left ≡ 0) }
     ensures more { result ≡ true → count_ended moment ends.new.moments < count_ended moment ends.old.moments }
     ensures short { count_ended moment ends.old.moments ≤ count_ended moment ends.new.moments + reached_at_once }
     ensures none { result ≡ false → count_ended moment ends.new.moments ≡ 0 }
@@ -220,12 +228,14 @@ pub(crate) fn sweep_all(
 )
     requires room { length kept.now ≤ vec_capacity numbers.old }
     requires counted { stored.old ≡ stored_in owners.old }
-    requires ends { AreEnds kept.now owners.old.entries ends.old }
+    requires ends { AreEnds kept.now owners.old.entries ends.old × (ends.old.left ≡ 0) }
+    requires top { HaveTop owners.old }
     ensures less { AreLessened kept.now moment owners.old owners.new }
-    ensures ends { AreEnds kept.now owners.new.entries ends.new }
+    ensures ends { AreEnds kept.now owners.new.entries ends.new × (ends.new.left ≡ 0) }
     ensures none { count_ended (asked_at moment) ends.new.moments ≡ 0 }
     ensures alive { AreAlive kept.now moment owners.new }
-    ensures counted { (stored.new ≡ stored_in owners.new) × (stored.new ≤ stored.old) }
+    ensures counted { (stored.new ≡ stored_in owners.new) × (stored.new ≤ stored.old)
+        × (EachCounts owners.old.entries → EachCounts owners.new.entries) }
     ensures capacity { vec_capacity numbers.new ≡ vec_capacity numbers.old }
 {
     if moment < u64::MAX {
@@ -241,8 +251,8 @@ impl Shelf {
     ghost use Rattle.shelf.specs.Stored.{AreNeeded};
     ghost use Rattle.shelf.specs.Told.{IsShelf, KeepsFlushes, face_of};
 
-    /// Drops the finds that are dead at a moment, the versions that no kept flush needs, and the names of which nothing is left.
-    /// Each permanent flush of a zone reaches each name first. It takes no memory.
+    /// Drops the finds that are dead at a moment, the versions that no kept flush needs, and the columns and names of which nothing is
+    /// left. Each permanent flush of a zone reaches each name first. It takes no memory.
     pub fn sweep(&mut self, moment: u64)
         requires whole { IsShelf self.old }
         ensures whole { IsShelf self.new }

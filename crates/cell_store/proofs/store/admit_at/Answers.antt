@@ -18,7 +18,7 @@ use Rattle.ranked.specs.Find.{admission_of, has_kind}
 use Rattle.cell_store.specs.declared.owner.OwnerCells.{OwnerCells}
 use Rattle.cell_store.specs.Store.{cell_by_owner, EachCounts}
 use Rattle.cell_store.proofs.SpotLaws.{stays_put}
-use Rattle.cell_store.proofs.NamedLaws.{admitted_count, count_at, each_at, each_put, held_count}
+use Rattle.cell_store.proofs.NamedLaws.{admitted_count, each_at, each_put, held_count, used_at}
 use Rattle.cell_store.proofs.StoreLaws.{cells_admitted, cells_kept, each_updated, found, none_there, by_held, by_none, pairs_added, pairs_kept}
 use Rattle.cell_store.proofs.store.admit_at.Goals as goal
 
@@ -206,9 +206,11 @@ returns-in-Some-clause-named c = λ each.
     let key = c.pair_mut-cells.result.0.now in
     let lent = c.pair_mut-cells.result.1.now in
     let new = c.admit-result.new.self in
-    let was = count_at owners.entries c.in-Some.place key lent c.pair_mut-cells.ensures.value each in
-    each_at owners.entries c.in-Some.place new
-    (held_count c.admit-result.result lent new find.scope c.args.top (admission_of find find c.args.moment) c.admit-result.ensures.cells c.admit-result.ensures.err was) each
+    let was = used_at owners.entries c.in-Some.place key lent c.pair_mut-cells.ensures.value each in
+    each_at owners.entries c.in-Some.place new (
+      held_count c.admit-result.result lent new find.scope c.args.top (admission_of find find c.args.moment) c.admit-result.ensures.cells c.admit-result.ensures.err was.0,
+      c.admit-result.ensures.tidy was.1,
+    ) each
 
 pub returns-clause-named : goal.returns-clause-named
 returns-clause-named c = λ each.
@@ -216,4 +218,4 @@ returns-clause-named c = λ each.
     let find = c.args.find in
     let new = c.admit.new.self in
     let one = admitted_count c.new-cells.result new find.scope c.args.top (admission_of find find c.args.moment) c.in_ok-admit.ensures.cells in
-    subst (λ (l : List (Labels × OwnerCells)). EachCounts l) (sym c.in_ok-insert.ensures.entries) (each_put c.in_ok-owner.owner owners.entries new one each)
+    subst (λ (l : List (Labels × OwnerCells)). EachCounts l) (sym c.in_ok-insert.ensures.entries) (each_put c.in_ok-owner.owner owners.entries new (one, c.admit.ensures.tidy c.new-cells.ensures.tidy) each)

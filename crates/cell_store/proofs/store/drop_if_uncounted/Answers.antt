@@ -1,4 +1,4 @@
-use Rattle.std.proofs.Common.{◌≡◌, Option, Some, None, true, cond, ap, sym, ◌∙◌, subst}
+use Rattle.std.proofs.Common.{◌≡◌, Option, None, true, cond, ap, sym, ◌∙◌, subst}
 use Rattle.std.specs.Prelude.{IfSome, swap_remove}
 use Rattle.indexmap.specs.IndexMap.{get, Updates}
 use Rattle.dns_name.specs.Labels.{Labels}

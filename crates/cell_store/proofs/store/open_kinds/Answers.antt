@@ -8,10 +8,10 @@ use Rattle.std.proofs.lemmas.Grind.{common_steps}
 use Rattle.dns_name.specs.Order.{name_eq}
 use Rattle.cell_store.specs.Count.{count_entries, has_place}
 use Rattle.cell_store.proofs.CountLaws.{count_set}
-use Rattle.cell_store.proofs.NamedLaws.{each_set}
-use Rattle.cell_store.proofs.StoreLaws.{pairs_kept, settles_absent}
+use Rattle.cell_store.proofs.NamedLaws.{each_set, opened_use}
+use Rattle.cell_store.proofs.StoreLaws.{cells_kept, pairs_kept, settles_absent, settles_updated}
 use Rattle.dns_name.specs.Labels.{Labels}
-use Rattle.cell_store.specs.Store.{EachCounts, StayBut}
+use Rattle.cell_store.specs.Store.{cell_by_owner, EachCounts, StayBut}
 use Rattle.cell_store.proofs.SpotLaws.{stays_set, length_set}
 use Rattle.cell_store.proofs.store.open_kinds.Goals as goal
 
@@ -55,4 +55,21 @@ returns-in-Some-clause-named c = λ each.
     let held : get name_eq owners c.args.owner.now ≡ Some c.in-Some.cells.now = grind (arith, common_steps) in
     let put = (c.get_mut.follows.holds new).0 in
     subst (λ (l : List (Labels × OwnerCells)). EachCounts l) (sym put)
-    (each_set (name_eq c.args.owner.now) owners.entries c.in-Some.cells.now new held c.open_each.ensures.places.count each)
+    (each_set (name_eq c.args.owner.now) owners.entries c.in-Some.cells.now new held (opened_use c.in-Some.cells.now new c.open_each.ensures.places c.open_each.ensures.still) each)
+
+pub returns-in-Some-clause-cells : goal.returns-in-Some-clause-cells
+returns-in-Some-clause-cells c =
+    let owners = c.args.owners.now in
+    let owner = c.args.owner.now in
+    let new = c.open_each.new.self in
+    let updates = (c.get_mut.follows.holds new).3 (search rules) in
+    let held : Some c.in-Some.cells.now ≡ get name_eq owners owner = grind (arith, common_steps) in
+    cells_kept owners owners (c.get_mut.follows.lender new) owner owner new refl refl updates (λ k v. c.open_each.ensures.cells k v ∙ ap (λ (o : Option OwnerCells). cell_by_owner o k v) held)
+
+pub returns-in-Some-clause-opened : goal.returns-in-Some-clause-opened
+returns-in-Some-clause-opened c =
+    let owners = c.args.owners.now in
+    let owner = c.args.owner.now in
+    let new = c.open_each.new.self in
+    let updates = (c.get_mut.follows.holds new).3 (search rules) in
+    settles_updated owners owners (c.get_mut.follows.lender new) owner owner new refl refl updates c.open_each.result c.args.kinds.now c.open_each.ensures.opened

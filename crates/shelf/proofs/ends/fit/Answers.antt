@@ -7,7 +7,7 @@ pub returns-then-len-clause-ends : goal.returns-then-len-clause-ends
 returns-then-len-clause-ends c =
     let was = c.args.ends.now in
     let fewer : vec_len was.mixed - 1 ≡ length was.moments - 1 = omega (arith, c.requires.flags, was.mixed.ok.0) in
-    by_fit was (record { moments = c.pop.new.self; mixed = c.pop-then-len.new.self; lasts = was.lasts }) c.requires.flags (refl, refl) (length c.args.owners.now.entries) (vec_len was.mixed - 1) (omega arith) fewer c.pop.ensures c.pop-then-len.ensures.rest
+    by_fit was (record { moments = c.pop.new.self; mixed = c.pop-then-len.new.self; left = was.left; lasts = was.lasts }) c.requires.flags (refl, refl) refl (length c.args.owners.now.entries) (vec_len was.mixed - 1) (omega arith) fewer c.pop.ensures c.pop-then-len.ensures.rest
 
 pub returns-else-len-clause-ends : goal.returns-else-len-clause-ends
-returns-else-len-clause-ends c = by_fit_same c.args.ends.now c.args.ends.now c.requires.flags (refl, refl) (length c.args.owners.now.entries) (omega arith)
+returns-else-len-clause-ends c = by_fit_same c.args.ends.now c.args.ends.now c.requires.flags (refl, refl) refl (length c.args.owners.now.entries) (omega arith)

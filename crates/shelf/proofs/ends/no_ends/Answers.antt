@@ -3,12 +3,13 @@ use Rattle.shelf.specs.Clean.{evens_of, AreKeyed, IsEnd}
 use Rattle.shelf.specs.Lasts.{AreLow}
 use Rattle.shelf.proofs.ends.no_ends.Goals as goal
 
-pub returns : goal.returns
-returns c = λ kept.
+pub returns-clause-ends : goal.returns-clause-ends
+returns-clause-ends c = λ kept.
     let none : c.new.result ≡ [] = c.new.ensures in
     let mixed = c.new-2.result.items in
     let lasts = c.new-3.result.ends.items in
     record {
+      size = ap length none;
       now = subst (λ (l : List ℕ). AreKeyed (IsEnd kept) [] l) (sym none) (record { size = refl; each = λ i. tt });
       ever = subst (λ (l : List ℕ). AreKeyed (IsEnd []) [] (evens_of l mixed)) (sym none) (record { size = refl; each = λ i. tt });
       flags = ap length c.new-2.ensures.items ∙ sym (ap length none);

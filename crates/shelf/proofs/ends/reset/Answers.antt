@@ -12,7 +12,7 @@ returns-in-Some c =
     let p = name_place c.args.owner.now entries in
     let n = length (keys_of entries) in
     let size : length c.args.ends.now.moments ≡ n = c.requires.size ∙ sym (length-keys_of entries) in
-    by_zero c.args.ends.now (record { moments = c.set.new.self; mixed = c.args.ends.now.mixed; lasts = c.args.ends.now.lasts }) p n size c.requires.flags (refl, refl) c.in-Some.place c.in-Some.ensures.index c.set.ensures refl
+    by_zero c.args.ends.now (record { moments = c.set.new.self; mixed = c.args.ends.now.mixed; left = c.args.ends.now.left; lasts = c.args.ends.now.lasts }) p n size c.requires.flags (refl, refl) refl c.in-Some.place c.in-Some.ensures.index c.set.ensures refl
 
 pub returns-in_default : goal.returns-in_default
 returns-in_default c =
@@ -21,4 +21,4 @@ returns-in_default c =
     let n = length (keys_of entries) in
     let size : length c.args.ends.now.moments ≡ n = c.requires.size ∙ sym (length-keys_of entries) in
     let none : None ≡ c.get_index_of.result = grind (arith, common_steps) in
-    by_none c.args.ends.now c.args.ends.now p n size c.requires.flags (refl, refl) (none ∙ c.get_index_of.ensures.index) refl refl
+    by_none c.args.ends.now c.args.ends.now p n size c.requires.flags (refl, refl) refl (none ∙ c.get_index_of.ensures.index) refl refl

@@ -20,8 +20,11 @@ returns c = λ is.
       few = is.few;
       small = is.small;
       room = omega (arith, ap length c.remove_number.ensures, length_without c.args.number kept, is.room);
-      ends = ends_mixed kept c.remove_number.new.kept.items c.args.shelf.now.owners.entries c.args.shelf.now.ends c.end_mixed.new.ends is.ends (c.end_mixed.ensures is.ends.flags);
+      ends = ends_mixed kept c.remove_number.new.kept.items c.args.shelf.now.owners.entries c.args.shelf.now.ends c.end_mixed.new.ends is.ends (c.end_mixed.ensures.evened is.ends.flags);
       settling = is.settling;
       space = omega (arith, ap length c.remove_number.ensures, length_without c.args.number kept, is.space);
       named = is.named;
+      useful = is.useful;
+      short = is.short;
+      doubt = omega (arith, c.end_mixed.ensures.left);
     }

@@ -10,17 +10,20 @@ loop-place-init c = record {
   last = omega (arith, c.saturating_sub-last.ensures);
   reaching = λ top is. reach_none c.args.zone.now c.args.number top c.args.left c.args.owners.now is;
   settles = λ number kind name is. is;
-  counted = c.requires.counted;
+  counted = c.requires.counted.0;
   fewer = omega arith;
   named = λ each. each;
   pairs = λ pair has. has;
   ends = λ kept is. is;
   size = c.requires.size;
   ended = near_none c.args.ends.now.moments c.args.left;
+  settled = (omega arith, λ low. low);
 }
 
 pub reach_at-requires : goal.reach_at-requires
-reach_at-requires c = record { size = c.loop-place.invariant.size; counted = c.loop-place.invariant.counted }
+reach_at-requires c =
+    let top = c.requires.counted.1 in
+    record { size = c.loop-place.invariant.size; counted = (c.loop-place.invariant.counted, (top.0, (c.loop-place.invariant.reaching top.0 top.1).upto)) }
 
 pub loop-place-preserved : goal.loop-place-preserved
 loop-place-preserved c =
@@ -41,7 +44,11 @@ loop-place-preserved c =
       ends = λ kept is. c.reach_at.ensures.ends kept (was.ends kept is);
       size = c.reach_at.ensures.size;
       ended = near_then c.args.ends.now.moments c.loop-place.ends.moments c.reach_at.new.ends.moments c.args.left c.loop-place.place (c.loop-place.place - 1) was.ended
-          (subst (λ n. EndNear c.loop-place.ends.moments c.reach_at.new.ends.moments n (c.loop-place.place - 1)) before c.reach_at.ensures.ended);
+          (subst (λ n. EndNear c.loop-place.ends.moments c.reach_at.new.ends.moments n (c.loop-place.place - 1)) before c.reach_at.ensures.ended.0);
+      settled = (
+        omega (arith, was.settled.0, c.reach_at.ensures.ended.1.0),
+        λ low. let here = was.settled.1 low in let there = c.reach_at.ensures.ended.1.1 (omega (arith, here, before)) in there,
+      );
     }
 
 pub loop-place-smaller : goal.loop-place-smaller
@@ -58,5 +65,5 @@ returns c =
       ends = is.ends;
       size = is.size;
       left = omega (arith, is.last, c.loop-place-test.false, c.saturating_sub-last.ensures);
-      ended = is.ended;
+      ended = (is.ended, is.settled);
     }

@@ -2,7 +2,7 @@ use Rattle.std.proofs.Common.{◌≡◌, ◌≤◌, ℕ, List}
 use Rattle.cell_store.specs.Count.{stored_in, KeepPairs}
 use Rattle.cell_store.specs.Store.{AreUpTo, EachCounts, KeepSettling}
 use Rattle.shelf.specs.declared.shelf.KeptFlush.{KeptFlush}
-use Rattle.shelf.specs.Clean.{AreEnds, HaveEnds}
+use Rattle.shelf.specs.Clean.{AreEnds, HasSettled, HaveEnds}
 use Rattle.shelf.specs.Settling.{IsReaching}
 use Rattle.shelf.specs.Sweep.{EndNear}
 use Rattle.shelf.proofs.settling.reach.Given as goal
@@ -21,6 +21,7 @@ invariant-loop-place l = record {
   ends : (kept : List KeptFlush) → AreEnds kept l.fn.owners.entries l.fn.ends → AreEnds kept l.owners.entries l.ends;
   size : HaveEnds l.owners.entries l.ends;
   ended : EndNear l.fn.ends.moments l.ends.moments l.left l.place;
+  settled : HasSettled l.left l.place l.fn.ends l.ends;
 }
 
 abbrev pub decreases-loop-place : goal.decreases-loop-place

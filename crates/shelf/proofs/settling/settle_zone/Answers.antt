@@ -1,5 +1,6 @@
 use Rattle.std.proofs.Common.{List, [], ◌∷◌, ◌++◌, ap, ◌∙◌, arith}
 use Rattle.shelf.specs.declared.settling.Settling.{Settling}
+use Rattle.shelf.specs.Settling.{without_outdone}
 use Rattle.shelf.proofs.SettlingLaws.{moved_zone}
 use Rattle.shelf.proofs.settling.settle_zone.Goals as goal
 
@@ -11,3 +12,10 @@ returns-clause-moved c = λ top older upto all.
 
 pub returns-clause-room : goal.returns-clause-room
 returns-clause-room c = (omega (arith, c.push_reserved.ensures.len, c.drop_outdone.ensures.room.0), c.push_reserved.ensures.capacity ∙ c.drop_outdone.ensures.room.1)
+
+pub returns-clause-items : goal.returns-clause-items
+returns-clause-items c =
+    let own : Settling = record { zone = c.args.zone; number = c.args.number; left = c.len.result } in
+    c.push_reserved.ensures.items
+    ∙ (ap (λ (l : List Settling). l ++ own ∷ []) c.drop_outdone.ensures.items
+    ∙ ap (λ n. without_outdone c.args.zone c.args.number c.args.settlings.now.items ++ record { zone = c.args.zone; number = c.args.number; left = n } ∷ []) c.len.ensures.len)

@@ -22,3 +22,6 @@ returns-clause-none c =
 
 pub visit-requires-clause-lasts : goal.visit-requires-clause-lasts
 visit-requires-clause-lasts c = let winners = c.loop-place.invariant.underway.ends.winners in (winners.size, winners.shape)
+
+pub visit-requires-clause-counted : goal.visit-requires-clause-counted
+visit-requires-clause-counted c = let is = c.loop-place.invariant.underway in (is.counted, (c.requires.top.0, is.less.upto c.requires.top.0 c.requires.top.1))

@@ -34,3 +34,6 @@ returns-in-None-clause-counted c = let is = c.loop-left.invariant.underway in (i
 
 pub returns-clause-counted : goal.returns-clause-counted
 returns-clause-counted c = let is = c.loop-left.invariant.underway in (is.counted, is.fewer, is.named)
+
+pub visit-requires-clause-counted : goal.visit-requires-clause-counted
+visit-requires-clause-counted c = let is = c.loop-left.invariant.underway in (is.counted, (c.requires.top.0, is.less.upto c.requires.top.0 c.requires.top.1))

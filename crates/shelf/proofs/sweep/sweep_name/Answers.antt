@@ -15,4 +15,8 @@ loop-place-preserved c =
     )
 
 pub returns-clause-swept : goal.returns-clause-swept
-returns-clause-swept c = swept_all c.args.kept.now c.args.moment c.args.name.now c.loop-place.place c.args.cells.now c.loop-place.cells (record { kind = 0; column = record { versions = []; upto = 0 } }) c.loop-place.invariant.0 (omega arith)
+returns-clause-swept c = swept_all c.args.kept.now c.args.moment c.args.name.now c.loop-place.place c.args.cells.now c.loop-place.cells c.drop_empty.new.self (record { kind = 0; column = record { versions = []; upto = 0 } }) c.loop-place.invariant.0 (omega arith)
+    c.drop_empty.ensures.cells c.drop_empty.ensures.places c.drop_empty.ensures.upto c.drop_empty.ensures.settles c.drop_empty.ensures.whole c.drop_empty.ensures.tidy
+
+pub drop_empty-requires : goal.drop_empty-requires
+drop_empty-requires c = record { top = (c.requires.top.0, c.loop-place.invariant.0.upto c.requires.top.0 c.requires.top.1) }

@@ -1,15 +1,17 @@
-use Rattle.std.proofs.Common.{◌≡◌, ◌≤◌, true, refl, ap, sym, ◌∙◌, subst, arith}
+use Rattle.std.proofs.Common.{◌≡◌, ◌≤◌, Option, true, false, length, refl, ap, sym, ◌∙◌, subst, arith}
 use Rattle.std.specs.Prelude.{◌==◌}
 use Rattle.ranked.specs.declared.find.Find.{Find}
 use Rattle.ranked.specs.Find.{admission_of}
 use Rattle.ranked.specs.Cell.{turns_away}
 use Rattle.cell_store.specs.declared.owner.KindColumn.{KindColumn}
+use Rattle.cell_store.specs.declared.owner.WholeFind.{WholeFind}
 use Rattle.cell_store.specs.Owner.{whole_cell}
 use Rattle.cell_store.proofs.SettleLaws.{settles_put}
 use Rattle.cell_store.specs.Count.{has_place, one_if}
-use Rattle.std.specs.Prelude.{not}
+use Rattle.std.specs.Prelude.{is_some, not}
 use Rattle.ranked.specs.declared.find.Scope.TheVariants.{One, Whole}
 use Rattle.cell_store.proofs.CountLaws.{count_admitted}
+use Rattle.cell_store.proofs.EmptyLaws.{held_tidy, hold_counts}
 use Rattle.cell_store.proofs.OwnLaws.{own_admitted, upto_put}
 use Rattle.cell_store.proofs.PlaceLaws.{added_none, added_put, by_scope}
 use Rattle.cell_store.proofs.OwnerLaws.{admitted_cell, all_at, either_cell, outranked_low}
@@ -60,3 +62,20 @@ returns-clause-upto c =
 
 pub returns-in_err-place-clause-count : goal.returns-in_err-place-clause-count
 returns-in_err-place-clause-count c = (omega (arith, c.place_for.ensures.places.count), added_none (One c.args.kind) c.args.self.now c.place_for.new.self c.place_for.ensures.places.places)
+
+pub returns-in_err-place-clause-tidy : goal.returns-in_err-place-clause-tidy
+returns-in_err-place-clause-tidy c = λ tidy none.
+    let was = tidy (sym c.place_for.ensures.whole ∙ none) in
+    omega (arith, was, c.in_err-place.ensures.size.1, c.place_for.ensures.places.count)
+
+pub returns-clause-tidy : goal.returns-clause-tidy
+returns-clause-tidy c = λ tidy none.
+    let mid = c.place_for.new.self in
+    let old = c.args.self.now in
+    let was = tidy (sym c.place_for.ensures.whole ∙ none) in
+    let away : c.turns_away-outranked.result ≡ false =
+    c.turns_away-outranked.ensures ∙ ap (λ (w : Option WholeFind). turns_away (whole_cell w) (admission_of c.find-2.result.now c.find-2.result.now c.args.moment)) none in
+    let counts = hold_counts c.index_mut.result.now.column c.hold.new.self (admission_of c.args.find c.args.find c.args.moment) c.turns_away-outranked.result away (c.hold.ensures.places 0 (omega arith)) in
+    let few = held_tidy mid.kinds.items c.args.kind c.in_ok-place.place (length old.kinds.items) c.index_mut.result.now c.hold.new.self (has_place old (One c.args.kind)) c.in_ok-place.ensures.place c.index_mut.ensures.value counts
+    (c.place_for.ensures.places.places (One c.args.kind)) (omega (arith, c.place_for.ensures.size.0)) (omega (arith, was, c.place_for.ensures.places.count, ap (λ (w : Option WholeFind). one_if (is_some w)) none)) in
+    omega (arith, few)

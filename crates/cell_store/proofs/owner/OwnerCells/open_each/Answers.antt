@@ -1,4 +1,5 @@
-use Rattle.std.proofs.Common.{ℕ, ◌∙◌}
+use Rattle.std.proofs.Common.{ℕ, ap, ◌∙◌}
+use Rattle.cell_store.specs.declared.owner.OwnerCells.{OwnerCells}
 use Rattle.cell_store.specs.Owner.{CanSettle}
 use Rattle.cell_store.proofs.SettleLaws.{all_more}
 use Rattle.cell_store.proofs.owner.OwnerCells.open_each.Goals as goal
@@ -14,4 +15,5 @@ loop-kind-preserved c = (
     count = c.open.ensures.places.count ∙ c.loop-kind.invariant.4.count;
     places = λ scope. c.open.ensures.places.places scope ∙ c.loop-kind.invariant.4.places scope;
   },
+  (λ none. c.open.ensures.still (ap (λ (cells : OwnerCells). cells.whole) (c.loop-kind.invariant.5 none) ∙ none) ∙ c.loop-kind.invariant.5 none),
 )

@@ -32,7 +32,7 @@ forget_place-place-requires c = record { counted = c.requires.whole.counted }
 
 pub drop_end-requires : goal.drop_end-requires
 drop_end-requires c = record {
-  low = subst (λ n. IfSome c.forget_place-place.result (λ p. p < n)) (sym c.requires.whole.ends.now.size) (low c.args.owner.now c.args.self.now.owners.entries c.forget_place-place.result c.forget_place-place.ensures.gone.0);
+  low = subst (λ n. IfSome c.forget_place-place.result (λ p. p < n)) (sym c.requires.whole.ends.size) (low c.args.owner.now c.args.self.now.owners.entries c.forget_place-place.result c.forget_place-place.ensures.gone.0);
   flags = c.requires.whole.ends.flags;
 }
 
@@ -63,14 +63,17 @@ returns-clause-whole c =
       few = omega (arith, c.forget_place-place.ensures.fewer.0, whole.few);
       small = whole.small;
       room = whole.room;
-      ends = subst (λ (l : List (Labels × OwnerCells)). AreEnds self.kept.items l (record { moments = c.drop_end.new.ends.moments; mixed = c.drop_end.new.ends.mixed; lasts = c.remove.new.self })) (sym c.forget_place-place.ensures.gone.2)
+      ends = subst (λ (l : List (Labels × OwnerCells)). AreEnds self.kept.items l (record { moments = c.drop_end.new.ends.moments; mixed = c.drop_end.new.ends.mixed; left = c.drop_end.new.ends.left; lasts = c.remove.new.self })) (sym c.forget_place-place.ensures.gone.2)
           (gone_ends self.kept.items c.args.owner.now self.owners.entries self.ends c.drop_end.new.ends whole.ends (by c.args.owner.now self.owners.entries c.forget_place-place.result self.ends c.drop_end.new.ends c.forget_place-place.ensures.gone.0 c.drop_end.ensures) c.forget_place-place.result c.remove.new.self c.forget_place-place.ensures.gone.0 c.remove.ensures.ends
           (subst (λ (l : List (Labels × OwnerCells)). AreWinners l c.remove.new.self) c.forget_place-place.ensures.gone.2
           (c.remove.ensures.winners self.owners.entries c.args.owner.now c.forget_place-place.ensures.gone.0 c.forget_place-place.ensures.gone.2
           (gone_winners self.kept.items c.args.owner.now self.owners.entries self.ends c.drop_end.new.ends whole.ends (by c.args.owner.now self.owners.entries c.forget_place-place.result self.ends c.drop_end.new.ends c.forget_place-place.ensures.gone.0 c.drop_end.ensures)))));
       settling = forgot_settling self.top self.owners c.forget_place-place.new.owners c.args.owner.now c.forget_place-place.ensures.cells c.forget_place-place.ensures.gone.2 self.settlings.items whole.settling;
       space = whole.space;
-      named = each_forgot c.args.owner.now self.owners.entries c.forget_place-place.new.owners.entries self.ends.moments whole.ends.now.size c.forget_place-place.ensures.gone.2 whole.named;
+      named = each_forgot c.args.owner.now self.owners.entries c.forget_place-place.new.owners.entries self.ends.moments whole.ends.size c.forget_place-place.ensures.gone.2 whole.named;
+      useful = whole.useful;
+      short = whole.short;
+      doubt = omega (arith, c.drop_end.ensures.left, whole.doubt);
     }
 
 pub returns-clause-stored : goal.returns-clause-stored

@@ -37,7 +37,7 @@ spot : (shelf : Shelf) (find : Find) (place : Option ℕ) → IsShelf shelf → 
     → place ≡ cond (nat_lt (name_place find.owner shelf.owners.entries) (length shelf.ends.moments)) (Some (name_place find.owner shelf.owners.entries)) None
 spot shelf find place whole at =
     let p = name_place find.owner shelf.owners.entries in
-    let size : length (keys_of shelf.owners.entries) ≡ length shelf.ends.moments = length-keys_of shelf.owners.entries ∙ sym whole.ends.now.size in
+    let size : length (keys_of shelf.owners.entries) ≡ length shelf.ends.moments = length-keys_of shelf.owners.entries ∙ sym whole.ends.size in
     at ∙ ap (λ n. cond (nat_lt p n) (Some p) None) size
 
 touched_by : (shelf : Shelf) (find : Find) (place : Option ℕ) (middle : Ends) → IsShelf shelf → place ≡ position (name_eq find.owner) (keys_of shelf.owners.entries) → AreBy (touched_at place) shelf.ends middle
@@ -74,7 +74,7 @@ follow-requires c =
           (held_room self c.admit_at-result.new.owners c.args.find c.args.find c.touch.new.ends c.fit.new.ends c.requires.whole.ends c.admit_at-result.ensures.bound.2 refl (touched_by self c.args.find c.args.place c.touch.new.ends c.requires.whole c.requires.room.0 c.in_ok-touch.ensures.ok) c.fit.ensures.ends
           (HaveRoom c.touch.new.ends.lasts)
           (λ past. c.in_ok-touch.ensures.room (none_past (name_place c.args.find.owner self.owners.entries) (length self.ends.moments) c.args.place
-          (spot self c.args.find c.args.place c.requires.whole c.requires.room.0) (past ∙ sym c.requires.whole.ends.now.size))) more);
+          (spot self c.args.find c.args.place c.requires.whole c.requires.room.0) (past ∙ sym c.requires.whole.ends.size))) more);
     }
 
 pub admit_at-result-requires : goal.admit_at-result-requires
@@ -103,6 +103,9 @@ reach_names-requires c =
             c.args.find c.args.moment cells self.settlings.items c.requires.whole.settling;
         space = c.requires.whole.space;
         named = c.admit_at-result.ensures.named c.requires.whole.named;
+        useful = c.requires.whole.useful;
+        short = c.requires.whole.short;
+        doubt = omega (arith, c.in_ok-touch.ensures.ok.left, c.fit.ensures.ends.left, c.requires.whole.doubt);
       };
     }
 
@@ -154,6 +157,9 @@ returns-in_err-result-clause-whole c =
           self.settlings.items c.requires.whole.settling;
       space = c.requires.whole.space;
       named = c.admit_at-result.ensures.named c.requires.whole.named;
+      useful = c.requires.whole.useful;
+      short = c.requires.whole.short;
+      doubt = omega (arith, c.in_ok-touch.ensures.ok.left, c.fit.ensures.ends.left, c.requires.whole.doubt);
     }
 
 pub returns-in_err-touch-clause-whole : goal.returns-in_err-touch-clause-whole
@@ -174,6 +180,9 @@ returns-in_err-touch-clause-whole c =
       settling = whole.settling;
       space = whole.space;
       named = whole.named;
+      useful = whole.useful;
+      short = whole.short;
+      doubt = omega (arith, c.in_err-touch.ensures.err.left, whole.doubt);
     }
 
 pub returns-in_err-touch-clause-fault : goal.returns-in_err-touch-clause-fault

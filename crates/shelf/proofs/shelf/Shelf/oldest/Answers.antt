@@ -1,18 +1,20 @@
-use Rattle.std.proofs.Common.{Option, None, List, sym, subst}
+use Rattle.std.proofs.Common.{Option, None, List, sym, subst, ◌∙◌}
 use Rattle.winner_tree.specs.Tree.{IsBelow}
 use Rattle.shelf.specs.declared.settling.Settling.{Settling}
 use Rattle.shelf.specs.declared.shelf.KeptFlush.{KeptFlush}
 use Rattle.shelf.specs.declared.oldest.Candidate.{Candidate}
 use Rattle.shelf.specs.Clean.{AreEnds}
 use Rattle.shelf.specs.First.{AreBounds, IsFirst}
-use Rattle.shelf.proofs.BoundLaws.{shelf_bounds}
+use Rattle.shelf.proofs.BoundLaws.{no_doubt, shelf_bounds}
 use Rattle.shelf.proofs.OldestLaws.{none_of, oldest_of}
 use Rattle.shelf.proofs.shelf.Shelf.oldest.Goals as goal
 
 pub first_of_all-first-requires-clause-ends : goal.first_of_all-first-requires-clause-ends
 first_of_all-first-requires-clause-ends c =
-    let self = c.args.self.now in
-    subst (λ (l : List KeptFlush). AreEnds l self.owners.entries self.ends) (sym c.deref-2.ensures.value) c.requires.whole.ends
+    let self = c.args.self.now in (
+      subst (λ (l : List KeptFlush). AreEnds l self.owners.entries self.ends) (sym c.deref-2.ensures.value) c.requires.whole.ends,
+      λ none. no_doubt self c.requires.whole (sym c.deref.ensures.value ∙ none),
+    )
 
 pub first_of_all-first-requires-clause-bounds : goal.first_of_all-first-requires-clause-bounds
 first_of_all-first-requires-clause-bounds c =

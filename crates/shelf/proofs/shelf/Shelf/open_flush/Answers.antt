@@ -3,11 +3,13 @@ use Rattle.std.specs.List.{AllByRecursion}
 use Rattle.std.specs.Prelude.{Result, Ok, Err, OnErr}
 use Rattle.dns_text.specs.declared.record.Question.{Question}
 use Rattle.cell_store.specs.Count.{KeepPairs}
-use Rattle.cell_store.specs.Store.{AreSameCells}
+use Rattle.cell_store.specs.Store.{AreSameCells, StayBut}
+use Rattle.cell_store.specs.declared.owner.OwnerCells.{OwnerCells}
+use Rattle.dns_name.specs.Labels.{Labels}
 use Rattle.shelf.specs.declared.settling.Settling.{Settling}
 use Rattle.shelf.specs.declared.shelf.KeptFlush.{KeptFlush}
 use Rattle.shelf.specs.declared.shelf.Shelf.{Shelf}
-use Rattle.shelf.specs.Settling.{settled_cell, settled_version, IsSettling}
+use Rattle.shelf.specs.Settling.{most_left, settled_cell, settled_version, AreUseful, IsSettling}
 use Rattle.shelf.specs.Told.{cell_at, chosen_version, is_version, IsAscending, IsSame, CanSettleFlush}
 use Rattle.shelf.specs.Clean.{AreEnds}
 use Rattle.shelf.proofs.EndLaws.{ends_kept, reset_ends, version_more}
@@ -18,7 +20,7 @@ use Rattle.shelf.proofs.SettlingLaws.{kept_settling, newer_settling, nothing_set
 use Rattle.shelf.proofs.shelf.Shelf.open_flush.Goals as goal
 
 pub reset-requires : goal.reset-requires
-reset-requires c = record { size = c.requires.whole.ends.now.size; flags = c.requires.whole.ends.flags }
+reset-requires c = record { size = c.requires.whole.ends.size; flags = c.requires.whole.ends.flags }
 
 pub open_flush-requires : goal.open_flush-requires
 open_flush-requires c = record { upto = c.requires.whole.upto }
@@ -63,6 +65,9 @@ returns-clause-whole c =
           (kept_settling self.top self.owners owners c.args.flush.name (inl c.open_flush.ensures.entries.2) c.open_flush.ensures.cells self.settlings.items c.requires.whole.settling));
       space = omega (arith, c.in_ok-reserve_settlings.ensures.room, c.in_ok-push.ensures.len, c.len-2.ensures);
       named = c.open_flush.ensures.named c.requires.whole.named;
+      useful = subst (λ (l : List Settling). AreUseful l) (sym c.reserve_settlings.ensures.items) c.requires.whole.useful;
+      short = omega (arith, ap length c.reserve_settlings.ensures.items, c.requires.whole.short);
+      doubt = omega (arith, c.reset.ensures.left, ap most_left c.reserve_settlings.ensures.items, c.requires.whole.doubt);
     }
 
 pub returns-in_err-push-clause-whole : goal.returns-in_err-push-clause-whole
@@ -86,6 +91,9 @@ returns-in_err-push-clause-whole c =
       settling = subst (λ (l : List Settling). AllByRecursion (IsSettling self.top owners) l) (sym c.reserve_settlings.ensures.items) (kept_settling self.top self.owners owners c.args.flush.name (inl c.open_flush.ensures.entries.2) c.open_flush.ensures.cells self.settlings.items whole.settling);
       space = omega (arith, ap length items, ap length c.reserve_settlings.ensures.items, c.reserve_settlings.ensures.more, whole.space);
       named = c.open_flush.ensures.named whole.named;
+      useful = subst (λ (l : List Settling). AreUseful l) (sym c.reserve_settlings.ensures.items) whole.useful;
+      short = omega (arith, ap length c.reserve_settlings.ensures.items, whole.short);
+      doubt = omega (arith, c.reset.ensures.left, ap most_left c.reserve_settlings.ensures.items, whole.doubt);
     }
 
 pub returns-in_err-open_flush-clause-whole : goal.returns-in_err-open_flush-clause-whole
@@ -107,6 +115,9 @@ returns-in_err-open_flush-clause-whole c =
       settling = subst (λ (l : List Settling). AllByRecursion (IsSettling self.top owners) l) (sym c.reserve_settlings.ensures.items) (kept_settling self.top self.owners owners c.args.flush.name (inl c.open_flush.ensures.entries.2) c.open_flush.ensures.cells self.settlings.items whole.settling);
       space = omega (arith, ap length c.reserve_settlings.ensures.items, c.reserve_settlings.ensures.more, whole.space);
       named = c.open_flush.ensures.named whole.named;
+      useful = subst (λ (l : List Settling). AreUseful l) (sym c.reserve_settlings.ensures.items) whole.useful;
+      short = omega (arith, ap length c.reserve_settlings.ensures.items, whole.short);
+      doubt = omega (arith, c.reset.ensures.left, ap most_left c.reserve_settlings.ensures.items, whole.doubt);
     }
 
 pub returns-in_err-reserve_settlings-clause-whole : goal.returns-in_err-reserve_settlings-clause-whole
@@ -127,6 +138,9 @@ returns-in_err-reserve_settlings-clause-whole c =
       settling = subst (λ (l : List Settling). AllByRecursion (IsSettling self.top self.owners) l) (sym c.reserve_settlings.ensures.items) whole.settling;
       space = omega (arith, ap length c.reserve_settlings.ensures.items, c.reserve_settlings.ensures.more, whole.space);
       named = whole.named;
+      useful = subst (λ (l : List Settling). AreUseful l) (sym c.reserve_settlings.ensures.items) whole.useful;
+      short = omega (arith, ap length c.reserve_settlings.ensures.items, whole.short);
+      doubt = omega (arith, ap most_left c.reserve_settlings.ensures.items, whole.doubt);
     }
 
 -- the same cells and flushes, in a shelf that was refused memory
@@ -155,3 +169,13 @@ returns-in_err-open_flush-clause-same c = on_err _ _ (same_shelf _ _ c.reserve_s
 
 pub returns-in_err-push-clause-same : goal.returns-in_err-push-clause-same
 returns-in_err-push-clause-same c = on_err _ _ (same_shelf _ _ c.reserve_settlings.ensures.items c.open_flush.ensures.cells c.in_err-push.ensures.items refl refl c.open_flush.ensures.pairs)
+
+-- no entry has changed
+stay_same : (name : Labels) (entries : List (Labels × OwnerCells)) → StayBut name entries entries
+stay_same name entries = record { others = λ i off. refl; size = inl refl; names = inl refl }
+
+pub returns-in_err-reserve-clause-entries : goal.returns-in_err-reserve-clause-entries
+returns-in_err-reserve-clause-entries c = stay_same c.args.flush.name c.args.self.now.owners.entries
+
+pub returns-in_err-reserve_settlings-clause-entries : goal.returns-in_err-reserve_settlings-clause-entries
+returns-in_err-reserve_settlings-clause-entries c = stay_same c.args.flush.name c.args.self.now.owners.entries

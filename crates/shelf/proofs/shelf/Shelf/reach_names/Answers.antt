@@ -3,7 +3,7 @@ use Rattle.shelf.proofs.FaceLaws.{settles_each}
 use Rattle.shelf.proofs.shelf.Shelf.reach_names.Goals as goal
 
 pub reach_some-requires : goal.reach_some-requires
-reach_some-requires c = record { size = (c.requires.whole.ends.now.size, c.requires.whole.ends.flags, c.requires.whole.ends.winners.size, c.requires.whole.ends.winners.shape); counted = c.requires.whole.counted }
+reach_some-requires c = record { size = (c.requires.whole.ends.size, c.requires.whole.ends.flags, c.requires.whole.ends.winners.size, c.requires.whole.ends.winners.shape); counted = (c.requires.whole.counted, (c.args.self.now.top, c.requires.whole.upto)) }
 
 pub returns-clause-cells : goal.returns-clause-cells
 returns-clause-cells c = (c.reach_some.ensures.moved c.args.self.now.top c.requires.whole.upto c.requires.whole.settling).cells
@@ -33,4 +33,7 @@ returns-clause-whole c =
       settling = moved.settling;
       space = omega (arith, c.reach_some.ensures.room.0, c.reach_some.ensures.room.1, whole.space);
       named = c.reach_some.ensures.counted.2 whole.named;
+      useful = c.reach_some.ensures.room.2 whole.useful;
+      short = omega (arith, c.reach_some.ensures.room.0, whole.short);
+      doubt = c.reach_some.ensures.left.2 whole.doubt;
     }

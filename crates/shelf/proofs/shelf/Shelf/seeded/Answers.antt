@@ -13,7 +13,7 @@ use Rattle.shelf.specs.declared.shelf.KeptFlush.{KeptFlush}
 use Rattle.shelf.specs.Clean.{AreEnds}
 use Rattle.shelf.specs.Told.{CanSettleFlush, IsAscending}
 use Rattle.shelf.specs.declared.settling.Settling.{Settling}
-use Rattle.shelf.specs.Settling.{settled_version, IsSettling}
+use Rattle.shelf.specs.Settling.{settled_version, AreUseful, IsSettling}
 use Rattle.shelf.proofs.shelf.Shelf.seeded.Goals as goal
 
 pub returns-clause-cells : goal.returns-clause-cells
@@ -36,8 +36,11 @@ returns-clause-whole c =
       few = omega arith;
       small = c.requires;
       room = omega (arith, ap length none);
-      ends = subst (λ (l : List (Labels × OwnerCells)). AreEnds kept l c.no_ends.result) (sym empty) (c.no_ends.ensures kept);
+      ends = subst (λ (l : List (Labels × OwnerCells)). AreEnds kept l c.no_ends.result) (sym empty) (c.no_ends.ensures.ends kept);
       settling = subst (λ (l : List Settling). AllByRecursion (IsSettling 0 owners) l) (sym c.new-3.ensures.items) tt;
       space = omega (arith, ap length none, ap length c.new-3.ensures.items);
       named = subst (λ (l : List (Labels × OwnerCells)). EachCounts l) (sym empty) (λ i. tt);
+      useful = subst (λ (l : List Settling). AreUseful l) (sym c.new-3.ensures.items) tt;
+      short = omega (arith, ap length c.new-3.ensures.items);
+      doubt = omega (arith, c.no_ends.ensures.left);
     }

@@ -1,7 +1,9 @@
-use Rattle.std.proofs.Common.{◌≡◌, ◌∙◌, ℕ, Bool, List, ap}
+use Rattle.std.proofs.Common.{◌≡◌, ◌∙◌, ℕ, Bool, List, ap, subst}
 use Rattle.dns_text.specs.declared.record.Question.{Question}
+use Rattle.shelf.specs.declared.settling.Settling.{Settling}
 use Rattle.shelf.specs.declared.shelf.KeptFlush.{KeptFlush}
 use Rattle.shelf.specs.declared.shelf.Shelf.{Shelf}
+use Rattle.shelf.specs.Settling.{reached_at_once, HaveStepped}
 use Rattle.shelf.specs.Told.{cell_at, chosen_version, face_of}
 use Rattle.shelf.proofs.shelf.Shelf.settle.Goals as goal
 
@@ -15,3 +17,8 @@ returns-clause-faces c chosen there q =
 
 pub returns-clause-pairs : goal.returns-clause-pairs
 returns-clause-pairs c = λ pair has. c.settle_kept.ensures.pairs pair (c.reach_names.ensures.pairs pair has)
+
+pub returns-clause-left : goal.returns-clause-left
+returns-clause-left c =
+    let settled = c.settle_kept.ensures.settlings in
+    (settled.0, (settled.1.0, subst (λ (l : List Settling). HaveStepped reached_at_once l c.reach_names.new.self.settlings.items) settled.1.1 c.reach_names.ensures.left))

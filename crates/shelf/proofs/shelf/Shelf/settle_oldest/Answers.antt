@@ -1,24 +1,19 @@
-use Rattle.std.proofs.Common.{◌≤◌, length, ap, ◌∙◌, arith}
-use Rattle.shelf.proofs.EndLaws.{ends_mixed}
-use Rattle.shelf.proofs.EvenLaws.{evens_length}
-use Rattle.shelf.proofs.WinnerLaws.{shaped_same}
-use Rattle.shelf.specs.Settling.{settled_cell}
+use Rattle.std.proofs.Common.{◌≤◌, ap, ◌∙◌, arith}
+use Rattle.shelf.specs.declared.shelf.KeptFlush.{KeptFlush}
+use Rattle.shelf.specs.Settling.{joined_by, settled_cell}
 use Rattle.shelf.specs.Told.{cell_at, CanSettleFlush}
-use Rattle.shelf.proofs.FaceLaws.{removed_face, removed_kept, all_removed, ascending_removed, all_first}
+use Rattle.shelf.proofs.FaceLaws.{read_first, removed_face, removed_kept, all_removed, ascending_removed, all_first}
 use Rattle.shelf.proofs.shelf.Shelf.settle_oldest.Goals as goal
 
 pub settle_flush-requires : goal.settle_flush-requires
-settle_flush-requires c = record {
-  size = (
-    ap length (c.end_mixed.ensures c.requires.whole.ends.flags).moments ∙ (evens_length c.args.self.now.ends.moments c.args.self.now.ends.mixed.items ∙ c.requires.whole.ends.now.size),
-    (c.end_mixed.ensures c.requires.whole.ends.flags).flags,
-    ap length (c.end_mixed.ensures c.requires.whole.ends.flags).lasts.0 ∙ c.requires.whole.ends.winners.size,
-    shaped_same c.args.self.now.ends.lasts c.end_mixed.new.ends.lasts (c.end_mixed.ensures c.requires.whole.ends.flags).lasts c.requires.whole.ends.winners.shape,
-  );
-  room = omega (arith, c.requires.whole.space);
-  counted = c.requires.whole.counted;
-  settles = all_first (λ own. CanSettleFlush c.args.self.now.owners own.number own.flush) c.args.self.now.kept.items c.remove-own.result (omega arith) c.remove-own.ensures.value c.requires.whole.settles;
-}
+settle_flush-requires c =
+    let ends = c.requires.whole.ends in
+    record {
+      size = (ends.size, ends.flags, ends.winners.size, ends.winners.shape);
+      room = omega (arith, c.requires.whole.space);
+      counted = (c.requires.whole.counted, (c.args.self.now.top, c.requires.whole.upto));
+      settles = all_first (λ own. CanSettleFlush c.args.self.now.owners own.number own.flush) c.args.self.now.kept.items c.remove-own.result (omega arith) c.remove-own.ensures.value c.requires.whole.settles;
+    }
 
 pub returns-clause-faces : goal.returns-clause-faces
 returns-clause-faces c =
@@ -47,8 +42,24 @@ returns-clause-whole c =
       few = omega (arith, c.settle_flush.ensures.counted.1, whole.few);
       small = whole.small;
       room = omega (arith, c.remove-own.ensures.len, whole.room);
-      ends = c.settle_flush.ensures.ends c.remove-own.new.self.items (ends_mixed self.kept.items c.remove-own.new.self.items self.owners.entries self.ends c.end_mixed.new.ends whole.ends (c.end_mixed.ensures whole.ends.flags));
+      ends = c.settle_flush.ensures.ends self.kept.items c.remove-own.new.self.items whole.ends;
       settling = moved.settling;
       space = omega (arith, c.settle_flush.ensures.space.0, c.settle_flush.ensures.space.1, c.remove-own.ensures.len, whole.space);
       named = c.settle_flush.ensures.counted.2 whole.named;
+      useful = c.settle_flush.ensures.space.2 whole.useful;
+      short = c.settle_flush.ensures.space.3 whole.short;
+      doubt = c.settle_flush.ensures.doubt;
     }
+
+pub returns-clause-settlings : goal.returns-clause-settlings
+returns-clause-settlings c = λ own later is.
+    let self = c.args.self.now in
+    let items = c.settle_flush.ensures.items in (
+      items.0,
+      (
+        items.1.0,
+        items.1.1
+            ∙ ap (λ (k : KeptFlush). joined_by k.flush.reach k.flush.name k.number items.0 self.settlings.items)
+            (read_first self.kept.items own c.remove-own.result later c.remove-own.ensures.value is),
+      ),
+    )

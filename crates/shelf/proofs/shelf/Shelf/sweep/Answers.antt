@@ -12,6 +12,7 @@ use Rattle.shelf.proofs.FaceLaws.{settles_each}
 use Rattle.shelf.proofs.RoomLaws.{chosen_is_version}
 use Rattle.shelf.proofs.SettlingLaws.{fewer_steps}
 use Rattle.shelf.proofs.NeedLaws.{needed}
+use Rattle.shelf.proofs.BoundLaws.{no_doubt}
 use Rattle.shelf.proofs.VisitLaws.{turn_none}
 use Rattle.shelf.proofs.shelf.Shelf.sweep.Goals as goal
 
@@ -38,8 +39,10 @@ loop-self-smaller c =
     fewer_steps reached_at_once c.loop-self.self.settlings.items c.reach_names.new.self.settlings.items (omega arith) (c.is_reaching.ensures.some c.loop-self-test.true) c.reach_names.ensures.left
 
 pub sweep_all-requires-clause-ends : goal.sweep_all-requires-clause-ends
-sweep_all-requires-clause-ends c =
-    subst (λ (l : List KeptFlush). AreEnds l c.loop-self.self.owners.entries c.loop-self.self.ends) (sym c.deref.ensures.value) c.loop-self.invariant.whole.ends
+sweep_all-requires-clause-ends c = (
+  subst (λ (l : List KeptFlush). AreEnds l c.loop-self.self.owners.entries c.loop-self.self.ends) (sym c.deref.ensures.value) c.loop-self.invariant.whole.ends,
+  no_doubt c.loop-self.self c.loop-self.invariant.whole (c.is_reaching.ensures.none c.loop-self-test.false),
+)
 
 pub returns-clause-faces : goal.returns-clause-faces
 returns-clause-faces c = λ chosen q.
@@ -73,10 +76,13 @@ returns-clause-whole c =
       few = omega (arith, c.sweep_all.ensures.counted.1, whole.few);
       small = whole.small;
       room = omega (arith, c.sweep_all.ensures.capacity, whole.room);
-      ends = subst (λ (l : List KeptFlush). AreEnds l c.sweep_all.new.owners.entries c.sweep_all.new.ends) c.deref.ensures.value c.sweep_all.ensures.ends;
+      ends = subst (λ (l : List KeptFlush). AreEnds l c.sweep_all.new.owners.entries c.sweep_all.new.ends) c.deref.ensures.value c.sweep_all.ensures.ends.0;
       settling = subst (λ (s : List Settling). AllByRecursion (IsSettling middle.top c.sweep_all.new.owners) s) (sym none) tt;
       space = whole.space;
-      named = λ i. c.sweep_all.ensures.alive.counted i (omega arith);
+      named = c.sweep_all.ensures.counted.2 whole.named;
+      useful = whole.useful;
+      short = whole.short;
+      doubt = omega (arith, c.sweep_all.ensures.ends.1);
     }
 
 pub returns-clause-stored : goal.returns-clause-stored
@@ -100,3 +106,6 @@ returns-clause-alive c =
     let alive = subst (λ (l : List KeptFlush). AreAlive l c.args.moment c.sweep_all.new.owners) c.deref.ensures.value c.sweep_all.ensures.alive in
     let swept : Shelf = record { alloc = middle.alloc; owners = c.sweep_all.new.owners; kept = middle.kept; top = middle.top; stored = c.sweep_all.new.stored; limit = middle.limit; numbers = c.sweep_all.new.numbers; ends = c.sweep_all.new.ends; settlings = middle.settlings } in
     (subst (λ (l : List KeptFlush). AreAlive l c.args.moment c.sweep_all.new.owners) c.loop-self.invariant.flushes.0 alive, needed swept c.args.moment none alive)
+
+pub sweep_all-requires-clause-top : goal.sweep_all-requires-clause-top
+sweep_all-requires-clause-top c = (c.loop-self.self.top, c.loop-self.invariant.whole.upto)

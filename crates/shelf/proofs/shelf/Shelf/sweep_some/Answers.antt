@@ -13,12 +13,15 @@ use Rattle.shelf.proofs.FaceLaws.{settles_each}
 use Rattle.shelf.proofs.RoomLaws.{chosen_is_version}
 use Rattle.shelf.proofs.SettlingLaws.{fewer_steps}
 use Rattle.shelf.proofs.NeedLaws.{needed}
+use Rattle.shelf.proofs.BoundLaws.{no_doubt}
 use Rattle.shelf.proofs.VisitLaws.{reached_short, turn_more, turn_reached, turn_short, turn_small}
 use Rattle.shelf.proofs.shelf.Shelf.sweep_some.Goals as goal
 
 pub sweep_few-requires-clause-ends : goal.sweep_few-requires-clause-ends
-sweep_few-requires-clause-ends c =
-    subst (λ (l : List KeptFlush). AreEnds l c.args.self.now.owners.entries c.args.self.now.ends) (sym c.deref.ensures.value) c.requires.whole.ends
+sweep_few-requires-clause-ends c = (
+  subst (λ (l : List KeptFlush). AreEnds l c.args.self.now.owners.entries c.args.self.now.ends) (sym c.deref.ensures.value) c.requires.whole.ends,
+  no_doubt c.args.self.now c.requires.whole (c.is_reaching.ensures.none c.if-is_reaching.false),
+)
 
 pub returns-clause-faces : goal.returns-clause-faces
 returns-clause-faces c = λ chosen q.
@@ -46,10 +49,13 @@ returns-clause-whole c =
       few = omega (arith, c.sweep_few.ensures.counted.1, whole.few);
       small = whole.small;
       room = omega (arith, c.sweep_few.ensures.capacity, whole.room);
-      ends = subst (λ (l : List KeptFlush). AreEnds l c.sweep_few.new.owners.entries c.sweep_few.new.ends) c.deref.ensures.value c.sweep_few.ensures.ends;
+      ends = subst (λ (l : List KeptFlush). AreEnds l c.sweep_few.new.owners.entries c.sweep_few.new.ends) c.deref.ensures.value c.sweep_few.ensures.ends.0;
       settling = subst (λ (s : List Settling). AllByRecursion (IsSettling self.top c.sweep_few.new.owners) s) (sym none) tt;
       space = whole.space;
       named = c.sweep_few.ensures.counted.2 whole.named;
+      useful = whole.useful;
+      short = whole.short;
+      doubt = omega (arith, c.sweep_few.ensures.ends.1);
     }
 
 pub returns-clause-counted : goal.returns-clause-counted
@@ -97,3 +103,6 @@ returns-clause-alive c = λ last.
     let alive = subst (λ (l : List KeptFlush). AreAlive l c.args.moment c.sweep_few.new.owners) c.deref.ensures.value (c.sweep_few.ensures.alive last) in
     let swept : Shelf = record { alloc = self.alloc; owners = c.sweep_few.new.owners; kept = self.kept; top = self.top; stored = c.sweep_few.new.stored; limit = self.limit; numbers = c.sweep_few.new.numbers; ends = c.sweep_few.new.ends; settlings = self.settlings } in
     (alive, needed swept c.args.moment none alive)
+
+pub sweep_few-requires-clause-top : goal.sweep_few-requires-clause-top
+sweep_few-requires-clause-top c = (c.args.self.now.top, c.requires.whole.upto)

@@ -36,4 +36,7 @@ returns-clause-whole c = λ is.
       settling = is.settling;
       space = omega (arith, ap length c.set_shown.ensures, length_shown c.args.number true kept, is.space);
       named = is.named;
+      useful = is.useful;
+      short = is.short;
+      doubt = is.doubt;
     }

@@ -1,7 +1,7 @@
 use Rattle.std.proofs.Common.{ap, ◌∙◌, arith}
 use Rattle.shelf.specs.Told.{without}
 use Rattle.shelf.proofs.FaceLaws.{removed_here, removed_none}
-use Rattle.shelf.proofs.shelf.remove_number.Goals as goal
+use Rattle.shelf.proofs.flushing.remove_number.Goals as goal
 
 pub returns-then-index-number : goal.returns-then-index-number
 returns-then-index-number c =

@@ -1,6 +1,6 @@
 use Rattle.std.proofs.Common.{◌≡◌, ◌-◌, length}
 use Rattle.shelf.proofs.EvenLaws.{evens_to}
-use Rattle.shelf.proofs.ends.end_mixed.Given as goal
+use Rattle.shelf.proofs.ends.end_each.Given as goal
 
 -- the moments of the names so far are changed
 abbrev pub invariant-loop-place : goal.invariant-loop-place
