@@ -233,11 +233,11 @@ swept_hands port question log searching heard allowed next input t is find hande
 -- It is asked for the name to forget first.
 pub asking_oldest : (port : ℕ) (question : Question) (log : List Exchange) (moment : ℕ) (id : Stream) (searching : Box Search) (heard : Box Heard) (allowed next : ℕ) (input : Input)
     → IsTold port question log searching.value heard.value allowed next attempt.Again input → SaysFull input
-    → Goes port question log moment (idle id) (left_of_finds searching.value.path next attempt.Again) (Admitting searching heard allowed next attempt.Oldest) (Book (Look moment Oldest))
+    → Goes port question log moment (idle id) (left_of_finds searching.value.path next attempt.Again) (Admitting searching heard allowed next attempt.Oldest) (Book (Look 0 Oldest))
 asking_oldest port question log moment id searching heard allowed next input t says =
     let find = t.handing.find in
     let full : IsFullAgain find log = record { before = t.before; swept = t.handing.trying.0; full = found_full t.before log find t.want input t.handing.trying.1 says t.adds } in
-    asking port question log moment id _ searching heard allowed next attempt.Oldest find (Look moment Oldest) (heard_on t) t.handing.handed (full, record { moment = moment; wanted = refl }) (refl, (find, full))
+    asking port question log moment id _ searching heard allowed next attempt.Oldest find (Look 0 Oldest) (heard_on t) t.handing.handed (full, record { moment = 0; wanted = refl }) (refl, (find, full))
     (attempt_less searching.value.path next attempt.Again attempt.Oldest (omega arith) (omega arith))
 
 -- That name is forgotten.
@@ -283,7 +283,7 @@ pub full_first : (find : Find) (moment : ℕ) (input : Input) (want : Want) → 
 full_first find moment (Refused (Step (Full stored))) want says is = is
 full_first find moment input want says is = absurd says
 
-pub full_again : (find : Find) (moment : ℕ) (input : Input) (want : Want) → SaysFull input → want ≡ Book (Look moment Oldest) → AsksNext attempt.Again find moment input want
+pub full_again : (find : Find) (moment : ℕ) (input : Input) (want : Want) → SaysFull input → want ≡ Book (Look 0 Oldest) → AsksNext attempt.Again find moment input want
 full_again find moment (Refused (Step (Full stored))) want says is = is
 full_again find moment input want says is = absurd says
 

@@ -142,7 +142,7 @@ pub record IsHanding (finds : List Find) (allowed next : ℕ) (tried : Attempt) 
 abbrev pub AsksNext : Attempt → Find → ℕ → Input → Want → Type 0
 AsksNext attempt.Admit find moment (Refused (Step (Full stored))) want = want ≡ Book (Sweep moment)
 AsksNext attempt.Sweep find moment (Reply Swept) want = want ≡ Book (Admit moment find)
-AsksNext attempt.Again find moment (Refused (Step (Full stored))) want = want ≡ Book (Look moment Oldest)
+AsksNext attempt.Again find moment (Refused (Step (Full stored))) want = want ≡ Book (Look 0 Oldest)
 AsksNext attempt.Oldest find moment (Reply (Seen (SeenOldest (Some owner)))) want = want ≡ Book (Forget moment owner)
 AsksNext attempt.Forget find moment (Reply Forgotten) want = want ≡ Book (Admit moment find)
 AsksNext tried find moment input want = Unit {0}

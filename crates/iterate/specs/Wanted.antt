@@ -120,12 +120,13 @@ pub data IsListedFor (port : ℕ) (log : List Exchange) (whole : Question) : Lab
       → IsUnknownYet log (address_question target) → IsListedFor port log whole (served_name (address_question target))
 
 -- An event with the moment that was handed in: a look at a question or for servers, or an admission of what was harvested.
+-- The look for the name to forget first has moment 0, so it is at the clock of the book.
 -- A book is swept only if it was full for a find, is asked for the name to forget first only if it was full for it after that,
 -- and forgets only the name that it then gave.
 abbrev pub MayCall : ℕ → Question → List Exchange → ℕ → Event → Type 0
 MayCall port whole log moment (Look m (Asked question)) = m ≡ moment
 MayCall port whole log moment (Look m (ServersFor name)) = (m ≡ moment) × IsListedFor port log whole name
-MayCall port whole log moment (Look m Oldest) = (m ≡ moment) × ((find : Find) × IsFullAgain find log)
+MayCall port whole log moment (Look m Oldest) = (m ≡ 0) × ((find : Find) × IsFullAgain find log)
 MayCall port whole log moment (Admit m find) = (m ≡ moment) × IsHarvested port log find × MayHand find log
 MayCall port whole log moment (Sweep m) = (m ≡ moment) × ((find : Find) × IsFull find log)
 MayCall port whole log moment (Forget m owner) = (m ≡ moment) × ((find : Find) × IsNamed find owner log)

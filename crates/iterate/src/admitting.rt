@@ -344,6 +344,8 @@ fn handed_again<R: Rng>(
         (left_of_finds search.value.path next Attempt.Again)) }
 {
     if is_full(input) {
+        // At the clock of the book, to which it was swept: by a later second more names may have ended.
+        let moment = 0;
         let ask = Ask::Oldest;
         return Ok(ask_book(
             search,
