@@ -5,7 +5,7 @@ use Rattle.history.specs.declared.event.Reply.{Reply}
 use Rattle.history.specs.declared.desk.DeskFault.{DeskFault}
 use Rattle.history.specs.declared.desk.DeskFault.TheVariants.{Step as Faulted, Behind}
 use Rattle.history.specs.declared.event.Settings.{Settings}
-use Rattle.std.specs.Prelude.{Ok, Err}
+use Rattle.std.specs.Prelude.{Result, Ok, Err}
 use Rattle.std.specs.List.{AllByRecursion}
 use Rattle.shared_book.specs.Calling.{SeatCall, IsJustified}
 use Rattle.shared_book.specs.Pass.{PassState}
@@ -51,25 +51,25 @@ module _ {B : Type 0} (stands_for : B → List Event → Type 0) (made_with : B 
   unseen settings pass pass' event (Faulted fault) call = ap (λ (p : PassState). p.seen) call.0
   unseen settings pass pass' event (Behind at) call = ap (λ (p : PassState). p.seen) call.0
 
-module _ {D : Type 0} {B : Type 0} (stands_for : B → List Event → Type 0) (made_with : B → Settings) (stored : B → ℕ) (is_free : B → Event → Type 0) (pass : D → PassState) (settings : Settings) (hears : Hears) where
-  -- the calls of a seat, by its pass
+module _ {D : Type 0} {B : Type 0} (stands_for : B → List Event → Type 0) (made_with : B → Settings) (stored : B → ℕ) (is_free : B → Event → Type 0) (pass : D → PassState) (more : D → Result Reply DeskFault → Type 0) (settings : Settings) (hears : Hears) where
+  -- the calls of a seat, by its pass, of which more may be known
   abbrev calls_by : Calls D
-  calls_by before event answer after = SeatCall stands_for made_with stored is_free settings (pass before) event answer (pass after)
+  calls_by before event answer after = SeatCall stands_for made_with stored is_free settings (pass before) event answer (pass after) × more before answer
 
   abbrev seen_by : D → ℕ
   seen_by seat = (pass seat).seen
 
   pub rises : ReceiptsRise calls_by seen_by hears settings
   rises n n' event reply (replied {d = d} {d' = d'} known call is) =
-      let one = risen stands_for made_with stored is_free settings (pass d) (pass d') event reply call in
+      let one = risen stands_for made_with stored is_free settings (pass d) (pass d') event reply call.0 in
       (omega (arith, one.0, known, is), subst (λ (m : ℕ). IsJustified settings m event reply) (sym is) one.1)
 
   pub never_falls : NumbersNeverFall calls_by seen_by hears
   never_falls n n' want input (replied {d = d} {d' = d'} {event = event} {reply = reply} known call is) =
-      let one = risen stands_for made_with stored is_free settings (pass d) (pass d') event reply call in
+      let one = risen stands_for made_with stored is_free settings (pass d) (pass d') event reply call.0 in
       omega (arith, one.0, known, is)
   never_falls n n' want input (refused {d = d} {d' = d'} {event = event} {fault = fault} known call is) =
-      omega (arith, unseen stands_for made_with stored is_free settings (pass d) (pass d') event fault call, known, is)
+      omega (arith, unseen stands_for made_with stored is_free settings (pass d) (pass d') event fault call.0, known, is)
   never_falls n n' want input (came heard) = omega arith
   never_falls n n' want input (failed none) = omega arith
 

@@ -1,8 +1,9 @@
 -- What a call of what lies under the lock says of its answer.
-use Rattle.std.proofs.Common.{◌≡◌, ℕ, ◌+◌, ◌≤◌, List, length, sym, ◌∙◌, ap, subst, arith, inl, inr}
+use Rattle.std.proofs.Common.{◌≡◌, ℕ, Bool, ◌+◌, ◌≤◌, List, length, refl, sym, ◌∙◌, ap, subst, arith, inl, inr}
 use Rattle.std.specs.Prelude.{◌⊎◌, Result, Ok, Err, IfOk, IfErr, IsErrOf}
 use Rattle.history.specs.declared.event.Event.{Event}
 use Rattle.history.specs.declared.event.Reply.{Reply}
+use Rattle.history.specs.declared.event.Reply.TheVariants.{Swept}
 use Rattle.history.specs.declared.event.Settings.{Settings}
 use Rattle.history.specs.declared.book.StepFault.{StepFault}
 use Rattle.history.specs.declared.book.StepFault.TheVariants.{BadMoment, CountEnded, Full, NoMemory}
@@ -15,8 +16,9 @@ use Rattle.shared_book.specs.declared.fault.CallFault.{CallFault}
 use Rattle.shared_book.specs.declared.fault.CallFault.TheVariants.{Step, Behind}
 use Rattle.shared_book.specs.declared.receipt.Receipt.{Receipt}
 use Rattle.shared_book.specs.Pass.{PassState, after_call}
-use Rattle.shared_book.specs.Kept.{KeptState, IsKept, IsStep, IsTaken, HasNoRoom, IsCalled, IsFreeCall}
-use Rattle.shared_book.specs.Calling.{IsReason, IsCallReply, IsFaultOf, IsCall, IsLocked, IsShared, IsReceiptOf, IsJustified, SeatCall}
+use Rattle.shared_book.specs.Kept.{KeptState, IsKept, IsStep, IsTaken, HasNoRoom, IsCalled, HasFreeRoom, IsFreeCall, IsSweepThere}
+use Rattle.shared_book.specs.declared.shared.TheConstants.{MOST_TURNS}
+use Rattle.shared_book.specs.Calling.{IsReason, IsCallReply, IsFaultOf, IsCall, IsLocked, IsShared, IsReceiptOf, IsJustified, SeatCall, SweepsOn}
 use Rattle.shared_book.proofs.RecordLaws.{all_events, as_many}
 
 -- a fault that a history explains has its reason
@@ -29,6 +31,15 @@ reason settings made_with h event NoMemory same answers = tt
 -- a call is told no more than the step of its book
 pub same_fault : {A C : Type 0} (fault : StepFault) → IsErrOf {T = A} (Err (Step fault)) (Step NoMemory) → IsErrOf {T = C} (Err fault) NoMemory
 same_fault fault is = (cc)
+
+-- a step of an equal book that found no memory
+pub step_alike : {B : Type 0} (stands_for : B → List Event → Type 0) (made_with : B → Settings) (stored : B → ℕ) (event : Event) (answer : Result Reply StepFault) {before other : B} (after : B)
+    → other ≡ before → IsErrOf answer NoMemory → IsBookStep stands_for made_with stored other event answer after → IsBookStep stands_for made_with stored before event (Err NoMemory) after
+step_alike stands_for made_with stored event (Ok reply) after same is step = (cc)
+step_alike stands_for made_with stored event (Err NoMemory) after same is step = subst (λ b. IsBookStep stands_for made_with stored b event (Err NoMemory) after) same step
+step_alike stands_for made_with stored event (Err BadMoment) after same is step = (cc)
+step_alike stands_for made_with stored event (Err CountEnded) after same is step = (cc)
+step_alike stands_for made_with stored event (Err (Full n)) after same is step = (cc)
 
 module _ {B : Type 0} (stands_for : B → List Event → Type 0) (made_with : B → Settings) (stored : B → ℕ) where
   -- what a step under the lock may answer
@@ -72,9 +83,10 @@ module _ {B : Type 0} (stands_for : B → List Event → Type 0) (made_with : B 
   -- such a call as a caller knows of it, who does not know what lay there
   pub locked : (is_free : B → Event → Type 0) (settings : Settings) (before after : KeptState B) (pass pass' : PassState) (event : Event) (answer : Result Reply CallFault) → IsKept stands_for made_with before
       → made_with before.book ≡ settings → IsCall stands_for made_with stored before pass event answer after pass'
-      → (IsFreeCall is_free before event → ¬ (IsErrOf answer (Step NoMemory))) → IsLocked stands_for made_with stored is_free settings pass event answer pass'
-  locked is_free settings before after pass pass' event answer kept same call free =
-      record { before = before; after = after; kept = kept; same_settings = same; call = call; ended = ended before after pass pass' event answer kept call; free = free }
+      → (IsFreeCall is_free before event → ¬ (IsErrOf answer (Step NoMemory)))
+      → (HasFreeRoom is_free before → IsErrOf answer (Step NoMemory) → IsBookStep stands_for made_with stored before.book event (Err NoMemory) after.book) → IsLocked stands_for made_with stored is_free settings pass event answer pass'
+  locked is_free settings before after pass pass' event answer kept same call free own =
+      record { before = before; after = after; kept = kept; same_settings = same; call = call; ended = ended before after pass pass' event answer kept call; free = free; own = own }
 
   replied_by : (settings : Settings) (before after : KeptState B) (pass pass' : PassState) (event : Event) (reply : Reply) → IsKept stands_for made_with before
       → made_with before.book ≡ settings → IsCall stands_for made_with stored before pass event (Ok reply) after pass' → IsCallReply settings pass event reply pass'
@@ -123,3 +135,9 @@ module _ {B : Type 0} (stands_for : B → List Event → Type 0) (made_with : B 
     subst (λ (r : Reply). IsJustified settings receipt.number event r) is justified,
     subst (λ (r : Reply). IsShared stands_for made_with stored is_free settings pass event (Ok r) pass') is shared,
   )
+
+-- a sweep at a seat goes on
+pub sweeps_on : {B : Type 0} (stands_for : B → List Event → Type 0) (made_with : B → Settings) (stored unswept : B → ℕ) (settings : Settings) (whole : Bool) (reply : Reply)
+    → (reply ≡ Swept → IsSweepThere stands_for made_with stored unswept settings whole MOST_TURNS) → SweepsOn stands_for made_with stored unswept settings whole (Ok reply)
+sweeps_on stands_for made_with stored unswept settings whole Swept goes = goes refl
+sweeps_on stands_for made_with stored unswept settings whole reply goes = tt

@@ -1,7 +1,8 @@
 -- What a call gives back.
-use Rattle.std.specs.Prelude.{◌≡◌, ◌⊎◌, ℕ, ◌+◌, ◌<◌, ◌≤◌, ◌^◌, true, IsTrue, List, length, Result, Ok, Err, IsErrOf}
+use Rattle.std.specs.Prelude.{◌≡◌, ◌⊎◌, ℕ, Bool, ◌+◌, ◌<◌, ◌≤◌, ◌^◌, true, IsTrue, List, length, Result, Ok, Err, IsErrOf}
 use Rattle.history.specs.declared.event.Event.{Event}
 use Rattle.history.specs.declared.event.Reply.{Reply}
+use Rattle.history.specs.declared.event.Reply.TheVariants.{Swept}
 use Rattle.history.specs.declared.event.Settings.{Settings}
 use Rattle.history.specs.declared.book.StepFault.{StepFault}
 use Rattle.history.specs.declared.book.StepFault.TheVariants.{BadMoment, CountEnded, Full, NoMemory}
@@ -10,13 +11,15 @@ use Rattle.history.specs.declared.desk.DeskFault.TheVariants.{Step, Behind}
 use Rattle.history.specs.declared.limits.TheConstants.{MOMENT_END, MOST_EVENTS}
 use Rattle.history.specs.Event.{moment_of, is_admission, is_plain}
 use Rattle.history.specs.Answers.{IsTimely}
+use Rattle.history.specs.Desk.{IsStep as IsBookStep}
 use Rattle.history.specs.History.{past_of}
 use Rattle.history.specs.Reply.{reply_of}
 use Rattle.shared_book.specs.declared.fault.CallFault.{CallFault}
 use Rattle.shared_book.specs.declared.fault.CallFault.TheVariants.{Behind as CallBehind, Step as CallStep}
 use Rattle.shared_book.specs.declared.receipt.Receipt.{Receipt}
+use Rattle.shared_book.specs.declared.shared.TheConstants.{MOST_TURNS}
 use Rattle.shared_book.specs.Pass.{PassState, after_call}
-use Rattle.shared_book.specs.Kept.{KeptState, IsKept, IsStep, IsFreeCall}
+use Rattle.shared_book.specs.Kept.{KeptState, IsKept, IsStep, HasFreeRoom, IsFreeCall, IsSweepThere}
 
 -- The receipt of a call with this pass, which then has seen it.
 pub record IsReceiptOf (pass : PassState) (event : Event) (receipt : Receipt) (pass' : PassState) : Type 0 where
@@ -64,7 +67,7 @@ IsCall stands_for made_with stored before pass event (Err (CallStep fault)) afte
 IsCall stands_for made_with stored before pass event (Err (CallBehind at)) after pass' =
     (before.total < pass.seen) × (at ≡ before.total) × (after ≡ before) × (pass' ≡ pass)
 
--- A call at a shared book that was made with these settings: it is a call of what lay under the lock. So the count had ended, or as many cells were stored, or so many calls were made there, where the answer says so. And a call that takes no memory there is not told that there is none.
+-- A call at a shared book that was made with these settings: it is a call of what lay under the lock. So the count had ended, or as many cells were stored, or so many calls were made there, where the answer says so. And a call that takes no memory there is not told that there is none. If room for the call takes none, want of memory is the book's own.
 pub record IsLocked {B : Type 0} (stands_for : B → List Event → Type 0) (made_with : B → Settings) (stored : B → ℕ) (is_free : B → Event → Type 0) (settings : Settings) (pass : PassState) (event : Event) (answer : Result Reply CallFault) (pass' : PassState) : Type 0 where
   pub before : KeptState B
   pub after : KeptState B
@@ -73,6 +76,7 @@ pub record IsLocked {B : Type 0} (stands_for : B → List Event → Type 0) (mad
   pub call : IsCall stands_for made_with stored before pass event answer after pass'
   pub ended : IsErrOf answer (CallStep CountEnded) → MOST_EVENTS ≤ before.total
   pub free : IsFreeCall is_free before event → ¬ (IsErrOf answer (CallStep NoMemory))
+  pub own : HasFreeRoom is_free before → IsErrOf answer (CallStep NoMemory) → IsBookStep stands_for made_with stored before.book event (Err NoMemory) after.book
 
 -- A call whose event is first shared and copied, which may find no memory if the event is more than a moment and a ticket.
 abbrev pub IsShared : {B : Type 0} → (B → List Event → Type 0) → (B → Settings) → (B → ℕ) → (B → Event → Type 0) → Settings → PassState → Event → Result Reply CallFault → PassState → Type 0
@@ -98,6 +102,11 @@ SeatCall stands_for made_with stored is_free settings pass event (Err (Step faul
     (pass' ≡ pass) × IsReason settings event fault × IsShared stands_for made_with stored is_free settings pass event (Err (CallStep fault)) pass'
 SeatCall stands_for made_with stored is_free settings pass event (Err (Behind at)) pass' =
     (pass' ≡ pass) × (at < pass.seen) × IsShared stands_for made_with stored is_free settings pass event (Err (CallBehind at)) pass'
+
+-- After the reply to a sweep, turns were taken until the sweep had done enough: of the whole, or for room.
+abbrev pub SweepsOn : {B : Type 0} → (B → List Event → Type 0) → (B → Settings) → (B → ℕ) → (B → ℕ) → Settings → Bool → Result Reply DeskFault → Type 0
+SweepsOn stands_for made_with stored unswept settings whole (Ok Swept) = IsSweepThere stands_for made_with stored unswept settings whole MOST_TURNS
+SweepsOn stands_for made_with stored unswept settings whole answer = Unit {0}
 
 -- A pass was not split because it has one part, or because as many callers were numbered under the lock as there may be.
 abbrev pub IsUnsplit : {B : Type 0} → (B → List Event → Type 0) → (B → Settings) → PassState → Type 0

@@ -2,7 +2,8 @@
 
 ghost use Rattle.std.specs.Prelude.{◌≡◌, ◌+◌, ◌<◌, ◌≤◌, ◌^◌, ◌↔◌, ◌⊎◌, IfOk, OnOk, OnErr, IsErr, IsErrOf};
 ghost use Rattle.shared_book.specs.Pass.{IsSplit, IsJoined, calls_of, parts_of};
-ghost use Rattle.shared_book.specs.Kept.{IsFreeCall, IsKept};
+ghost use Rattle.history.specs.Desk.{IsStep as IsBookStep};
+ghost use Rattle.shared_book.specs.Kept.{HasFreeRoom, IsFreeCall, IsKept};
 ghost use Rattle.shared_book.specs.Calling.{IsCall};
 
 use crate::fault::{CallFault, SplitFault};
@@ -25,6 +26,8 @@ impl<B: Book, L: CallLedger> Kept<B, L> {
         ensures made_with { B.settings self.old.book ≡ L.settings }
         ensures call { IsCall B.stands_for B.settings B.stored self.old pass.old event result self.new pass.new }
         ensures free { IsFreeCall B.is_free self.old event → ¬ (IsErrOf result (CallFault.Step StepFault.NoMemory)) }
+        ensures own { HasFreeRoom B.is_free self.old → IsErrOf result (CallFault.Step StepFault.NoMemory) →
+            IsBookStep B.stands_for B.settings B.stored self.old.book event (Err StepFault.NoMemory) self.new.book }
     {
         if self.total < pass.seen() {
             drop(event);

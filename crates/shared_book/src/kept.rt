@@ -3,6 +3,7 @@
 ghost use Rattle.std.specs.Prelude.{◌≡◌, ◌<◌, ◌≤◌, ◌^◌, ◌↔◌, true, false, List, [], length, IfOk, IfErr, OnOk, OnErr, IsErrOf, ◌⊎◌, IsOk};
 ghost use Rattle.history.specs.declared.event.Event.{Event};
 ghost use Rattle.history.specs.Answers.{IsTimely};
+ghost use Rattle.history.specs.Desk.{IsStep as IsBookStep};
 ghost use Rattle.history.specs.Event.{is_plain, lagging_of};
 ghost use Rattle.shared_book.specs.declared.kept.TheConstants.{MOST_RECORDED};
 ghost use Rattle.shared_book.specs.Pass.{PassState, first_pass};
@@ -233,6 +234,8 @@ impl<B: Book, L: CallLedger> Kept<B, L> {
         requires { copy ≡ event }
         ensures step { IsStep B.stands_for B.settings B.stored self.old pass.old event result self.new pass.new }
         ensures free { IsFreeCall B.is_free self.old event → ¬ (IsErrOf result StepFault.NoMemory) }
+        ensures own { HasFreeRoom B.is_free self.old → IsErrOf result StepFault.NoMemory →
+            IsBookStep B.stands_for B.settings B.stored self.old.book event (Err StepFault.NoMemory) self.new.book }
     {
         match self.timely(&event) {
             Ok(()) => self.take(pass, event, copy),
@@ -250,6 +253,8 @@ impl<B: Book, L: CallLedger> Kept<B, L> {
         requires same { copy ≡ event }
         ensures step { IsStep B.stands_for B.settings B.stored self.old pass.old event result self.new pass.new }
         ensures free { IsFreeCall B.is_free self.old event → ¬ (IsErrOf result StepFault.NoMemory) }
+        ensures own { HasFreeRoom B.is_free self.old → IsErrOf result StepFault.NoMemory →
+            IsBookStep B.stands_for B.settings B.stored self.old.book event (Err StepFault.NoMemory) self.new.book }
     {
         match self.make_room() {
             Ok(()) => self.append(pass, event, copy),

@@ -2,7 +2,7 @@
 
 ghost use Rattle.std.specs.Prelude.{◌≡◌};
 ghost use Rattle.shared_book.specs.declared.shared.TheConstants.{MOST_TURNS};
-ghost use Rattle.shared_book.specs.Calling.{fault_at_desk, SeatCall};
+ghost use Rattle.shared_book.specs.Calling.{fault_at_desk, SeatCall, SweepsOn};
 ghost use Rattle.shared_book.specs.Kept.{IsSweepThere};
 
 use crate::fault::CallFault;
@@ -70,7 +70,8 @@ impl<'a, B: Book, L: CallLedger, R: Wait> Seat<'a, B, L, R> {
 
 impl<'a, B: Book, L: CallLedger, R: Wait> Desk for Seat<'a, B, L, R> {
     ghost calls = { λ before event answer after.
-        SeatCall B.stands_for B.settings B.stored B.is_free L.settings before.pass event answer after.pass };
+        SeatCall B.stands_for B.settings B.stored B.is_free L.settings before.pass event answer after.pass
+        × SweepsOn B.stands_for B.settings B.stored B.unswept L.settings before.is_thorough answer };
 
     fn call(&mut self, event: Event) -> Result<Reply, DeskFault> {
         let copy = match event.copy() {

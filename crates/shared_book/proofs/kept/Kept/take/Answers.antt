@@ -2,6 +2,7 @@
 use Rattle.std.proofs.Common.{sym, subst, refl, inl, inr}
 use Rattle.std.proofs.lemmas.Bool.{false≢true}
 use Rattle.history.specs.Answers.{IsTimely}
+use Rattle.shared_book.proofs.CallLaws.{step_alike}
 use Rattle.shared_book.proofs.RecordLaws.{always_ok}
 use Rattle.shared_book.proofs.kept.Kept.take.Goals as goal
 
@@ -33,3 +34,12 @@ returns-in-Ok-clause-free g c = λ free.
 
 pub returns-in-Err-clause-free : goal.returns-in-Err-clause-free
 returns-in-Err-clause-free g c = λ free. absurd (false≢true (c.in-Err.ensures.free free.room))
+
+-- The book's own answer is that to the append.
+pub returns-in-Ok-clause-own : goal.returns-in-Ok-clause-own
+returns-in-Ok-clause-own g c = λ room is.
+    let b = g.B.Book in
+    step_alike b.stands_for b.settings b.stored c.args.event c.append.result c.append.new.self.book c.make_room.ensures.moves.same_book is c.append.ensures.taken.book
+
+pub returns-in-Err-clause-own : goal.returns-in-Err-clause-own
+returns-in-Err-clause-own g c = λ room is. absurd (false≢true (c.in-Err.ensures.free room))

@@ -17,4 +17,4 @@ pub returns-clause-locked : goal.returns-clause-locked
 returns-clause-locked g c =
     let b = g.B.Book in
     locked b.stands_for b.settings b.stored b.is_free g.L.CallLedger.settings c.deref_mut.result.now c.call.new.self c.args.pass.now c.call.new.pass c.args.event c.call.result
-    c.call.ensures.kept c.call.ensures.made_with c.call.ensures.call c.call.ensures.free
+    c.call.ensures.kept c.call.ensures.made_with c.call.ensures.call c.call.ensures.free c.call.ensures.own
