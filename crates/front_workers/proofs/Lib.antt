@@ -9,3 +9,4 @@ mod Parts
 mod Sizes
 mod Streaming
 mod Telling
+pub mod Dearness

@@ -8,3 +8,4 @@ pub mod Framing
 pub mod Stream
 pub mod Working
 pub mod States
+pub mod Dear

@@ -19,7 +19,7 @@ returns-in_err-write_fault-clause-unserved g c = failing c.from_residual.result 
 
 pub returns-then-wants_reply-clause-serves : goal.returns-then-wants_reply-clause-serves
 returns-then-wants_reply-clause-serves g c =
-    too_dear (dear_is_long c.is_dear.result 4096 (length c.args.octets.now) c.is_dear.ensures c.if-is_dear.true) c.if-wants_reply.ensures c.in_ok-write_fault.ensures.octets
+    too_dear (dear_is_long c.is_dear.result 4096 (length c.args.octets.now) c.is_dear.ensures.short c.if-is_dear.true) c.if-wants_reply.ensures c.in_ok-write_fault.ensures.octets
 
 pub write_fault-requires-in-Fault : goal.write_fault-requires-in-Fault
 write_fault-requires-in-Fault g c = fault_header (rw c.in-Fault.is at c.in_ok-read_question.ensures.asked)
