@@ -45,6 +45,11 @@ pub record HasHeard {D C : Type 0} (calls : Calls D) (seen : D → ℕ) (hears :
   pub awaits : Awaits calls seen hears ticks since port question steps query n
   pub came : IsOutcome (hears query) heard
 
+-- The task of a question wants to send a query, and has no answer to that yet.
+abbrev pub WantsSend : {D C G K : Type 0} → Calls D → (D → ℕ) → Hears → Ticks C → (K → ℕ) → Asking G K → Type 0
+WantsSend calls seen hears ticks since asking =
+    (query : Sent) × Awaits calls seen hears ticks (since asking.client) asking.port asking.query.question asking.task.steps.items query asking.seen
+
 -- what a question gets of a call of the desk
 abbrev pub input_of : Result Reply DeskFault → Input
 input_of (Ok reply) = Replied reply

@@ -13,7 +13,9 @@ use Rattle.front_workers.specs.Serves.{fault_octets, reply_told, Tells, Written}
 use Rattle.flight.specs.declared.reply.ReplyOctets.{ReplyOctets}
 use Rattle.flight.specs.declared.reply.ReplyOctets.TheVariants.{Header, Message}
 use Rattle.flight.specs.declared.outside.Listened.{Listened}
-use Rattle.flight.specs.declared.outside.Listened.TheVariants.{Anew, Came, Broken, NoMemory}
+use Rattle.flight.specs.declared.outside.Listened.TheVariants.{Anew, Came, Broken, NoMemory, Nothing}
+use Rattle.flight.specs.declared.refused.Heard.{Heard}
+use Rattle.flight.specs.declared.refused.Heard.TheVariants.{Anew as HeardAnew, Came as HeardCame, Broken as HeardBroken, NoMemory as HeardNoMemory, Nothing as HeardNothing}
 use Rattle.flight.specs.Flight.{Hears, Lands}
 
 -- The octets of a client over this transport may get this reply: the one that reports their fault, or the one that spells an answer in which their question ended. Its task began when the desk knew of so many calls.
@@ -28,6 +30,14 @@ pub data IsTold {D C : Type 0} (calls : Calls D) (seen : D → ℕ) (hears : Hea
 pub data IsUntold {D C : Type 0} (calls : Calls D) (seen : D → ℕ) (hears : Hears) (ticks : Ticks C) (since port : ℕ) (m : List ℕ) : Type 0 where
   dropped : AsksFor m Drop → IsUntold calls seen hears ticks since port m
   silent : {query : Query} → AsksFor m (Good query) → Lands calls seen hears ticks since port query.question Silent → IsUntold calls seen hears ticks since port m
+
+-- what listening gave, without what was refused
+abbrev pub listened_of : Heard → Listened
+listened_of HeardNothing = Nothing
+listened_of (HeardCame octets) = Came octets
+listened_of HeardBroken = Broken
+listened_of (HeardNoMemory refused) = NoMemory
+listened_of HeardAnew = Anew
 
 -- If octets came, they may come. If the exchange broke, none may.
 abbrev pub IsHeard : (Option (List ℕ) → Type 0) → Listened → Type 0

@@ -7,7 +7,7 @@ ghost use Rattle.flight.specs.Flight.{Answered};
 
 use crate::line::InFlight;
 use crate::numbered::Numbered;
-use crate::worker_task::WorkerTask;
+use crate::refused::WorkerTask;
 use dns_wire::Query;
 use history::Event;
 use iterate::Input;

@@ -14,12 +14,12 @@ use crate::engine::Flight;
 use crate::line::InFlight;
 use crate::numbered::Numbered;
 use crate::outside::{Client, Outside};
+use crate::refused::{WorkerTask, first_look, settled};
 use crate::telling::tell;
-use crate::worker_task::WorkerTask;
 use command_text::Clock;
 use dns_wire::Query;
 use history::{Reply, Seen};
-use iterate::{Input, first_look, resolved_law, settled};
+use iterate::{Input, resolved_law};
 use local_zone::Local;
 use rand_core::Rng;
 
@@ -95,10 +95,13 @@ impl<D: Numbered, L: InFlight, C: Clock, G: Rng, K: Client> Flight<D, L, C, G, K
             return;
         }
         let moment = self.clock.now();
-        let Ok(look) = first_look(&query.question, moment) else {
-            outside.fail(client, octets, Cause::no_memory());
-            drop(query);
-            return;
+        let look = match first_look(&query.question, moment) {
+            Ok(look) => look,
+            Err(refused) => {
+                outside.fail(client, octets, Cause::no_memory(refused));
+                drop(query);
+                return;
+            }
         };
         let mut seen = client.since();
         let came = ask::<D, L>(desk, &mut seen, look);
@@ -150,8 +153,8 @@ impl<D: Numbered, L: InFlight, C: Clock, G: Rng, K: Client> Flight<D, L, C, G, K
                     desk, outside, now, client, octets, query, began, moment, came, seen,
                 );
             }
-            Err(_) => {
-                outside.fail(client, octets, Cause::no_memory());
+            Err(refused) => {
+                outside.fail(client, octets, Cause::no_memory(refused));
                 drop(came);
                 drop(query);
             }
@@ -183,13 +186,12 @@ impl<D: Numbered, L: InFlight, C: Clock, G: Rng, K: Client> Flight<D, L, C, G, K
             (λ origin. origin ≡ origin_of began query.question.owner (K.network client)) self.old outside.old self.new outside.new }
     {
         let port = outside.server_port();
-        let Ok(question) = query.question.clone() else {
-            outside.fail(client, octets, Cause::no_memory());
-            return;
-        };
-        let Ok(task) = WorkerTask::begun(self.alloc, question, port, moment) else {
-            outside.fail(client, octets, Cause::no_memory());
-            return;
+        let task = match WorkerTask::begun(self.alloc, &query.question, port, moment) {
+            Ok(task) => task,
+            Err(refused) => {
+                outside.fail(client, octets, Cause::no_memory(refused));
+                return;
+            }
         };
         let asking = Asking {
             client,

@@ -1,7 +1,7 @@
 //! The cause of a SERVFAIL that is not the answer to the question.
 
 ghost use Rattle.std.specs.Prelude.{◌≡◌, ◌≢◌, ◌⊎◌, ◌<◌, ◌+◌, max};
-ghost use Rattle.flight.specs.Asking.{origin_in};
+ghost use Rattle.flight.specs.Asking.{origin_in, WantsSend};
 ghost use Rattle.flight.specs.Bounds.{KeepsMost, KeepsTooMuch, kept_by};
 ghost use Rattle.flight.specs.Kept.{kept_in};
 ghost use Rattle.flight.specs.Places.{HasPlace};
@@ -12,6 +12,7 @@ use crate::kept::MOST_AT_REST;
 use crate::line::InFlight;
 use crate::numbered::Numbered;
 use crate::outside::{Client, Outside};
+use crate::refused::Refused;
 use crate::table::{LAST_BEGINNING, Table};
 use command_text::Clock;
 use rand_core::Rng;
@@ -31,8 +32,8 @@ pub enum Unserved {
     Elsewhere,
 }
 
-/// A reason that was shown to be so: there is no other way to make one. Only the want of memory shows nowhere.
-#[derive(Clone, Copy)]
+/// A reason that was shown to be so: there is no other way to make one. It cannot be cloned, and each is for one client.
+#[derive(Drop)]
 pub struct Cause {
     why: Unserved,
 }
@@ -45,22 +46,24 @@ impl Cause {
         self.why
     }
 
-    /// There is no memory.
-    pub(crate) fn no_memory() -> Cause
+    /// A call got no memory.
+    pub(crate) fn no_memory(refused: Refused) -> Cause
         ensures { result.why ≡ NoMemory }
     {
+        drop(refused);
         Cause {
             why: Unserved::NoMemory,
         }
     }
 
-    /// The table has no place for an exchange of a question.
+    /// The table has no place for an exchange of a question that wants one.
     pub(crate) fn too_many<D: Numbered, L: InFlight, C: Clock, G: Rng, K: Client>(
         table: &Table<D, L, C, G, K>,
         now: u64,
         asking: &Asking<G, K>,
     ) -> Cause
-        requires { ¬ (HasPlace (max now table.now.latest) (origin_in K.network asking.now) table.now.asker table.now.jobs.slots
+        requires sends { WantsSend D.calls D.seen L.hears C.ticks K.since asking.now }
+        requires full { ¬ (HasPlace (max now table.now.latest) (origin_in K.network asking.now) table.now.asker table.now.jobs.slots
             table.now.limit) }
         ensures { result.why ≡ TooMany }
     {
@@ -72,13 +75,14 @@ impl Cause {
         }
     }
 
-    /// A question began too long ago to begin an exchange now.
+    /// A question that wants an exchange began too long ago to begin it now.
     pub(crate) fn too_long<D: Numbered, L: InFlight, C: Clock, G: Rng, K: Client>(
         table: &Table<D, L, C, G, K>,
         now: u64,
         asking: &Asking<G, K>,
     ) -> Cause
-        requires { asking.now.began + LAST_BEGINNING < max now table.now.latest }
+        requires sends { WantsSend D.calls D.seen L.hears C.ticks K.since asking.now }
+        requires late { asking.now.began + LAST_BEGINNING < max now table.now.latest }
         ensures { result.why ≡ TooLong }
     {
         let _ = table;
@@ -89,12 +93,13 @@ impl Cause {
         }
     }
 
-    /// A question keeps too much to wait beside those in the table.
+    /// A question that wants an exchange keeps too much to wait beside those in the table.
     pub(crate) fn too_large<D: Numbered, L: InFlight, C: Clock, G: Rng, K: Client>(
         table: &Table<D, L, C, G, K>,
         asking: &Asking<G, K>,
     ) -> Cause
-        requires { KeepsTooMuch (kept_in asking.now.task.steps.items) table.now.jobs.slots }
+        requires sends { WantsSend D.calls D.seen L.hears C.ticks K.since asking.now }
+        requires large { KeepsTooMuch (kept_in asking.now.task.steps.items) table.now.jobs.slots }
         ensures { result.why ≡ TooLarge }
     {
         let _ = table;

@@ -7,6 +7,7 @@ ghost use Rattle.flight.specs.Bounds.{IsBounded};
 ghost use Rattle.flight.specs.Flight.{Flies};
 ghost use Rattle.flight.specs.Leaving.{Ends};
 ghost use Rattle.flight.specs.Clients.{SettlesOrWaits};
+ghost use Rattle.flight.specs.Told.{listened_of};
 ghost use Rattle.flight.specs.Waiting.{IsAccounted, WaitsFrom, outstanding};
 ghost use Rattle.iterate.specs.declared.want.Want.{Want};
 
@@ -16,7 +17,8 @@ use crate::engine::Flight;
 use crate::job::Job;
 use crate::line::InFlight;
 use crate::numbered::Numbered;
-use crate::outside::{Client, Listened, Outside};
+use crate::outside::{Client, Outside};
+use crate::refused::{Heard, hear};
 use crate::telling::{refuse, tell};
 use command_text::Clock;
 use dns_text::Octets;
@@ -47,9 +49,9 @@ impl<D: Numbered, L: InFlight, C: Clock, G: Rng, K: Client> Flight<D, L, C, G, K
             mut line,
             ..
         } = job;
-        let heard = outside.hear(&mut line);
+        let heard = hear::<D, L, C, K, O>(outside, &mut line);
         match &heard {
-            Listened::Nothing => outside.expire(line),
+            Heard::Nothing => outside.expire(line),
             _ => drop(line),
         }
         self.go_on(desk, outside, now, asking, octets, heard);
@@ -64,16 +66,16 @@ impl<D: Numbered, L: InFlight, C: Clock, G: Rng, K: Client> Flight<D, L, C, G, K
         now: u64,
         asking: Asking<G, K>,
         octets: Octets,
-        heard: Listened,
+        heard: Heard,
     )
         requires asked { IsAskedBy K.sent asking.port octets asking.client asking.query asking.task }
         requires heard { HasHeard D.calls D.seen L.hears C.ticks (K.since asking.client) asking.port asking.query.question
-            asking.task.steps.items heard asking.seen }
+            asking.task.steps.items (listened_of heard) asking.seen }
         ensures { SettlesOrWaits K.sent O.server_port O.counts O.outbox O.posts now asking.client
             (λ origin. origin ≡ origin_in K.network asking) self.old outside.old self.new outside.new }
     {
         let input = match heard {
-            Listened::Came(reply) => {
+            Heard::Came(reply) => {
                 let allowance = match asking.task.hunt() {
                     Some(hunt) => outside.allowance(&hunt.servers.get().zone),
                     None => Allowance::full(),
@@ -83,13 +85,14 @@ impl<D: Numbered, L: InFlight, C: Clock, G: Rng, K: Client> Flight<D, L, C, G, K
                     allowance,
                 }
             }
-            Listened::Nothing => Input::Failed,
-            Listened::Broken => Input::Failed,
-            Listened::NoMemory => {
-                refuse::<D, L, C, G, K, O>(outside, asking, octets.as_slice(), Cause::no_memory());
+            Heard::Nothing => Input::Failed,
+            Heard::Broken => Input::Failed,
+            Heard::NoMemory(refused) => {
+                let cause = Cause::no_memory(refused);
+                refuse::<D, L, C, G, K, O>(outside, asking, octets.as_slice(), cause);
                 return;
             }
-            Listened::Anew => {
+            Heard::Anew => {
                 self.begin_again(desk, outside, now, asking, octets.as_slice());
                 return;
             }
@@ -125,9 +128,13 @@ impl<D: Numbered, L: InFlight, C: Clock, G: Rng, K: Client> Flight<D, L, C, G, K
         let mut input = first;
         loop {
             let moment = self.clock.now();
-            let Ok(want) = asking.task.step(moment, &mut self.ids, input) else {
-                refuse::<D, L, C, G, K, O>(outside, asking, octets, Cause::no_memory());
-                return;
+            let want = match asking.task.step(moment, &mut self.ids, input) {
+                Ok(want) => want,
+                Err(refused) => {
+                    let cause = Cause::no_memory(refused);
+                    refuse::<D, L, C, G, K, O>(outside, asking, octets, cause);
+                    return;
+                }
             };
             match want {
                 Want::Book(event) => {

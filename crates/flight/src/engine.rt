@@ -16,12 +16,13 @@ use crate::job::Job;
 use crate::kept::{MOST_ALL_KEPT, MOST_AT_REST};
 use crate::line::InFlight;
 use crate::numbered::Numbered;
-use crate::outside::{Client, Listened, Outside};
+use crate::outside::{Client, Outside};
+use crate::refused::{Heard, hear, read_question};
 use crate::reply::ReplyOctets;
 use crate::table::{PATIENCE, QUESTION_PATIENCE, Table};
 use crate::telling::{fault_of, give_up};
 use command_text::Clock;
-use dns_wire::{Asked, one_verdict, read_question};
+use dns_wire::{Asked, one_verdict};
 use rand_core::Rng;
 use std::alloc::Global;
 use std::marker::Model;
@@ -107,9 +108,12 @@ impl<D: Numbered, L: InFlight, C: Clock, G: Rng, K: Client> Flight<D, L, C, G, K
             desk.old self.old (O.outbox outside.old) desk.new self.new (O.outbox outside.new) }
     {
         one_verdict();
-        let Ok(asked) = read_question(self.alloc, octets) else {
-            outside.fail(client, octets, Cause::no_memory());
-            return;
+        let asked = match read_question(self.alloc, octets) {
+            Ok(asked) => asked,
+            Err(refused) => {
+                outside.fail(client, octets, Cause::no_memory(refused));
+                return;
+            }
         };
         match asked {
             Asked::Drop => outside.pass_over(client, octets),
@@ -151,8 +155,8 @@ impl<D: Numbered, L: InFlight, C: Clock, G: Rng, K: Client> Flight<D, L, C, G, K
             desk: of,
             clock,
         } = job;
-        match outside.hear(&mut line) {
-            Listened::Nothing => self.table.put_back(Job {
+        match hear::<D, L, C, K, O>(outside, &mut line) {
+            Heard::Nothing => self.table.put_back(Job {
                 asking,
                 octets,
                 line,

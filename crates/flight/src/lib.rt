@@ -18,8 +18,8 @@ mod outside;
 mod cause;
 // The zone of a question's name.
 mod zone;
-// The task of a question in a worker.
-mod worker_task;
+// The calls of this crate that want memory, and the task of a question in a worker.
+mod refused;
 // A client's question and its task.
 mod asking;
 // What the questions that wait keep in memory.

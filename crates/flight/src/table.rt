@@ -4,7 +4,7 @@ ghost use Rattle.std.specs.Prelude.{◌≡◌, ◌⊎◌, ◌<◌, ◌≤◌, �
 ghost use Rattle.std.specs.Prelude.{IfErr, IfOk, IfSome, IsTrue, OnOk, OnSome};
 ghost use Rattle.slab.specs.Slab.{HasRoomFor, Updates, get, slab_len};
 ghost use Rattle.std.specs.VecDeque.{deque_capacity, deque_len};
-ghost use Rattle.flight.specs.Asking.{origin_in};
+ghost use Rattle.flight.specs.Asking.{origin_in, WantsSend};
 ghost use Rattle.flight.specs.Bounds.{EachIsSmall, IsWithin, KeepsMost, KeepsTooMuch, MayKeep, kept_by, kept_of};
 ghost use Rattle.flight.specs.Kept.{kept_in};
 ghost use Rattle.flight.specs.Queue.{IsFirstDue, IsQueue, is_queued};
@@ -20,6 +20,7 @@ use crate::kept::{MOST_ALL_KEPT, MOST_KEPT, kept_in};
 use crate::line::InFlight;
 use crate::numbered::Numbered;
 use crate::outside::Client;
+use crate::refused::reserve;
 use command_text::Clock;
 use dns_text::Octets;
 use front_workers::PATIENCE_SECONDS;
@@ -179,6 +180,7 @@ impl<D: Numbered, L: InFlight, C: Clock, G: Rng, K: Client> Table<D, L, C, G, K>
         asking: &Asking<G, K>,
         octets: &[u8],
     ) -> Result<Room, Cause>
+        requires { WantsSend D.calls D.seen L.hears C.ticks K.since asking.now }
         ensures room { OnOk result (HasRoomFor self.new.jobs 1) }
         ensures queue_room { OnOk result (deque_len self.new.waits < deque_capacity self.new.waits) }
         ensures may_begin { OnOk result (MayBegin (max now self.old.latest) (origin_in K.network asking.now) self.new.asker
@@ -204,16 +206,10 @@ impl<D: Numbered, L: InFlight, C: Clock, G: Rng, K: Client> Table<D, L, C, G, K>
         if !self.may_keep(kept) {
             return Err(Cause::too_large(self, asking));
         }
-        let Ok(copy) = Vec::from_slice(self.alloc, octets) else {
-            return Err(Cause::no_memory());
-        };
-        if self.waits.reserve(1).is_err() || self.jobs.reserve(1).is_err() {
-            return Err(Cause::no_memory());
+        match reserve(self.alloc, octets, &mut self.waits, &mut self.jobs) {
+            Ok(octets) => Ok(Room { octets, kept }),
+            Err(refused) => Err(Cause::no_memory(refused)),
         }
-        Ok(Room {
-            octets: Octets::new(copy),
-            kept,
-        })
     }
 
     /// The key that the next question gets.

@@ -19,10 +19,10 @@ use crate::job::Job;
 use crate::line::InFlight;
 use crate::numbered::Numbered;
 use crate::outside::{Client, Outside};
+use crate::refused::write_answer;
 use crate::reply::ReplyOctets;
 use command_text::Clock;
 use dns_wire::{Query, Rcode, fault_reply};
-use front_workers::write_answer;
 use iterate::Answer;
 use rand_core::Rng;
 use std::alloc::Global;
@@ -97,7 +97,7 @@ fn tell_reply<D: Numbered, L: InFlight, C: Clock, K: Client, O: Outside<D, L, C,
     match write_answer(alloc, buffer, over, octets, query, answer) {
         Ok(Some(reply)) => outside.give(client, octets, ReplyOctets::Message(reply)),
         Ok(None) => outside.pass_over(client, octets),
-        Err(_) => outside.fail(client, octets, Cause::no_memory()),
+        Err(refused) => outside.fail(client, octets, Cause::no_memory(refused)),
     }
 }
 

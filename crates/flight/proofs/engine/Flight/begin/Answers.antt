@@ -15,8 +15,8 @@ give-requires-clause-told g c = faulty (rw c.in-Fault.is at c.in-Ok.ensures.aske
 pub give-requires-clause-short : goal.give-requires-clause-short
 give-requires-clause-short g c = rw c.fault_of.ensures.short (header_fits (g.K.Client.over c.args.client))
 
-pub returns-in_default-clause-settles : goal.returns-in_default-clause-settles
-returns-in_default-clause-settles g c = settled_now _ _ _ _ _ _ c.requires.own refl c.fail.ensures
+pub returns-in-Err-clause-settles : goal.returns-in-Err-clause-settles
+returns-in-Err-clause-settles g c = settled_now _ _ _ _ _ _ c.requires.own refl c.fail.ensures
 
 pub returns-in-Drop-clause-settles : goal.returns-in-Drop-clause-settles
 returns-in-Drop-clause-settles g c = settled_now _ _ _ _ _ _ c.requires.own refl c.pass_over.ensures
@@ -31,8 +31,8 @@ returns-in-Good-clause-settles g c =
     said_less c.begin_query.ensures.settles
     (λ o is. record { query = c.in-Good.query; asks = asks; is = is ∙ ap origin (c.since-began.ensures ∙ ap (λ (state : FlightState). max c.args.now state.latest) c.self.view_is) })
 
-pub returns-in_default-clause-heeds : goal.returns-in_default-clause-heeds
-returns-in_default-clause-heeds g c = λ query asks. uncalled refl
+pub returns-in-Err-clause-heeds : goal.returns-in-Err-clause-heeds
+returns-in-Err-clause-heeds g c = λ query asks. uncalled refl
 
 pub returns-in-Drop-clause-heeds : goal.returns-in-Drop-clause-heeds
 returns-in-Drop-clause-heeds g c = λ query asks. uncalled refl

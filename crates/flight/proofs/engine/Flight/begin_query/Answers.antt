@@ -11,8 +11,8 @@ begin_looked-requires-clause-looked g c = looked_by _ _ c.in-Ok.ensures c.now-mo
 pub returns-then-seen-since-clause-settles : goal.returns-then-seen-since-clause-settles
 returns-then-seen-since-clause-settles g c = settled_now _ _ _ _ _ _ c.requires.own refl c.fail.ensures
 
-pub returns-in_default-clause-settles : goal.returns-in_default-clause-settles
-returns-in_default-clause-settles g c = settled_now _ _ _ _ _ _ c.requires.own c.self.view_is c.fail-in_default.ensures
+pub returns-in-Err-clause-settles : goal.returns-in-Err-clause-settles
+returns-in-Err-clause-settles g c = settled_now _ _ _ _ _ _ c.requires.own c.self.view_is c.fail-in-Err.ensures
 
 pub returns-clause-settles : goal.returns-clause-settles
 returns-clause-settles g c = rw (← c.self.view_is) c.begin_looked.ensures.settles
@@ -20,8 +20,8 @@ returns-clause-settles g c = rw (← c.self.view_is) c.begin_looked.ensures.sett
 pub returns-then-seen-since-clause-heeds : goal.returns-then-seen-since-clause-heeds
 returns-then-seen-since-clause-heeds g c = uncalled refl
 
-pub returns-in_default-clause-heeds : goal.returns-in_default-clause-heeds
-returns-in_default-clause-heeds g c = uncalled refl
+pub returns-in-Err-clause-heeds : goal.returns-in-Err-clause-heeds
+returns-in-Err-clause-heeds g c = uncalled refl
 
 pub returns-clause-heeds : goal.returns-clause-heeds
 returns-clause-heeds g c =

@@ -7,7 +7,7 @@ use Rattle.flight.specs.Origin.{Origin}
 use Rattle.flight.specs.Places.{HasPlace}
 use Rattle.flight.specs.Waiting.{FlightState, UnderWay, count_for, is_for}
 use Rattle.flight.proofs.Flights.{begins, begun_behind}
-use Rattle.flight.proofs.Flying.{asked_on, awaits_at, due, flown, lands_at, open_on}
+use Rattle.flight.proofs.Flying.{asked_on, awaits_at, due, flown, lands_at, open_on, sends_at}
 use Rattle.flight.proofs.Keeping.{kept_on}
 use Rattle.flight.proofs.Places.{kept_begun}
 use Rattle.flight.proofs.Settling.{own_client, same_state, settled_there}
@@ -45,18 +45,26 @@ loop-want-preserved g c =
     before.flies c.now-moment.ensures c.in-Ok.ensures.ok.steps c.in-Ok.ensures.ok.wants c.in-Ok.ensures.ok.drawn c.in-Send.is in
     record {
       asked = asked_on before.asked c.step.ensures.same.question c.step.ensures.same.port;
-      flies = flown is (failed c.in_default-open.ensures.failed);
+      flies = flown is (failed c.in_default.ensures.failed);
       port = before.port ∙ sym c.open.ensures.keeps.port;
       known = before.known;
       client_kept = before.client_kept;
       origin_kept = before.origin_kept;
       keeps = kept_on before.keeps c.open.ensures.keeps;
-      counts_kept = c.in_default-open.ensures.unopened ∙ before.counts_kept;
+      counts_kept = c.in_default.ensures.unopened ∙ before.counts_kept;
       exchanges_kept = c.make_room.ensures.jobs ∙ before.exchanges_kept;
       begun_kept = ap (map (λ wait. wait.since)) c.make_room.ensures.waits ∙ before.begun_kept;
       latest_kept = c.make_room.ensures.latest ∙ before.latest_kept;
       limit_kept = c.make_room.ensures.limit ∙ before.limit_kept;
     }
+
+pub make_room-requires : goal.make_room-requires
+make_room-requires g c =
+    let before = c.loop-want.invariant in
+    let task = c.loop-want.asking.task in
+    let is = open_on task.port task.question task.steps.items c.now-moment.result (g.G.Rng.stream c.loop-want.self-inside.ids) before.asked.port_is before.asked.question
+    before.flies c.now-moment.ensures c.in-Ok.ensures.ok.steps c.in-Ok.ensures.ok.wants c.in-Ok.ensures.ok.drawn c.in-Send.is in
+    sends_at is
 
 pub tell-requires-clause-lands : goal.tell-requires-clause-lands
 tell-requires-clause-lands g c =
@@ -82,22 +90,22 @@ returns-in-Finish g c =
     own_client before.client_kept (settled_there c.args.now c.args.self.now state c.args.outside.now c.loop-want.outside c.tell.new.outside c.args.octets.now before.asked.own before.keeps before.counts_kept
     (same_state c.args.self.now state before.exchanges_kept before.begun_kept before.latest_kept before.limit_kept) c.tell.ensures.2)
 
-pub returns-in_default : goal.returns-in_default
-returns-in_default g c =
+pub returns-in-Err : goal.returns-in-Err
+returns-in-Err g c =
     let before = c.loop-want.invariant in
     let table = c.loop-want.self-inside.table in
     let state : FlightState = record { exchanges = table.jobs.slots; begun = map (λ wait. wait.since) table.waits.items; latest = table.latest; limit = table.limit } in
     own_client before.client_kept (settled_there c.args.now c.args.self.now state c.args.outside.now c.loop-want.outside c.refuse.new.outside c.args.octets.now before.asked.own before.keeps before.counts_kept
     (same_state c.args.self.now state before.exchanges_kept before.begun_kept before.latest_kept before.limit_kept) c.refuse.ensures)
 
-pub returns-in-Err : goal.returns-in-Err
-returns-in-Err g c =
+pub returns-in-Err-make_room : goal.returns-in-Err-make_room
+returns-in-Err-make_room g c =
     let before = c.loop-want.invariant in
     let room = c.make_room.ensures in
     let table = c.make_room.new.self in
     let state : FlightState = record { exchanges = table.jobs.slots; begun = map (λ wait. wait.since) table.waits.items; latest = table.latest; limit = table.limit } in
-    own_client before.client_kept (settled_there c.args.now c.args.self.now state c.args.outside.now c.loop-want.outside c.refuse-in-Err.new.outside c.args.octets.now before.asked.own before.keeps before.counts_kept
-    (same_state c.args.self.now state (room.jobs ∙ before.exchanges_kept) (ap (map (λ wait. wait.since)) room.waits ∙ before.begun_kept) (room.latest ∙ before.latest_kept) (room.limit ∙ before.limit_kept)) c.refuse-in-Err.ensures)
+    own_client before.client_kept (settled_there c.args.now c.args.self.now state c.args.outside.now c.loop-want.outside c.refuse-in-Err-make_room.new.outside c.args.octets.now before.asked.own before.keeps before.counts_kept
+    (same_state c.args.self.now state (room.jobs ∙ before.exchanges_kept) (ap (map (λ wait. wait.since)) room.waits ∙ before.begun_kept) (room.latest ∙ before.latest_kept) (room.limit ∙ before.limit_kept)) c.refuse-in-Err-make_room.ensures)
 
 pub returns-in-Some : goal.returns-in-Some
 returns-in-Some g c =

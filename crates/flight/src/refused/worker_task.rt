@@ -10,7 +10,7 @@ ghost use Rattle.iterate.specs.declared.want.Want.TheVariants.{Book};
 ghost use Rattle.iterate.specs.Phase.{drawing};
 ghost use Rattle.iterate.specs.Task.{hunt_in, IsDueAt, IsSameTask, StepFails, StepsOn};
 
-use dns_name::NoMemory;
+use crate::refused::Refused;
 use dns_text::Question;
 use iterate::{Hunt, Input, Step, Task, Want};
 use rand_core::Rng;
@@ -40,31 +40,40 @@ impl<G: Rng> WorkerTask<G> {
     /// A task that has begun at this moment, and waits for the reply to the lookup of its question.
     pub(crate) fn begun(
         alloc: Global,
-        question: Question,
+        question: &Question,
         port: u16,
         moment: u64,
-    ) -> Result<WorkerTask<G>, NoMemory>
-        ensures question { IfOk result (λ task. task.question ≡ question) }
+    ) -> Result<WorkerTask<G>, Refused>
+        ensures question { IfOk result (λ task. task.question ≡ question.now) }
         ensures port { IfOk result (λ task. task.port ≡ port) }
-        ensures steps { IfOk result (λ task. task.steps.items ≡ record { input = Begin; want = Book (Look moment (Asked question)) } ∷ []) }
+        ensures steps { IfOk result (λ task. task.steps.items ≡ record { input = Begin; want = Book (Look moment (Asked question.now)) } ∷ []) }
         ensures phase { IfOk result (λ task. task.phase ≡ First) }
     {
-        let task = Task::begun(alloc, question, port, moment)?;
-        Ok(WorkerTask {
-            task,
-            ids: PhantomData,
-        })
+        let copy = match question.clone() {
+            Ok(copy) => copy,
+            Err(by) => return Err(Refused { by }),
+        };
+        match Task::begun(alloc, copy, port, moment) {
+            Ok(task) => Ok(WorkerTask {
+                task,
+                ids: PhantomData,
+            }),
+            Err(by) => Err(Refused { by }),
+        }
     }
 
     /// Takes an input, and returns what is wanted next. A query has the identifier that this generator gives.
-    pub(crate) fn step(&mut self, moment: u64, ids: &mut G, input: Input) -> Result<Want, NoMemory>
+    pub(crate) fn step(&mut self, moment: u64, ids: &mut G, input: Input) -> Result<Want, Refused>
         requires { IsDueAt self.old.phase self.old.steps.items input }
         ensures same { IsSameTask self.old self.new }
         ensures ok { IfOk result (StepsOn self.old input moment (drawing (G.stream ids.old) (G.stream ids.new)) self.new) }
         ensures err { OnErr result (StepFails self.old self.new) }
         ensures broken { self.old.phase ≡ Broken → IsErr result }
     {
-        self.task.step(moment, ids, input)
+        match self.task.step(moment, ids, input) {
+            Ok(want) => Ok(want),
+            Err(by) => Err(Refused { by }),
+        }
     }
 
     /// The servers of which one was asked last. Returns `None` if the task does not wait for a response.
