@@ -1,3 +1,4 @@
 mod Durations
 mod Passing
 mod Reading
+mod Striking

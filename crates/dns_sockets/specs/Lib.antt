@@ -1,5 +1,6 @@
 pub mod Answerable
 pub mod Asked
+pub mod Datagrams
 pub mod Descriptors
 pub mod Failures
 pub mod Fits

@@ -8,6 +8,7 @@ use Rattle.flight.specs.Counted.{NeverFall, IsFull}
 use Rattle.flight.specs.Origin.{Origin}
 use Rattle.flight.specs.Waiting.{FlightState, GoesOnOrBegins, IsAccounted, WaitsFrom, outstanding}
 use Rattle.flight_sockets.specs.Accounts.{WorkerState, Accounts, GoesOn, KeepsTime}
+use Rattle.flight_sockets.specs.Asking.{AskingState}
 use Rattle.flight_sockets.specs.Endings.{Endings}
 use Rattle.mio.specs.declared.event.event.Event.{Event}
 use Rattle.dns_sockets.specs.Moments.{ClockState, millis_at}
@@ -80,8 +81,8 @@ pub time_at : (now : ℕ) (a b : FlightState) (clock : ClockState) → now ≤ m
 time_at now a b clock read latest = record { onward = omega arith; latest = omega (arith, read, latest) }
 
 -- the visible state of a worker, by its parts
-abbrev pub worker_of : {S : Type 0} → ℕ → ℕ → ℕ → OutboxState S → Counts → ClockState → List Event → WorkerState S
-worker_of port taken failures outbox counts clock reported = record { server_port = port; taken = taken; failures = failures; outbox = outbox; counts = counts; clock = clock; reported = reported }
+abbrev pub worker_of : {S : Type 0} → AskingState → ℕ → ℕ → OutboxState S → Counts → ClockState → List Event → WorkerState S
+worker_of asking taken failures outbox counts clock reported = record { asking = asking; taken = taken; failures = failures; outbox = outbox; counts = counts; clock = clock; reported = reported }
 
 module _ {S : Type 0} {takes sends : Moves S} where
   -- What goes on is accounted for as a whole.
@@ -120,6 +121,7 @@ module _ {S : Type 0} {takes sends : Moves S} where
     limit = after.limit ∙ before.limit;
     failures = after.failures ∙ before.failures;
     time = time_then a b c old.clock mid.clock new.clock before.time after.time;
+    asking = after.asking ∙ before.asking;
   }
 
   -- A query that was taken begins.
@@ -165,32 +167,34 @@ module _ {S : Type 0} {takes sends : Moves S} where
   -- No query is taken, no exchange more is under way, and no turn fails.
   pub looked_on : (a b : FlightState) (old new : WorkerState S) → new.taken ≡ old.taken → IsAccounted 0 (outstanding a) old.counts (outstanding b) new.counts
       → Endings takes sends 0 (outstanding a) old.outbox (outstanding b) new.outbox → outstanding b ≤ outstanding a → (IsBounded a → IsBounded b) → b.limit ≡ a.limit → new.failures ≡ old.failures
-      → KeepsTime old.clock a new.clock b → GoesOn takes sends a old b new
-  looked_on a b old new same accounted ends no_more bounded limit failures time = record {
+      → new.asking ≡ old.asking → KeepsTime old.clock a new.clock b → GoesOn takes sends a old b new
+  looked_on a b old new same accounted ends no_more bounded limit failures asking time = record {
     accounts = went_on _ _ old new same accounted ends;
     within = λ few. omega (arith, few, no_more);
     bounded = bounded;
     limit = limit;
     failures = failures;
     time = time;
+    asking = asking;
   }
 
   -- Nothing goes on, but what waits may leave, or a datagram is refused.
   pub stayed : (flight : FlightState) (old new : WorkerState S) → Endings takes sends 0 (outstanding flight) old.outbox (outstanding flight) new.outbox
-      → new.taken ≡ old.taken → new.counts ≡ old.counts → new.failures ≡ old.failures → old.clock.last ≤ new.clock.last → GoesOn takes sends flight old flight new
-  stayed flight old new ends taken counts failures onward = record {
+      → new.taken ≡ old.taken → new.counts ≡ old.counts → new.failures ≡ old.failures → new.asking ≡ old.asking → old.clock.last ≤ new.clock.last → GoesOn takes sends flight old flight new
+  stayed flight old new ends taken counts failures asking onward = record {
     accounts = went_on _ _ old new taken (rw counts (same_counts (outstanding flight) old.counts)) ends;
     within = λ few. few;
     bounded = λ few. few;
     limit = refl;
     failures = failures;
     time = time_on flight old.clock new.clock onward;
+    asking = asking;
   }
 
   -- Datagrams are taken, and nothing else happens.
   pub received : (flight : FlightState) (old new : WorkerState S) (list : List Datagram) → AllMoved takes list old.outbox.socket new.outbox.socket → new.outbox.waiting ≡ old.outbox.waiting
-      → new.taken ≡ old.taken → new.counts ≡ old.counts → new.failures ≡ old.failures → old.clock.last ≤ new.clock.last → GoesOn takes sends flight old flight new
-  received flight old new list went waiting taken counts failures onward =
+      → new.taken ≡ old.taken → new.counts ≡ old.counts → new.failures ≡ old.failures → new.asking ≡ old.asking → old.clock.last ≤ new.clock.last → GoesOn takes sends flight old flight new
+  received flight old new list went waiting taken counts failures asking onward =
       let same : IsAccounted 0 (outstanding flight) old.counts (outstanding flight) new.counts = rw counts (same_counts (outstanding flight) old.counts) in
       record {
         accounts = record {
@@ -210,6 +214,7 @@ module _ {S : Type 0} {takes sends : Moves S} where
         limit = refl;
         failures = failures;
         time = time_on flight old.clock new.clock onward;
+        asking = asking;
       }
 
   -- A failure changes nothing of it.

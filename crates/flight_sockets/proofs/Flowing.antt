@@ -13,11 +13,12 @@ use Rattle.flight_sockets.specs.Connections.{ConnectionsState, ServesOne, Tends}
 use Rattle.flight_sockets.specs.Passages.{Passes}
 use Rattle.flight_sockets.specs.Streaming.{AreAccounted, BeginsClient, IsMessageOf, MessageBegins, OwesTo, StreamGoesOn, StreamRuns, StreamWorker, begins, settles, stays, tends}
 use Rattle.flight_sockets.specs.Accounts.{KeepsTime}
+use Rattle.flight_sockets.specs.Asking.{AskingState}
 use Rattle.flight_sockets.proofs.Accounting.{full_on, none_fell, time_on, time_then}
 
 -- the visible state of a worker, by its parts
-abbrev pub stream_of : {S : Type 0} → ℕ → ℕ → ℕ → ConnectionsState S → Counts → ClockState → List Event → StreamWorker S
-stream_of port taken failures connections counts clock reported = record { server_port = port; taken = taken; failures = failures; connections = connections; counts = counts; clock = clock; reported = reported }
+abbrev pub stream_of : {S : Type 0} → AskingState → ℕ → ℕ → ConnectionsState S → Counts → ClockState → List Event → StreamWorker S
+stream_of asking taken failures connections counts clock reported = record { asking = asking; taken = taken; failures = failures; connections = connections; counts = counts; clock = clock; reported = reported }
 
 -- No message is taken, and the clients and exchanges that there were go on.
 pub accounts_on : (w w' t t' : ℕ) (old new : Counts) → t' ≡ t → IsAccounted 0 w old w' new → AreAccounted w t old w' t' new
@@ -80,12 +81,13 @@ module _ {S : Type 0} {reads writes : Passes S} {drained : Type 0} where
     limit = after.limit ∙ before.limit;
     failures = after.failures ∙ before.failures;
     time = time_then a b c old.clock mid.clock new.clock before.time after.time;
+    asking = after.asking ∙ before.asking;
   }
 
   -- Connections begin, go on and end.
   pub streams_tend : (flight : FlightState) (old new : StreamWorker S) → Tends reads writes old.connections new.connections → new.taken ≡ old.taken → new.counts ≡ old.counts → new.failures ≡ old.failures
-      → old.clock.last ≤ new.clock.last → StreamGoesOn reads writes drained flight old flight new
-  streams_tend flight old new went taken counts failures onward = record {
+      → new.asking ≡ old.asking → old.clock.last ≤ new.clock.last → StreamGoesOn reads writes drained flight old flight new
+  streams_tend flight old new went taken counts failures asking onward = record {
     runs = tends stays went taken;
     accounts = accounts_on _ _ _ _ old.counts new.counts taken (rw counts (record {
       never_fall = record { settled = omega arith; opened = omega arith; ended = omega arith; listened = omega arith; expired = omega arith };
@@ -96,13 +98,14 @@ module _ {S : Type 0} {reads writes : Passes S} {drained : Type 0} where
     limit = refl;
     failures = failures;
     time = time_on flight old.clock new.clock onward;
+    asking = asking;
   }
 
   -- Clients that wait are settled, or wait on.
   pub streams_settle : (a b : FlightState) (old new : StreamWorker S) → Ends IsMessageOf (OwesTo reads writes drained) 0 (outstanding a) old.connections (outstanding b) new.connections
       → IsAccounted 0 (outstanding a) old.counts (outstanding b) new.counts → outstanding b ≤ outstanding a → (IsBounded a → IsBounded b) → b.limit ≡ a.limit
-      → new.taken ≡ old.taken → new.failures ≡ old.failures → KeepsTime old.clock a new.clock b → StreamGoesOn reads writes drained a old b new
-  streams_settle a b old new ends accounted no_more bounded limit taken failures time = record {
+      → new.taken ≡ old.taken → new.failures ≡ old.failures → new.asking ≡ old.asking → KeepsTime old.clock a new.clock b → StreamGoesOn reads writes drained a old b new
+  streams_settle a b old new ends accounted no_more bounded limit taken failures asking time = record {
     runs = settles stays ends taken;
     accounts = accounts_on _ _ _ _ old.counts new.counts taken accounted;
     within = λ few. omega (arith, few, no_more);
@@ -110,12 +113,13 @@ module _ {S : Type 0} {reads writes : Passes S} {drained : Type 0} where
     limit = limit;
     failures = failures;
     time = time;
+    asking = asking;
   }
 
   -- A message came, and began.
-  pub streams_begin : (a b : FlightState) (old mid new : StreamWorker S) → mid.taken ≡ old.taken → mid.counts ≡ old.counts → mid.failures ≡ old.failures → mid.clock ≡ old.clock
+  pub streams_begin : (a b : FlightState) (old mid new : StreamWorker S) → mid.taken ≡ old.taken → mid.counts ≡ old.counts → mid.failures ≡ old.failures → mid.clock ≡ old.clock → mid.asking ≡ old.asking
       → (one : MessageBegins reads writes drained a old b new) → one.mid ≡ mid → StreamGoesOn reads writes drained a old b new
-  streams_begin a b old mid new taken counts failures clock one is =
+  streams_begin a b old mid new taken counts failures clock asking one is =
       let begun = rw is at one.begins in
       record {
         runs = begins stays one;
@@ -125,6 +129,7 @@ module _ {S : Type 0} {reads writes : Passes S} {drained : Type 0} where
         limit = begun.limit;
         failures = begun.failures ∙ failures;
         time = rw clock at begun.time;
+        asking = begun.asking ∙ asking;
       }
 
 -- All but the connections is as it was, and is so on.
@@ -136,7 +141,7 @@ pub streams_kept : {S : Type 0} {reads writes : Passes S} {drained : Type 0} (fl
     → new ≡ record old { connections = new.connections } → StreamGoesOn reads writes drained flight old flight new
 streams_kept flight old new went kept =
     streams_tend flight old new went (ap (λ (worker : StreamWorker _). worker.taken) kept) (ap (λ (worker : StreamWorker _). worker.counts) kept) (ap (λ (worker : StreamWorker _). worker.failures) kept)
-    (omega (arith, ap (λ (worker : StreamWorker _). worker.clock.last) kept))
+    (ap (λ (worker : StreamWorker _). worker.asking) kept) (omega (arith, ap (λ (worker : StreamWorker _). worker.clock.last) kept))
 
 -- A message came by a connection, and the client that is made of it begins.
 pub message_begins : {S : Type 0} {reads writes : Passes S} {drained : Type 0} (client : TcpClient S) (key serial network : ℕ) (message : List ℕ) (a b : FlightState) (old mid new : StreamWorker S)

@@ -1,5 +1,5 @@
 -- What is heard of an exchange over a connection.
-use Rattle.std.proofs.Common.{◌≡◌, ℕ, List, take, Option, sym, ◌∙◌, subst, arith}
+use Rattle.std.proofs.Common.{◌≡◌, ◌⊎◌, inl, inr, ℕ, Bool, true, List, take, Option, sym, ◌∙◌, subst, arith}
 use Rattle.std.proofs.lemmas.List.{take_all}
 use Rattle.std.specs.Io.KnownBytes.{Appends, Consumes}
 use Rattle.std.specs.declared.net.SocketAddr.{SocketAddr}
@@ -14,7 +14,8 @@ use Rattle.flight.specs.declared.outside.Listened.TheVariants.{Anew, Nothing, Ca
 use Rattle.flight.specs.Told.{IsHeard}
 use Rattle.flight_sockets.specs.declared.transport.Way.{Way}
 use Rattle.flight_sockets.specs.declared.transport.Way.TheVariants.{Udp, Tcp, Waiting, Closed}
-use Rattle.flight_sockets.specs.Exchanges.{ExchangeState, AsksOn, HasMisfit, HasNoneYet, IsQuiet, IsStruck, IsUnderWay, OnUnbroken, WentOn}
+use Rattle.flight_sockets.specs.Exchanges.{ExchangeState, AsksOn, HasMisfit, HasNoneYet, IsBroken, IsCutOff, IsDearReply, IsQuiet, IsStruck, IsUnderWay, OnUnbroken, WentOn}
+use Rattle.flight_sockets.specs.Exchanges.IsBroken.{cut_off, had_ended, too_dear}
 use Rattle.flight_sockets.specs.Replies.{IfCame, IsReply, IsWholeReply, MayCome}
 
 -- The whole query has left and a message came after it, which may be its reply: so it is.
@@ -46,17 +47,49 @@ heard_on opened sent came connected reported contents remaining exchange query o
 pub quiet : {S C : Type 0} (opened : S → SocketAddr → Type 0) (reported : S → Token → Type 0) (sent : S → List ℕ → Type 0) (connected : C → SocketAddr → Type 0) (reported' : C → Token → Type 0)
     (contents remaining : C → Option (List ℕ)) (drained : S → Type 0) (again : S → Token → Type 0) (exchange : ExchangeState) (way : Way S C)
     → IsUnderWay opened reported sent connected reported' contents remaining exchange way → HasNoneYet drained again exchange.token way → IsQuiet sent drained again exchange
-quiet opened reported sent connected reported' contents remaining drained again exchange (Udp line) under none over = (line, under.asks, none)
+quiet opened reported sent connected reported' contents remaining drained again exchange (Udp line) under none over = (line.socket, under.asks, none)
 quiet opened reported sent connected reported' contents remaining drained again exchange (Tcp line) under none over =
     let other : OverUdp ≡ OverTcp = sym over ∙ under.over in absurd cc
 quiet opened reported sent connected reported' contents remaining drained again exchange Waiting under none over = absurd none
 quiet opened reported sent connected reported' contents remaining drained again exchange Closed under none over = absurd none
 
+-- Whether an exchange has ended changes nothing of its way.
+pub under_as : {S C : Type 0} (opened : S → SocketAddr → Type 0) (reported : S → Token → Type 0) (sent : S → List ℕ → Type 0) (connected : C → SocketAddr → Type 0) (reported' : C → Token → Type 0)
+    (contents remaining : C → Option (List ℕ)) (exchange : ExchangeState) (ended : Bool) (way : Way S C)
+    → IsUnderWay opened reported sent connected reported' contents remaining exchange way
+    → IsUnderWay opened reported sent connected reported' contents remaining (record exchange { ended = ended }) way
+under_as opened reported sent connected reported' contents remaining exchange ended (Udp line) under =
+    record { over = under.over; place = under.place; is_place = under.is_place; at = under.at; reported_as = under.reported_as; asks = under.asks }
+under_as opened reported sent connected reported' contents remaining exchange ended (Tcp line) under =
+    record { over = under.over; place = under.place; is_place = under.is_place; fresh = under.fresh; at = under.at; reported_as = under.reported_as; asks = under.asks; went = under.went }
+under_as opened reported sent connected reported' contents remaining exchange ended Waiting under = under
+under_as opened reported sent connected reported' contents remaining exchange ended Closed under = tt
+
+-- No exchange over TCP is over UDP.
+pub cut_off_tcp : {S C : Type 0} (sent : S → List ℕ → Type 0) (failed : S → Type 0) {connected : C → SocketAddr → Type 0} {reported : C → Token → Type 0} {contents remaining : C → Option (List ℕ)}
+    (exchange : ExchangeState) (line : LineState C) → AsksOn connected reported contents remaining exchange line → IsCutOff sent failed exchange
+cut_off_tcp sent failed exchange line asks over = let other : OverUdp ≡ OverTcp = sym over ∙ asks.over in absurd cc
+
+-- An exchange that had ended, or whose socket failed, is broken.
+pub broken : {S : Type 0} (may : Option (List ℕ) → Type 0) (sent came : S → List ℕ → Type 0) (failed : S → Type 0) (exchange : ExchangeState)
+    → (exchange.ended ≡ true) ⊎ IsCutOff sent failed exchange → IsBroken may sent came failed exchange
+broken may sent came failed exchange (inl ended) = had_ended ended
+broken may sent came failed exchange (inr fault) = cut_off fault
+
+-- So is one whose reply is dear.
+pub dear : {S : Type 0} (may : Option (List ℕ) → Type 0) (sent came : S → List ℕ → Type 0) (failed : S → Type 0) (exchange : ExchangeState) (heard : Listened)
+    → IsHeard may heard → IsDearReply heard → IsBroken may sent came failed exchange
+dear may sent came failed exchange (Came octets) is long = too_dear octets is long
+dear may sent came failed exchange Nothing is long = absurd long
+dear may sent came failed exchange Broken is long = absurd long
+dear may sent came failed exchange NoMemory is long = absurd long
+dear may sent came failed exchange Anew is long = absurd long
+
 -- An exchange to whose socket a datagram came that does not fit is struck.
 pub struck : {S C : Type 0} (opened : S → SocketAddr → Type 0) (reported : S → Token → Type 0) (sent came : S → List ℕ → Type 0) (connected : C → SocketAddr → Type 0) (reported' : C → Token → Type 0)
     (contents remaining : C → Option (List ℕ)) (exchange : ExchangeState) (way : Way S C)
     → IsUnderWay opened reported sent connected reported' contents remaining exchange way → HasMisfit came exchange.asked.query way → IsStruck sent came exchange
-struck opened reported sent came connected reported' contents remaining exchange (Udp line) under misfit = (line, misfit.0, under.asks, misfit.1, misfit.2)
+struck opened reported sent came connected reported' contents remaining exchange (Udp line) under misfit = (line.socket, misfit.0, under.asks, misfit.1, misfit.2)
 struck opened reported sent came connected reported' contents remaining exchange (Tcp line) under misfit = absurd misfit
 struck opened reported sent came connected reported' contents remaining exchange Waiting under misfit = absurd misfit
 struck opened reported sent came connected reported' contents remaining exchange Closed under misfit = absurd misfit

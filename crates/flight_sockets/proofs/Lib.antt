@@ -5,6 +5,7 @@ mod Filling
 mod Flowing
 mod Hearing
 mod Moving
+mod Outboxes
 mod Passing
 mod Posting
 mod Reading

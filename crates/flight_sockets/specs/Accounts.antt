@@ -6,14 +6,16 @@ use Rattle.dns_sockets.specs.Moments.{ClockState, millis_at}
 use Rattle.flight.specs.declared.counts.Counts.{Counts}
 use Rattle.flight.specs.Bounds.{IsBounded}
 use Rattle.flight.specs.Counted.{NeverFall, IsFull, no_counts}
-use Rattle.flight.specs.Waiting.{FlightState, outstanding}
+use Rattle.flight.specs.Leaving.{Ends}
+use Rattle.flight.specs.Waiting.{FlightState, IsAccounted, outstanding}
+use Rattle.flight_sockets.specs.Asking.{AskingState}
 use Rattle.flight_sockets.specs.Endings.{Ending, clients_in, leaving_for}
 use Rattle.flight_sockets.specs.Moves.{Datagram, Moves}
 use Rattle.flight_sockets.specs.Outgoing.{OutboxState, Posts}
 
 -- the visible state of a worker; each counter stops at 2^64 - 1
 pub record WorkerState (S : Type 0) : Type 0 where
-  pub server_port : ℕ  -- the port of name servers that are known by name
+  pub asking : AskingState  -- how it asks name servers
   pub taken : ℕ  -- how many queries were taken
   pub failures : ℕ  -- how many turns failed
   pub outbox : OutboxState S  -- the socket of the service, and the replies that wait to be sent by it
@@ -22,8 +24,8 @@ pub record WorkerState (S : Type 0) : Type 0 where
   pub reported : List Event  -- what the poll reported last
 
 -- a worker that has taken no query yet
-abbrev pub fresh_worker : {S : Type 0} → S → ℕ → Instant → WorkerState S
-fresh_worker socket port start = record { server_port = port; taken = 0; failures = 0; outbox = record { socket = socket; waiting = [] }; counts = no_counts; clock = record { start = start; last = 0 }; reported = [] }
+abbrev pub fresh_worker : {S : Type 0} → S → AskingState → Instant → WorkerState S
+fresh_worker socket asking start = record { asking = asking; taken = 0; failures = 0; outbox = record { socket = socket; waiting = [] }; counts = no_counts; clock = record { start = start; last = 0 }; reported = [] }
 
 -- Each query that waited, or was taken between two states of a worker, now waits or was settled once. Each exchange that began is under way for one of those that wait, or ended once.
 pub record AllAddUp {S : Type 0} (waiting : ℕ) (old : WorkerState S) (waiting' : ℕ) (new : WorkerState S) : Type 0 where
@@ -45,7 +47,15 @@ pub record KeepsTime (old : ClockState) (flight : FlightState) (new : ClockState
   pub onward : old.last ≤ new.last
   pub latest : flight'.latest ≤ max (millis_at new.last) flight.latest
 
--- A worker went on with its questions in flight: each is accounted for, the limit of exchanges is kept, what they keep stays within its bound, no turn failed, and exchanges begin at moments that its clock read.
+-- Questions in flight went on. The wait of each client that waited goes on, or ended once, and exchanges are accounted for. No more wait than before, what they keep stays within its bound, and the limit of exchanges is kept.
+pub record QuestionsGoOn {O K : Type 0} (sent : K → List ℕ → Type 0) (posts : O → K → List ℕ → O → Type 0) (flight : FlightState) (counts : Counts) (old : O) (flight' : FlightState) (counts' : Counts) (new : O) : Type 0 where
+  pub accounted : IsAccounted 0 (outstanding flight) counts (outstanding flight') counts'
+  pub ends : Ends sent posts 0 (outstanding flight) old (outstanding flight') new
+  pub no_more : outstanding flight' ≤ outstanding flight
+  pub bounded : IsBounded flight → IsBounded flight'
+  pub limit : flight'.limit ≡ flight.limit
+
+-- A worker went on with its questions in flight: each is accounted for, the limit of exchanges is kept, what they keep stays within its bound, no turn failed, exchanges begin at moments that its clock read, and it asks name servers as before.
 pub record GoesOn {S : Type 0} (takes sends : Moves S) (flight : FlightState) (old : WorkerState S) (flight' : FlightState) (new : WorkerState S) : Type 0 where
   pub accounts : Accounts takes sends (outstanding flight) old (outstanding flight') new
   pub within : outstanding flight ≤ flight.limit → outstanding flight' ≤ flight.limit
@@ -53,3 +63,4 @@ pub record GoesOn {S : Type 0} (takes sends : Moves S) (flight : FlightState) (o
   pub limit : flight'.limit ≡ flight.limit
   pub failures : new.failures ≡ old.failures
   pub time : KeepsTime old.clock flight new.clock flight'
+  pub asking : new.asking ≡ old.asking

@@ -1,10 +1,12 @@
 pub mod Accounts
 pub mod Arrivals
+pub mod Asking
 pub mod Begun
 pub mod Connections
 pub mod Descriptors
 pub mod Endings
 pub mod Exchanges
+pub mod Hashing
 pub mod Kept
 pub mod Looked
 pub mod Moves
@@ -18,6 +20,7 @@ pub mod Refusals
 pub mod Replies
 pub mod Servers
 pub mod Silences
+pub mod Sockets
 pub mod Streaming
 pub mod Taken
 pub mod FilledCells

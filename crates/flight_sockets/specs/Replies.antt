@@ -1,15 +1,20 @@
 -- The octets that may come as the reply of a name server.
-use Rattle.std.specs.Prelude.{◌≡◌, ◌≤◌, ℕ, Option, Some, None, List, length}
+use Rattle.std.specs.Prelude.{◌≡◌, ◌<◌, ◌≤◌, ℕ, Option, Some, None, List, length}
 use Rattle.std.specs.declared.net.SocketAddr.{SocketAddr}
-use Rattle.front_workers.specs.declared.limits.TheConstants.{MOST_MESSAGE}
+use Rattle.front_workers.specs.declared.limits.TheConstants.{MOST_DATAGRAM, MOST_MESSAGE}
 use Rattle.dns_sockets.specs.Asked.{IsAskedAt}
 use Rattle.dns_sockets.specs.Fits.{Fits}
 use Rattle.dns_sockets.specs.Line.{LineState}
 use Rattle.dns_sockets.specs.Place.{IsPlaceOf}
+use Rattle.front_workers.specs.Dear.{IsLong}
 use Rattle.front_workers.specs.Framing.{framed}
 use Rattle.flight.specs.declared.outside.Listened.{Listened}
 use Rattle.flight.specs.declared.outside.Listened.TheVariants.{Came}
 use Rattle.flight.specs.Flight.{Sent}
+
+-- Octets that take too long to read: they are longer than a datagram, and take more than `MOST_STEPS` steps.
+abbrev pub IsTooDear : List ℕ → Type 0
+IsTooDear octets = (MOST_DATAGRAM < length octets) × IsLong octets
 
 -- Octets that fit a query, and are no longer than a message may be.
 abbrev pub IsReply : List ℕ → List ℕ → Type 0

@@ -14,6 +14,7 @@ use Rattle.flight.specs.Counted.{IsFull, NeverFall, no_counts}
 use Rattle.flight.specs.Leaving.{Ends}
 use Rattle.flight.specs.Waiting.{FlightState, IsPatient, IsTimely, outstanding}
 use Rattle.flight_sockets.specs.Accounts.{KeepsTime}
+use Rattle.flight_sockets.specs.Asking.{AskingState}
 use Rattle.flight_sockets.specs.declared.tcp.client.TcpClient.{TcpClient}
 use Rattle.flight_sockets.specs.Connections.{ConnectionsState, Owes, ServesOne, Tends, no_connections}
 use Rattle.flight_sockets.specs.Looked.{LooksAtAll}
@@ -21,7 +22,7 @@ use Rattle.flight_sockets.specs.Passages.{Passes}
 
 -- the visible state of a worker that takes messages by connections; each counter stops at 2^64 - 1
 pub record StreamWorker (S : Type 0) : Type 0 where
-  pub server_port : ℕ  -- the port of name servers that are known by name
+  pub asking : AskingState  -- how it asks name servers
   pub taken : ℕ  -- how many messages were taken
   pub failures : ℕ  -- how many turns failed
   pub connections : ConnectionsState S  -- the connections of clients
@@ -30,8 +31,8 @@ pub record StreamWorker (S : Type 0) : Type 0 where
   pub reported : List Event  -- what the poll reported last
 
 -- a worker that has taken no message yet
-abbrev pub fresh_worker : {S : Type 0} → ℕ → Instant → StreamWorker S
-fresh_worker port start = record { server_port = port; taken = 0; failures = 0; connections = no_connections; counts = no_counts; clock = record { start = start; last = 0 }; reported = [] }
+abbrev pub fresh_worker : {S : Type 0} → AskingState → Instant → StreamWorker S
+fresh_worker asking start = record { asking = asking; taken = 0; failures = 0; connections = no_connections; counts = no_counts; clock = record { start = start; last = 0 }; reported = [] }
 
 -- The client sent these octets: they are its message.
 abbrev pub IsMessageOf : {S : Type 0} → TcpClient S → List ℕ → Type 0
@@ -47,7 +48,7 @@ pub record AreAccounted (waiting taken : ℕ) (old : Counts) (waiting' taken' : 
   pub never_fall : NeverFall old new
   pub add_up : ((waiting' + new.settled + taken ≡ waiting + old.settled + taken') × (waiting' + new.ended + old.opened ≡ waiting + old.ended + new.opened)) ⊎ (IsFull new ⊎ (2 ^ 64 - 1 ≤ taken'))
 
--- A client comes, and is counted. It is settled, or waits from the clock's last moment on. Nothing is owed but its reply. The limits of what is in flight are kept.
+-- A client comes, and is counted. It is settled, or waits from the clock's last moment on. Nothing is owed but its reply. The limits of what is in flight are kept, and name servers are asked as before.
 pub record BeginsClient {S : Type 0} (reads writes : Passes S) (drained : Type 0) (client : TcpClient S) (flight : FlightState) (old : StreamWorker S) (flight' : FlightState) (new : StreamWorker S) : Type 0 where
   pub counted : Rises old.taken new.taken
   pub ends : Ends IsMessageOf (OwesTo reads writes drained) 1 (outstanding flight) old.connections (outstanding flight') new.connections
@@ -58,6 +59,7 @@ pub record BeginsClient {S : Type 0} (reads writes : Passes S) (drained : Type 0
   pub limit : flight'.limit ≡ flight.limit
   pub failures : new.failures ≡ old.failures
   pub time : KeepsTime old.clock flight new.clock flight'
+  pub asking : new.asking ≡ old.asking
 
 -- A message comes whole by a connection. The client that is made of it is that connection's, and begins once.
 pub record MessageBegins {S : Type 0} (reads writes : Passes S) (drained : Type 0) (flight : FlightState) (old : StreamWorker S) (flight' : FlightState) (new : StreamWorker S) : Type 0 where
@@ -80,7 +82,7 @@ pub data StreamRuns {S : Type 0} (reads writes : Passes S) (drained : Type 0) (f
   begins : {between flight' : FlightState} {mid new : StreamWorker S} → StreamRuns reads writes drained flight old between mid → MessageBegins reads writes drained between mid flight' new
       → StreamRuns reads writes drained flight old flight' new
 
--- A worker went on: it ran, each client and each exchange is accounted for, the limit of exchanges is kept, what questions keep stays within its bound, no turn failed, and exchanges begin at moments that its clock read.
+-- A worker went on: it ran, each client and each exchange is accounted for, the limit of exchanges is kept, what questions keep stays within its bound, no turn failed, exchanges begin at moments that its clock read, and it asks name servers as before.
 pub record StreamGoesOn {S : Type 0} (reads writes : Passes S) (drained : Type 0) (flight : FlightState) (old : StreamWorker S) (flight' : FlightState) (new : StreamWorker S) : Type 0 where
   pub runs : StreamRuns reads writes drained flight old flight' new
   pub accounts : AreAccounted (outstanding flight) old.taken old.counts (outstanding flight') new.taken new.counts
@@ -89,6 +91,7 @@ pub record StreamGoesOn {S : Type 0} (reads writes : Passes S) (drained : Type 0
   pub limit : flight'.limit ≡ flight.limit
   pub failures : new.failures ≡ old.failures
   pub time : KeepsTime old.clock flight new.clock flight'
+  pub asking : new.asking ≡ old.asking
 
 -- In a turn each exchange that the poll had reported was listened to, and each whose time was up by the clock had ended. So had each question whose time was up. Then those that waited kept no more than they may at rest.
 pub record StreamEndsOverdue {S : Type 0} (reads writes : Passes S) (drained : Type 0) (flight : FlightState) (old : StreamWorker S) (flight' : FlightState) (new : StreamWorker S) : Type 0 where

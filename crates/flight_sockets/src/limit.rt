@@ -1,6 +1,11 @@
 //! The limit of exchanges that a worker may have under way.
 
 ghost use Rattle.std.specs.Prelude.{◌≡◌, ◌*◌, ◌+◌, ◌-◌, ◌/◌, ◌≤◌, min};
+ghost use Rattle.flight_sockets.specs.declared.filled_cells.TheConstants.{FREE_FOR_ZONE, LEAST_SHARE};
+ghost use Rattle.flight_sockets.specs.declared.permits.TheConstants.{MOST_EQUAL};
+ghost use Rattle.flight_sockets.specs.declared.tcp.front.TheConstants.{MOST_KEPT, NETWORK_PART};
+ghost use Rattle.flight_sockets.specs.declared.tcp.marks.TheConstants.{MOST_WAITING};
+ghost use Rattle.flight_sockets.specs.declared.tcp.times.TheConstants.{MOST_IDLE, MOST_STUCK};
 ghost use Rattle.flight_sockets.specs.declared.pause.TheConstants.{FIRST_PAUSE, LONGEST_PAUSE};
 ghost use Rattle.flight_sockets.specs.declared.silence.TheConstants.{CLOSED_PAUSE, SILENT};
 ghost use Rattle.flight_sockets.specs.declared.refused_zones.TheConstants.{MOST_REFUSALS, REFUSED_PAUSE};
@@ -48,18 +53,21 @@ pub fn most_connections(descriptors: u64, udp: u8, tcp: u8, exchanges: usize) ->
     (left / u64::from(tcp)).min(MOST_CONNECTIONS as u64) as usize
 }
 
-/// A worker has at most 512 exchanges under way and 4,096 connections, and 96 descriptors are left for everything else. It passes a
-/// server over for ten seconds at first and for a minute at most: for every question after two minutes of silence. It passes one over
-/// for a second if its port is closed, and for a zone that it refused. It remembers 4,096 servers, 4,096 questions to servers and 4,096
-/// refusals.
+/// A worker has at most 512 exchanges under way, and all workers have 4 with one question. 96 descriptors are left for everything else.
+/// A worker has at most 4,096 connections. One network has a quarter of them while others want places, and 32 questions of one connection
+/// wait. What connections keep beyond what each may keep at rest is at most 24 MiB. One may be idle for ten seconds, and stuck for two.
+///
+/// A worker passes a server over for ten seconds at first and for a minute at most: for every question after two minutes of silence. It
+/// passes one over for a second if its port is closed, and for a zone that it refused. It remembers 4,096 servers, 4,096 questions to
+/// servers and 4,096 refusals. A zone may have an eighth as many cells as are free, and always 64.
 pub fn limits_law()
-    ensures exchanges { MOST_EXCHANGES ≡ 512 }
-    ensures connections { MOST_CONNECTIONS ≡ 4096 }
+    ensures exchanges { (MOST_EXCHANGES ≡ 512) × (MOST_EQUAL ≡ 4) }
     ensures spare { SPARE_DESCRIPTORS ≡ 96 }
-    ensures first_pause { FIRST_PAUSE ≡ 10000 }
-    ensures longest_pause { LONGEST_PAUSE ≡ 60000 }
-    ensures silent { SILENT ≡ 120000 }
-    ensures short_pauses { (CLOSED_PAUSE ≡ 1000) × (REFUSED_PAUSE ≡ 1000) }
-    ensures servers { (MOST_SERVERS ≡ 4096) × (MOST_REFUSALS ≡ 4096) }
-    ensures questions { MOST_QUESTIONS ≡ 4096 }
+    ensures connections { (MOST_CONNECTIONS ≡ 4096) × (NETWORK_PART ≡ 4) × (MOST_WAITING ≡ 32) }
+    ensures kept { MOST_KEPT ≡ 25165824 }
+    ensures times { (MOST_IDLE ≡ 10000) × (MOST_STUCK ≡ 2000) }
+    ensures pauses { (FIRST_PAUSE ≡ 10000) × (LONGEST_PAUSE ≡ 60000) × (SILENT ≡ 120000) × (CLOSED_PAUSE ≡ 1000)
+        × (REFUSED_PAUSE ≡ 1000) }
+    ensures remembered { (MOST_SERVERS ≡ 4096) × (MOST_QUESTIONS ≡ 4096) × (MOST_REFUSALS ≡ 4096) }
+    ensures shares { (FREE_FOR_ZONE ≡ 8) × (LEAST_SHARE ≡ 64) }
 {}

@@ -1,7 +1,7 @@
 //! The name servers that a worker passes over: for one question, or for every question.
 
 ghost use Rattle.std.specs.Prelude.{◌≡◌, ◌≤◌, true, false, IfOk};
-ghost use Rattle.indexmap.specs.IndexMap.{index_map_len};
+ghost use Rattle.indexmap.specs.IndexMap.{hasher_of, index_map_len};
 ghost use Rattle.flight_sockets.specs.declared.servers.TheConstants.{MOST_SERVERS};
 ghost use Rattle.flight_sockets.specs.declared.questions.TheConstants.{MOST_QUESTIONS};
 
@@ -28,11 +28,13 @@ pub(crate) struct Pauses {
 }
 
 impl Pauses {
+    ghost use Rattle.flight_sockets.specs.Hashing.{IsSeeded};
     ghost use Rattle.flight_sockets.specs.Pauses.{Answers, Closes, IsBlank, IsPassedOver, LetsThrough, Loses, Mistrusts};
 
     /// Remembers nothing. Nearly all memory of the tables is taken here. Their hashes begin with a seed that strangers do not know.
     pub fn new(alloc: Global, seed: u64) -> Result<Pauses, NoMemory>
-        ensures { IfOk result IsBlank }
+        ensures blank { IfOk result IsBlank }
+        ensures seed { IfOk result (λ pauses. IsSeeded seed pauses.servers × IsSeeded seed pauses.questions) }
     {
         let seed = NameSeed::new(u128::from(seed));
         Ok(Pauses {
@@ -45,7 +47,9 @@ impl Pauses {
 
     /// Forgets all. The memory of the tables is kept.
     pub fn forget(&mut self)
-        ensures { IsBlank self.new }
+        ensures blank { IsBlank self.new }
+        ensures servers { hasher_of self.new.servers ≡ hasher_of self.old.servers }
+        ensures questions { hasher_of self.new.questions ≡ hasher_of self.old.questions }
     {
         self.servers.clear();
         self.questions.clear();

@@ -1,5 +1,7 @@
 //! The permits of exchanges: a few for each question, over all workers.
 
+ghost use Rattle.std.specs.Prelude.{◌≡◌, IfErr, IfOk};
+
 use cell_store::NameSeed;
 use dns_text::NoMemory;
 use dns_wire::HEADER_OCTETS;
@@ -14,6 +16,36 @@ pub const MOST_EQUAL: u64 = 4;
 /// The counters of permits. Where four workers have all their exchanges under way, two in 100,000 wait though no equal one does.
 pub(crate) const COUNTERS: usize = 16_384;
 
+/// The right to begin one exchange. It cannot be cloned, and only `Permits::take` makes one.
+#[derive(Drop)]
+pub(crate) struct Permit {
+    counter: usize,
+}
+
+impl Permit {
+    /// The number of the counter that counts it.
+    pub fn counter(&self) -> usize
+        ensures { result ≡ self.now.counter }
+    {
+        self.counter
+    }
+}
+
+/// No permit was free. Only `Permits::take` makes one, so an exchange waits only if it was refused a permit.
+#[derive(Drop)]
+pub(crate) struct NoPermit {
+    counter: usize,
+}
+
+impl NoPermit {
+    /// The number of the counter of the permits that are held.
+    pub fn counter(&self) -> usize
+        ensures { result ≡ self.now.counter }
+    {
+        self.counter
+    }
+}
+
 /// How many exchanges hold a permit, for each question. All workers share them, without a lock. Questions with one hash share a
 /// counter, and wait for one another. Strangers choose the questions, so their hashes are seeded.
 #[derive(Drop)]
@@ -24,7 +56,9 @@ pub struct Permits {
 
 impl Permits {
     /// No permit is held. Strangers do not know the seed.
-    pub fn new(alloc: Global, seed: NameSeed) -> Result<Permits, NoMemory> {
+    pub fn new(alloc: Global, seed: NameSeed) -> Result<Permits, NoMemory>
+        ensures { IfOk result (λ permits. permits.seed ≡ seed) }
+    {
         let mut held = Vec::with_capacity(alloc, COUNTERS)?;
         for _ in 0..COUNTERS {
             held.push(AtomicU64::new(0))?;
@@ -49,16 +83,19 @@ impl Permits {
         }
     }
 
-    /// Takes a permit, if one is free.
-    pub(crate) fn take(&self, counter: usize) -> bool {
+    /// Takes a permit, if one is free. Where there is no such counter, one is.
+    pub(crate) fn take(&self, counter: usize) -> Result<Permit, NoPermit>
+        ensures taken { IfOk result (λ permit. permit.counter ≡ counter) }
+        ensures refused { IfErr result (λ refused. refused.counter ≡ counter) }
+    {
         let Some(held) = self.held.get(counter) else {
-            return true;
+            return Ok(Permit { counter });
         };
         if held.fetch_add(1, Ordering::SeqCst) < MOST_EQUAL {
-            return true;
+            return Ok(Permit { counter });
         }
         self.give_back(counter);
-        false
+        Err(NoPermit { counter })
     }
 
     /// Gives a permit back that was taken.

@@ -24,11 +24,13 @@ pub(crate) struct Refusals {
 }
 
 impl Refusals {
+    ghost use Rattle.flight_sockets.specs.Hashing.{IsSeeded};
     ghost use Rattle.flight_sockets.specs.Refusals.{IsRefused, LooksUpList, LooksUpZone, NotesAnswer, NotesRefusal, RefusedList};
 
     /// Remembers nothing. Nearly all memory of the table is taken here. Its hashes begin with a seed that strangers do not know.
     pub fn new(alloc: Global, seed: u64) -> Result<Refusals, NoMemory>
-        ensures { IfOk result (λ refusals. refusals.zones.entries ≡ []) }
+        ensures blank { IfOk result (λ refusals. refusals.zones.entries ≡ []) }
+        ensures seed { IfOk result (λ refusals. IsSeeded seed refusals.zones) }
     {
         let seed = NameSeed::new(u128::from(seed));
         Ok(Refusals {

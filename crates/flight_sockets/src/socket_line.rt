@@ -8,12 +8,13 @@ ghost use Rattle.flight.specs.declared.outside.Listened.TheVariants.{Anew, Broke
 ghost use Rattle.flight.specs.Counted.{CountsOpened};
 ghost use Rattle.flight.specs.Flight.{query_to};
 ghost use Rattle.flight.specs.Told.{IsHeard};
-ghost use Rattle.flight_sockets.specs.Exchanges.{IsNotToBeHad, IsQuiet, IsStruck};
+ghost use Rattle.flight_sockets.specs.Exchanges.{IsBroken, IsDearReply, IsNotToBeHad, IsQuiet, IsStruck};
 ghost use Rattle.flight_sockets.specs.Replies.{MayCome};
 ghost use Rattle.flight_sockets.specs.declared.flaw.Flaw.TheVariants.{Misfits};
 
 use crate::fault_line::log_exchange;
 use crate::flaw::Flaw;
+use crate::permits::{NoPermit, Permit};
 use crate::transport::Way;
 use dns_name::Name;
 use dns_query::Over;
@@ -50,7 +51,9 @@ pub(crate) struct SocketLine<R: ReadyNet> {
 }
 
 /// Whether a reply came that would take too long to read.
-fn is_too_dear(heard: &Listened) -> bool {
+fn is_too_dear(heard: &Listened) -> bool
+    ensures { result ≡ true → IsDearReply heard.now }
+{
     match heard {
         Listened::Came(reply) => is_dear(reply.as_slice()),
         _ => false,
@@ -60,7 +63,7 @@ fn is_too_dear(heard: &Listened) -> bool {
 impl<R: ReadyNet> Model for SocketLine<R> {
     ghost use Rattle.std.specs.Prelude.{option_map};
     ghost use Rattle.flight.specs.Flight.{query_to};
-    ghost use Rattle.flight_sockets.specs.Exchanges.{ExchangeState, IsUnderWay};
+    ghost use Rattle.flight_sockets.specs.Exchanges.{ExchangeState, IsUnderWay, is_ended};
 
     ghost Value = { ExchangeState };
 
@@ -70,6 +73,7 @@ impl<R: ReadyNet> Model for SocketLine<R> {
       zone = option_map (λ list. list.zone) line.list;
       waits = line.waits;
       flaw = line.flaw;
+      ended = is_ended line.way;
     } };
 
     ghost invariant = { λ line. IsUnderWay R.Datagrams.opened R.Datagrams.reported R.Datagrams.sent
@@ -80,6 +84,7 @@ impl<R: ReadyNet> Model for SocketLine<R> {
           zone = option_map (λ list. list.zone) line.list;
           waits = line.waits;
           flaw = line.flaw;
+          ended = is_ended line.way;
         }) line.way };
 }
 
@@ -100,11 +105,11 @@ impl<R: ReadyNet> InFlight for SocketLine<R> {
 }
 
 impl<R: ReadyNet> SocketLine<R> {
-    /// Sends a query, or begins to connect, and has the poll watch the socket. It can open no other one. The service listens at
-    /// `service`, and queries neither itself nor an address that belongs to no host. An exchange that begins is counted here, where its
-    /// socket is opened.
+    /// Sends a query, or begins to connect, and has the poll watch the socket. For its permit it can open no other one. The service
+    /// listens at `service`, and queries neither itself nor an address that belongs to no host. An exchange that begins is counted here,
+    /// where its socket is opened.
     pub fn open(
-        right: OneSocket<'_, R>,
+        right: OneSocket<'_, R, Permit>,
         alloc: Global,
         registry: &Registry,
         token: Token,
@@ -118,7 +123,7 @@ impl<R: ReadyNet> SocketLine<R> {
         ensures asked { IfOk result (λ line. line.asked ≡ query_to server.now over query) }
         ensures token { IfOk result (λ line. line.token ≡ token) }
         ensures zone { IfOk result (λ line. line.zone ≡ option_map (λ servers. servers.zone) list) }
-        ensures sent { IfOk result (λ line. line.waits ≡ false) }
+        ensures sent { IfOk result (λ line. (line.waits ≡ false) × (line.ended ≡ false)) }
         ensures opened { OnOk result (CountsOpened counts.old counts.new) }
         ensures unopened { OnErr result (counts.new ≡ counts.old) }
         ensures may_ask { OnOk result (MayAskServer R.Datagrams.opened R.Datagrams.is_at R.Connection.connected R.Connection.is_at
@@ -147,9 +152,10 @@ impl<R: ReadyNet> SocketLine<R> {
         })
     }
 
-    /// An exchange that waits for a permit. It sends nothing, and its question begins anew once it is listened to. It is counted as one
-    /// that begins.
+    /// An exchange that was refused a permit, and waits for one. It sends nothing, and its question begins anew once it is listened to. It
+    /// is counted as one that begins.
     pub fn waiting(
+        refused: NoPermit,
         token: Token,
         server: &Addr,
         over: Over,
@@ -162,6 +168,7 @@ impl<R: ReadyNet> SocketLine<R> {
         ensures waits { result.waits ≡ true }
         ensures opened { CountsOpened counts.old counts.new }
     {
+        drop(refused);
         counts.open();
         SocketLine {
             server: *server,
@@ -250,8 +257,13 @@ impl<R: ReadyNet> SocketLine<R> {
             R.Connection.connected R.Connection.contents R.Connection.remaining self.old.asked) result }
         ensures nothing { result ≡ Nothing → IsQuiet R.Datagrams.sent R.Datagrams.drained R.Datagrams.reported_again self.old }
         ensures anew { result ≡ Anew → self.old.waits ≡ true }
-        ensures struck { self.new.flaw ≡ Some Misfits → (self.old.flaw ≡ Some Misfits) ⊎ IsStruck R.Datagrams.sent R.Datagrams.came self.old }
-        ensures kept { self.new ≡ record self.old { flaw = self.new.flaw } }
+        ensures struck { self.new.flaw ≡ Some Misfits
+            → (self.old.flaw ≡ Some Misfits) ⊎ IsStruck R.Datagrams.sent R.Datagrams.came self.old }
+        ensures broken { result ≡ Broken → IsBroken
+            (MayCome R.Datagrams.opened R.Datagrams.sent R.Datagrams.came
+            R.Connection.connected R.Connection.contents R.Connection.remaining self.old.asked)
+            R.Datagrams.sent R.Datagrams.came R.Datagrams.failed self.old }
+        ensures kept { self.new ≡ record self.old { flaw = self.new.flaw; ended = self.new.ended } }
     {
         let query = self.query.get().as_slice();
         match self.way.hear(alloc, registry, self.token, query, room) {

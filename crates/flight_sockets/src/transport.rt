@@ -1,10 +1,10 @@
 //! The transport of an exchange.
 
-ghost use Rattle.std.specs.Prelude.{◌≡◌, ◌≢◌, ◌<◌, length, true, Some, IfSome, IsNone};
+ghost use Rattle.std.specs.Prelude.{◌≡◌, ◌≢◌, ◌<◌, ◌⊎◌, length, true, Some, IfSome, IsNone};
 ghost use Rattle.front_workers.specs.declared.limits.TheConstants.{MOST_MESSAGE};
-ghost use Rattle.flight.specs.declared.outside.Listened.TheVariants.{Anew, Nothing};
+ghost use Rattle.flight.specs.declared.outside.Listened.TheVariants.{Anew, Broken, Nothing};
 ghost use Rattle.flight.specs.Told.{IsHeard};
-ghost use Rattle.flight_sockets.specs.Exchanges.{ExchangeState, HasMisfit, HasNoneYet, IsUnderWay, OnUnbroken, WentOn};
+ghost use Rattle.flight_sockets.specs.Exchanges.{ExchangeState, HasMisfit, HasNoneYet, IsCutOff, IsUnderWay, OnUnbroken, WentOn, is_ended};
 ghost use Rattle.flight_sockets.specs.Replies.{IfCame, IsWholeReply, MayCome};
 
 use dns_sockets::{Heard, ReadyConnection, ReadySocket, TcpLine, UdpLine, fits};
@@ -29,6 +29,7 @@ pub(crate) enum Way<S, C> {
 fn came(alloc: Global, reply: &[u8]) -> Listened
     ensures heard { IfCame (λ octets. octets ≡ reply.now) result }
     ensures ended { (result ≢ Nothing) × (result ≢ Anew) }
+    ensures unbroken { result ≢ Broken }
 {
     match Vec::from_slice(alloc, reply) {
         Ok(octets) => Listened::Came(Octets::new(octets)),
@@ -83,10 +84,13 @@ impl<S: ReadySocket, C: ReadyConnection> Way<S, C> {
         ensures heard { (exchange : ExchangeState) → exchange.asked.query ≡ query.now
             → IsUnderWay S.opened S.reported S.sent C.connected C.reported C.contents C.remaining exchange self.old
             → IfSome result (IsHeard (MayCome S.opened S.sent S.came C.connected C.contents C.remaining exchange.asked)) }
-        ensures nothing { result ≡ Some Nothing → HasNoneYet S.drained S.reported_again token self.old }
+        ensures nothing { result ≡ Some Nothing → HasNoneYet S.drained S.reported_again token self.new }
         ensures anew { (exchange : ExchangeState)
             → IsUnderWay S.opened S.reported S.sent C.connected C.reported C.contents C.remaining exchange self.old
             → result ≡ Some Anew → exchange.waits ≡ true }
+        ensures broken { (exchange : ExchangeState) → exchange.ended ≡ is_ended self.old
+            → IsUnderWay S.opened S.reported S.sent C.connected C.reported C.contents C.remaining exchange self.old
+            → result ≡ Some Broken → (exchange.ended ≡ true) ⊎ IsCutOff S.sent S.failed exchange }
         ensures misfits { IsNone result → HasMisfit S.came query.now self.old }
         ensures goes_on { result ≡ Some Nothing → (exchange : ExchangeState)
             → IsUnderWay S.opened S.reported S.sent C.connected C.reported C.contents C.remaining exchange self.old

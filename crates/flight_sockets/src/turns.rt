@@ -7,10 +7,11 @@ ghost use Rattle.mio.specs.Events.{items};
 ghost use Rattle.dns_sockets.specs.Moments.{millis_at, IsRead};
 ghost use Rattle.flight.specs.declared.kept.TheConstants.{MOST_AT_REST};
 ghost use Rattle.flight.specs.declared.table.TheConstants.{PATIENCE, QUESTION_PATIENCE};
-ghost use Rattle.flight.specs.Bounds.{AllGoOn, IsBounded, Relieves, kept_all};
-ghost use Rattle.flight.specs.Leaving.{Ends};
-ghost use Rattle.flight.specs.Waiting.{EarlyGoOn, FlightState, IsAccounted, IsPatient, IsTimely, JoinsNone, outstanding, time_left};
-ghost use Rattle.flight_sockets.specs.Accounts.{GoesOn, KeepsTime, fresh_worker};
+ghost use Rattle.flight.specs.Bounds.{AllGoOn, Relieves, kept_all};
+ghost use Rattle.flight.specs.Waiting.{EarlyGoOn, FlightState, IsPatient, IsTimely, JoinsNone, outstanding, time_left};
+ghost use Rattle.flight_sockets.specs.Accounts.{GoesOn, KeepsTime, QuestionsGoOn, fresh_worker};
+ghost use Rattle.flight_sockets.specs.Asking.{PostsBy, asking_at};
+ghost use Rattle.flight_sockets.specs.Sockets.{sockets_of};
 ghost use Rattle.flight_sockets.specs.Begun.{AllBegin, BatchBegins, IsBegun, Runs, TakesNone, arrived};
 ghost use Rattle.flight_sockets.specs.Looked.{AllLookedAt, LooksAtAll};
 ghost use Rattle.flight_sockets.specs.Patience.{AreRead, EndsOverdue, IsReadOn, patience_of};
@@ -54,7 +55,22 @@ const MOST_ANEW: usize = 64;
 /// The questions of a worker that are in flight.
 pub(crate) type Questions<D, C, G, R, S> = Flight<D, SocketLine<R>, C, G, UdpClient<S>>;
 
-/// The state of a worker between its turns. Contracts see its port of name servers, its counters, its clock, what its poll reported
+/// A turn that did not fail. Only `Turns::turn` makes one, so whoever has one took a turn.
+#[derive(Drop)]
+pub(crate) struct Turned {
+    more: bool,
+}
+
+impl Turned {
+    /// Whether more datagrams may be there.
+    pub fn has_more(&self) -> bool
+        ensures { result ≡ self.now.more }
+    {
+        self.more
+    }
+}
+
+/// The state of a worker between its turns. Contracts see how it asks name servers, its counters, its clock, what its poll reported
 /// last, the socket of the service, and the replies that wait to be sent by it.
 #[derive(Drop)]
 pub(crate) struct Turns<'a, R, S: ServiceSocket> {
@@ -68,11 +84,12 @@ pub(crate) struct Turns<'a, R, S: ServiceSocket> {
 impl<'a, R, S: ServiceSocket> Model for Turns<'a, R, S> {
     ghost use Rattle.mio.specs.Events.{items};
     ghost use Rattle.flight_sockets.specs.Accounts.{WorkerState};
+    ghost use Rattle.flight_sockets.specs.Sockets.{asking_of};
 
     ghost Value = { WorkerState S };
 
     ghost view = { λ turns. record {
-      server_port = turns.sockets.server_port;
+      asking = asking_of turns.sockets;
       taken = turns.taken;
       failures = turns.failures;
       outbox = turns.sockets.outbox;
@@ -93,7 +110,7 @@ impl<'a, R: ReadyNet + Log + Elapsing + Wait, S: ServiceSocket> Turns<'a, R, S> 
         seed: u64,
         start: Instant,
     ) -> Result<Turns<'a, R, S>, NoMemory>
-        ensures { IfOk result (λ turns. turns ≡ fresh_worker listener.socket asking.entry.server_port start) }
+        ensures { IfOk result (λ turns. turns ≡ fresh_worker listener.socket (asking_at listener.place asking.entry) start) }
     {
         let UdpListener {
             poll,
@@ -126,6 +143,7 @@ impl<'a, R: ReadyNet + Log + Elapsing + Wait, S: ServiceSocket> Turns<'a, R, S> 
         ensures counts { self.new.counts ≡ self.old.counts }
         ensures outbox { self.new.outbox ≡ self.old.outbox }
         ensures failures { self.new.failures ≡ self.old.failures }
+        ensures asks { self.new.asking ≡ self.old.asking }
     {
         self.taken = self.taken.saturating_add(1);
     }
@@ -137,6 +155,7 @@ impl<'a, R: ReadyNet + Log + Elapsing + Wait, S: ServiceSocket> Turns<'a, R, S> 
         ensures counts { self.new.counts ≡ self.old.counts }
         ensures outbox { self.new.outbox ≡ self.old.outbox }
         ensures clock { self.new.clock ≡ self.old.clock }
+        ensures asks { self.new.asking ≡ self.old.asking }
     {
         self.failures = self.failures.saturating_add(1);
     }
@@ -175,7 +194,8 @@ impl<'a, R: ReadyNet + Log + Elapsing + Wait, S: ServiceSocket> Turns<'a, R, S> 
         inbox: &Inbox<S>,
     )
         ensures goes_on { GoesOn S.takes S.sends questions.old self.old questions.new self.new }
-        ensures begin { AllBegin S.takes S.sends (map (λ slot. arrived slot.came slot.room) (take inbox.now.filled inbox.now.slots.items))
+        ensures begin { AllBegin S.takes S.sends
+            (map (λ slot. arrived slot.came slot.room) (take inbox.now.filled inbox.now.slots.items))
             questions.old self.old questions.new self.new }
         ensures reported { self.new.reported ≡ self.old.reported }
     {
@@ -196,7 +216,8 @@ impl<'a, R: ReadyNet + Log + Elapsing + Wait, S: ServiceSocket> Turns<'a, R, S> 
         ensures failed { OnErr result S.failed }
         ensures goes_on { GoesOn S.takes S.sends questions.old self.old questions.new self.new }
         ensures sent { self.new.outbox.waiting ≡ [] }
-        ensures begun { BatchBegins S.takes S.sends (map (λ slot. arrived slot.came slot.room) (take inbox.new.filled inbox.new.slots.items))
+        ensures begun { BatchBegins S.takes S.sends
+            (map (λ slot. arrived slot.came slot.room) (take inbox.new.filled inbox.new.slots.items))
             questions.old self.old questions.new self.new }
         ensures reported { self.new.reported ≡ self.old.reported }
     {
@@ -313,6 +334,7 @@ impl<'a, R: ReadyNet + Log + Elapsing + Wait, S: ServiceSocket> Turns<'a, R, S> 
         ensures counts { self.new.counts ≡ self.old.counts }
         ensures outbox { self.new.outbox ≡ self.old.outbox }
         ensures failures { self.new.failures ≡ self.old.failures }
+        ensures asks { self.new.asking ≡ self.old.asking }
     {
         let wait = if were_left {
             Duration::ZERO
@@ -322,16 +344,15 @@ impl<'a, R: ReadyNet + Log + Elapsing + Wait, S: ServiceSocket> Turns<'a, R, S> 
         self.sockets.wait(&mut self.events, wait)
     }
 
-    /// Waits for events, and handles them. It does not wait if the last turn left datagrams. Returns whether more datagrams may
-    /// be there.
+    /// Waits for events, and handles them. It does not wait if the last turn left datagrams.
     pub fn turn<D: Numbered, C: Clock, G: Rng>(
         &mut self,
         desk: &mut D,
         questions: &mut Questions<D, C, G, R, S>,
         inbox: &mut Inbox<S>,
         were_left: bool,
-    ) -> io::Result<bool>
-        ensures drained { IfOk result (λ more. more ≡ false → S.drained) }
+    ) -> io::Result<Turned>
+        ensures drained { IfOk result (λ turned. turned.more ≡ false → S.drained) }
         ensures goes_on { GoesOn S.takes S.sends questions.old self.old questions.new self.new }
         ensures sent { self.old.outbox.waiting ≡ [] → self.new.outbox.waiting ≡ [] }
         ensures runs { Runs S.takes S.sends questions.old self.old questions.new self.new }
@@ -340,7 +361,8 @@ impl<'a, R: ReadyNet + Log + Elapsing + Wait, S: ServiceSocket> Turns<'a, R, S> 
         self.wait(questions, were_left)?;
         self.go_on(desk, questions);
         // The event of the service's socket may come after those of many replies.
-        self.take_datagrams(desk, questions, inbox)
+        let more = self.take_datagrams(desk, questions, inbox)?;
+        Ok(Turned { more })
     }
 }
 
@@ -376,11 +398,8 @@ pub(crate) fn look_all<
     desk: &mut D,
     questions: &mut Flight<D, SocketLine<R>, C, G, K>,
 )
-    ensures accounted { IsAccounted 0 (outstanding questions.old) sockets.old.counts (outstanding questions.new) sockets.new.counts }
-    ensures ends { Ends K.sent B.posts 0 (outstanding questions.old) sockets.old.outbox (outstanding questions.new) sockets.new.outbox }
-    ensures no_more { outstanding questions.new ≤ outstanding questions.old }
-    ensures bounded { IsBounded questions.old → IsBounded questions.new }
-    ensures limit { questions.new.limit ≡ questions.old.limit }
+    ensures go_on { QuestionsGoOn K.sent (PostsBy B.posts) questions.old sockets.old.counts (sockets_of sockets.old)
+        questions.new sockets.new.counts (sockets_of sockets.new) }
     ensures in_time { sockets.new.counts.expired ≡ sockets.old.counts.expired }
     ensures read { AreRead R.passed clock.old clock.new }
     ensures looked { AllLookedAt (items events.now) questions.old sockets.old.counts questions.new sockets.new.counts }
@@ -412,12 +431,9 @@ pub(crate) fn begin_anew<
 )
     requires patient { IsPatient PATIENCE now questions.old }
     requires timely { IsTimely QUESTION_PATIENCE now questions.old }
-    ensures accounted { IsAccounted 0 (outstanding questions.old) sockets.old.counts (outstanding questions.new) sockets.new.counts }
-    ensures ends { Ends K.sent B.posts 0 (outstanding questions.old) sockets.old.outbox (outstanding questions.new) sockets.new.outbox }
+    ensures go_on { QuestionsGoOn K.sent (PostsBy B.posts) questions.old sockets.old.counts (sockets_of sockets.old)
+        questions.new sockets.new.counts (sockets_of sockets.new) }
     ensures joins_none { JoinsNone questions.old questions.new }
-    ensures no_more { outstanding questions.new ≤ outstanding questions.old }
-    ensures bounded { IsBounded questions.old → IsBounded questions.new }
-    ensures limit { questions.new.limit ≡ questions.old.limit }
     ensures patient { IsPatient PATIENCE now questions.new }
     ensures timely { IsTimely QUESTION_PATIENCE now questions.new }
     ensures latest { questions.new.latest ≤ max now questions.old.latest }

@@ -7,6 +7,7 @@ ghost use Rattle.front_workers.specs.Working.{HasFailed};
 ghost use Rattle.flight.specs.Bounds.{IsBounded};
 ghost use Rattle.flight.specs.Waiting.{FlightState};
 ghost use Rattle.flight_sockets.specs.Accounts.{Accounts, KeepsTime, fresh_worker};
+ghost use Rattle.flight_sockets.specs.Asking.{asking_at};
 ghost use Rattle.flight_sockets.specs.Begun.{Runs, none_in_flight};
 
 use crate::asking::Asking;
@@ -29,7 +30,7 @@ use std::marker::Model;
 use std::sync::Wait;
 use std::time::Instant;
 
-/// A worker that takes datagrams. Contracts see its port of name servers, its counters, its clock, the socket of the service, and
+/// A worker that takes datagrams. Contracts see how it asks name servers, its counters, its clock, the socket of the service, and
 /// the replies that wait to be sent by it.
 #[derive(Drop)]
 pub struct UdpWorker<'a, R, S: ServiceSocket = UdpSocket> {
@@ -56,7 +57,7 @@ impl<'a, R: ReadyNet + Log + Elapsing + Wait, S: ServiceSocket> UdpWorker<'a, R,
         seed: u64,
         start: Instant,
     ) -> Result<UdpWorker<'a, R, S>, NoMemory>
-        ensures { IfOk result (λ worker. worker ≡ fresh_worker listener.socket asking.entry.server_port start) }
+        ensures { IfOk result (λ worker. worker ≡ fresh_worker listener.socket (asking_at listener.place asking.entry) start) }
     {
         Ok(UdpWorker {
             inbox: Inbox::new(alloc)?,
@@ -98,6 +99,8 @@ pub fn fly_udp<
     // is within its bound. No exchange began later than the clock says.
     ensures runs { (flight : FlightState) × Runs S.takes S.sends (none_in_flight limit) worker.old flight worker.new × IsBounded flight
         × KeepsTime worker.old.clock (none_in_flight limit) worker.new.clock flight }
+    // It asked name servers in one way throughout.
+    ensures asks { worker.new.asking ≡ worker.old.asking }
     // No reply waits at the end.
     ensures unsent { worker.old.outbox.waiting ≡ [] → worker.new.outbox.waiting ≡ [] }
     ensures ended { result ≡ Ended → F.stopped }
@@ -114,8 +117,8 @@ pub fn fly_udp<
             .turns
             .turn(desk, &mut questions, &mut worker.inbox, more);
         match turned {
-            Ok(left) => {
-                more = left;
+            Ok(turned) => {
+                more = turned.has_more();
                 failed = 0;
             }
             Err(error) => {

@@ -1,7 +1,7 @@
 //! The permits of one worker's exchanges.
 
 use crate::limit::MOST_EXCHANGES;
-use crate::permits::Permits;
+use crate::permits::{COUNTERS, NoPermit, Permit, Permits};
 use dns_text::NoMemory;
 use std::alloc::Global;
 
@@ -47,19 +47,23 @@ impl<'a> WorkerPermits<'a> {
         })
     }
 
-    /// Asks for a permit for the exchange of a query, under this key. If none is free, the exchange waits. Returns whether it may begin.
-    pub fn ask(&mut self, key: usize, query: &[u8]) -> bool {
+    /// Asks for a permit for the exchange of a query, under this key. If none is free, the exchange waits. Beyond the last key no permit
+    /// is counted.
+    pub fn ask(&mut self, key: usize, query: &[u8]) -> Result<Permit, NoPermit> {
         let Some(stand) = self.stands.get_mut(key) else {
-            return true;
+            return self.permits.take(COUNTERS);
         };
-        let counter = self.permits.counter_of(query);
-        if self.permits.take(counter) {
-            *stand = Stand::Holds(counter);
-            return true;
+        match self.permits.take(self.permits.counter_of(query)) {
+            Ok(permit) => {
+                *stand = Stand::Holds(permit.counter());
+                Ok(permit)
+            }
+            Err(refused) => {
+                *stand = Stand::Waits(refused.counter());
+                self.waiting = self.waiting.saturating_add(1);
+                Err(refused)
+            }
         }
-        *stand = Stand::Waits(counter);
-        self.waiting = self.waiting.saturating_add(1);
-        false
     }
 
     /// Ends the exchange under a key. If it holds a permit, it gives it back.

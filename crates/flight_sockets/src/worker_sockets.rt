@@ -6,21 +6,23 @@ ghost use Rattle.std.specs.Option.{option_copied};
 ghost use Rattle.dns_sockets.specs.Moments.{millis_at};
 ghost use Rattle.dns_sockets.specs.Own.{MayAskServer};
 ghost use Rattle.dns_sockets.specs.Withheld.{IsWithheld};
+ghost use Rattle.dns_wire.specs.declared.server.query.Asked.TheVariants.{Drop};
+ghost use Rattle.dns_wire.specs.Server.Asking.{AsksFor};
 ghost use Rattle.front_workers.specs.declared.limits.TheConstants.{MOST_MESSAGE};
 ghost use Rattle.front_workers.specs.Serves.{fault_octets, most_octets};
-ghost use Rattle.flight.specs.declared.outside.Listened.TheVariants.{Anew, Nothing};
 ghost use Rattle.flight.specs.Counted.{CountsAbandoned, CountsExpired, CountsListened, CountsOpened, CountsSettled, no_counts};
 ghost use Rattle.flight.specs.Flight.{query_to};
 ghost use Rattle.flight.specs.Told.{octets_of, IsHeard, Keeps};
-ghost use Rattle.flight_sockets.specs.Exchanges.{IsNotToBeHad, IsQuiet};
+ghost use Rattle.flight_sockets.specs.Exchanges.{IsNotToBeHad, TellsOf};
 ghost use Rattle.flight_sockets.specs.Endings.{IsTooLong, Refuses};
 ghost use Rattle.flight_sockets.specs.Begun.{arrived, fronts_of};
 ghost use Rattle.flight_sockets.specs.Connections.{Tends};
+ghost use Rattle.flight_sockets.specs.Hashing.{IsSeeded};
 ghost use Rattle.flight_sockets.specs.Moves.{AllMoved, datagram_to};
 ghost use Rattle.flight_sockets.specs.Outgoing.{Posts};
 ghost use Rattle.flight_sockets.specs.Pauses.{others_in, HeedsPause, IsPassedOver, Loses, NotesHeard};
 ghost use Rattle.flight_sockets.specs.Refusals.{IsLeftAlone, LooksUpList, NotesAnswer, list_of_strangers};
-ghost use Rattle.flight_sockets.specs.Replies.{MayCome};
+ghost use Rattle.flight_sockets.specs.Replies.{IsTooDear, MayCome};
 ghost use Rattle.flight_sockets.specs.declared.inbox.TheConstants.{BATCH};
 
 use crate::asking::Asking;
@@ -31,6 +33,7 @@ use crate::noting::note_heard;
 use crate::others::others_of;
 use crate::outbox::Outbox;
 use crate::pauses::Pauses;
+use crate::permits::Permit;
 use crate::refusals::Refusals;
 use crate::refused_zones::list_of_strangers;
 use crate::reply_sender::ReplySender;
@@ -117,6 +120,9 @@ pub(crate) struct WorkerSockets<'a, R, B> {
 }
 
 impl<'a, R: Log, B: Drop> WorkerSockets<'a, R, B> {
+    ghost use Rattle.flight_sockets.specs.Asking.{asking_at};
+    ghost use Rattle.flight_sockets.specs.Sockets.{asking_of};
+
     /// The sockets of a worker whose service listens at `place`. Strangers do not know the seed.
     pub fn new(
         rt: &'a R,
@@ -128,9 +134,11 @@ impl<'a, R: Log, B: Drop> WorkerSockets<'a, R, B> {
         asking: Asking<'a>,
         seed: u64,
     ) -> Result<WorkerSockets<'a, R, B>, NoMemory>
-        ensures port { IfOk result (λ sockets. sockets.server_port ≡ asking.entry.server_port) }
+        ensures asks { IfOk result (λ sockets. asking_of sockets ≡ asking_at place asking.entry) }
         ensures counts { IfOk result (λ sockets. sockets.counts ≡ no_counts) }
         ensures outbox { IfOk result (λ sockets. sockets.outbox ≡ outbox) }
+        ensures seed { IfOk result (λ sockets. IsSeeded seed sockets.pauses.servers × IsSeeded seed sockets.pauses.questions
+            × IsSeeded seed sockets.refusals.zones) }
     {
         Ok(WorkerSockets {
             rt,
@@ -157,7 +165,7 @@ impl<'a, R: Log, B: Drop> WorkerSockets<'a, R, B> {
     /// be tried anew, it forgets which were silent.
     pub fn set_now<T>(&mut self, clock: &MonotonicClock<'_, T>)
         ensures now { self.new.moment ≡ millis_at clock.now.last }
-        ensures port { self.new.server_port ≡ self.old.server_port }
+        ensures asks { asking_of self.new ≡ asking_of self.old }
         ensures counts { self.new.counts ≡ self.old.counts }
         ensures kept { self.new.outbox ≡ self.old.outbox }
     {
@@ -179,19 +187,21 @@ impl<'a, R: Log, B: Drop> WorkerSockets<'a, R, B> {
 
     /// The key of an exchange that waits for a permit which is free by now.
     pub fn next_permitted(&mut self) -> Option<usize>
-        ensures port { self.new.server_port ≡ self.old.server_port }
+        ensures asks { asking_of self.new ≡ asking_of self.old }
         ensures counts { self.new.counts ≡ self.old.counts }
         ensures kept { self.new.outbox ≡ self.old.outbox }
     {
         self.permits.next(self.moment)
     }
 
-    /// Sends SERVFAIL to the client of a query that would take too long to read.
+    /// Sends SERVFAIL to the client of a query that would take too long to read. Other octets, and responses, never get it.
     pub fn refuse_dear<K: Client>(&mut self, client: K, octets: &[u8])
     where
         B: ReplySender<K>,
-        requires header { 12 ≤ length octets.now }
-        ensures port { self.new.server_port ≡ self.old.server_port }
+        requires own { K.sent client octets.now }
+        requires dear { IsTooDear octets.now }
+        requires owed { ¬ (AsksFor octets.now Drop) }
+        ensures asks { asking_of self.new ≡ asking_of self.old }
         ensures settled { CountsSettled self.old.counts self.new.counts }
         ensures posts { B.posts self.old.outbox client (fault_octets octets.now 2) self.new.outbox }
     {
@@ -202,7 +212,7 @@ impl<'a, R: Log, B: Drop> WorkerSockets<'a, R, B> {
 
     /// Waits until a socket reports something, but no longer than this.
     pub fn wait(&mut self, events: &mut Events, most: Duration) -> io::Result<()>
-        ensures port { self.new.server_port ≡ self.old.server_port }
+        ensures asks { asking_of self.new ≡ asking_of self.old }
         ensures counts { self.new.counts ≡ self.old.counts }
         ensures kept { self.new.outbox ≡ self.old.outbox }
     {
@@ -215,7 +225,7 @@ impl<'a, R: Log, B: Drop> WorkerSockets<'a, R, B> {
         B: ReplySender<K>,
         requires short { length (octets_of reply) ≤ most_octets (K.over client) }
         ensures posts { B.posts self.old.outbox client (octets_of reply) self.new.outbox }
-        ensures port { self.new.server_port ≡ self.old.server_port }
+        ensures asks { asking_of self.new ≡ asking_of self.old }
         ensures counts { self.new.counts ≡ self.old.counts }
     {
         self.tally.reply(reply.as_slice());
@@ -245,10 +255,12 @@ impl<'a, R: Log, B: Drop> WorkerSockets<'a, R, B> {
 }
 
 impl<'a, R: Log, S: ClientStream> WorkerSockets<'a, R, TcpFront<S>> {
+    ghost use Rattle.flight_sockets.specs.Sockets.{asking_of};
+
     /// Begins the connection of a client at this address.
     pub fn begin_connection(&mut self, stream: S, peer: SocketAddr)
         ensures tends { Tends S.reads S.writes self.old.outbox self.new.outbox }
-        ensures port { self.new.server_port ≡ self.old.server_port }
+        ensures asks { asking_of self.new ≡ asking_of self.old }
         ensures counts { self.new.counts ≡ self.old.counts }
     {
         self.outbox
@@ -257,10 +269,12 @@ impl<'a, R: Log, S: ClientStream> WorkerSockets<'a, R, TcpFront<S>> {
 }
 
 impl<'a, R: Log, S: ServiceSocket> WorkerSockets<'a, R, Outbox<S>> {
+    ghost use Rattle.flight_sockets.specs.Sockets.{asking_of};
+
     /// Sends a reply with the next batch, or at once if there is no memory for it to wait.
     fn send(&mut self, peer: SocketAddr, reply: ReplyOctets)
         ensures posts { Posts S.takes S.sends [] (datagram_to peer (octets_of reply) ∷ []) self.old.outbox self.new.outbox }
-        ensures port { self.new.server_port ≡ self.old.server_port }
+        ensures asks { asking_of self.new ≡ asking_of self.old }
         ensures counts { self.new.counts ≡ self.old.counts }
     {
         self.tally.reply(reply.as_slice());
@@ -271,7 +285,7 @@ impl<'a, R: Log, S: ServiceSocket> WorkerSockets<'a, R, Outbox<S>> {
     pub fn flush(&mut self)
         ensures none { self.new.outbox.waiting ≡ [] }
         ensures posts { Posts S.takes S.sends [] [] self.old.outbox self.new.outbox }
-        ensures port { self.new.server_port ≡ self.old.server_port }
+        ensures asks { asking_of self.new ≡ asking_of self.old }
         ensures counts { self.new.counts ≡ self.old.counts }
     {
         self.outbox.flush(self.rt);
@@ -280,10 +294,11 @@ impl<'a, R: Log, S: ServiceSocket> WorkerSockets<'a, R, Outbox<S>> {
     /// Takes the datagrams that are there into an empty inbox, until it is full. Returns whether there may be more.
     pub fn receive(&mut self, inbox: &mut Inbox<S>) -> io::Result<bool>
         requires empty { inbox.old.filled ≡ 0 }
-        ensures took { AllMoved S.takes (fronts_of (map (λ slot. arrived slot.came slot.room) (take inbox.new.filled inbox.new.slots.items)))
+        ensures took { AllMoved S.takes
+            (fronts_of (map (λ slot. arrived slot.came slot.room) (take inbox.new.filled inbox.new.slots.items)))
             self.old.outbox.socket self.new.outbox.socket }
         ensures waiting { self.new.outbox.waiting ≡ self.old.outbox.waiting }
-        ensures port { self.new.server_port ≡ self.old.server_port }
+        ensures asks { asking_of self.new ≡ asking_of self.old }
         ensures counts { self.new.counts ≡ self.old.counts }
         ensures drained { IfOk result (λ more. more ≡ false → S.drained) }
         ensures full { IfOk result (λ more. more ≡ true → S.interrupted ⊎ (inbox.new.filled ≡ BATCH)) }
@@ -297,7 +312,7 @@ impl<'a, R: Log, S: ServiceSocket> WorkerSockets<'a, R, Outbox<S>> {
         requires header { 12 ≤ length front.now }
         requires came { ∥ IsTooLong S.takes peer front.now ∥₁ }
         ensures refuses { Refuses S.takes S.sends peer front.now self.old.outbox self.new.outbox }
-        ensures port { self.new.server_port ≡ self.old.server_port }
+        ensures asks { asking_of self.new ≡ asking_of self.old }
         ensures counts { self.new.counts ≡ self.old.counts }
     {
         if wants_reply(front) {
@@ -309,9 +324,12 @@ impl<'a, R: Log, S: ServiceSocket> WorkerSockets<'a, R, Outbox<S>> {
 }
 
 impl<'a, R: ReadyNet + Log, B: Drop> WorkerSockets<'a, R, B> {
-    /// Begins an exchange, which has its permit. Returns `None` if it could not begin.
+    ghost use Rattle.flight_sockets.specs.Sockets.{sockets_of};
+
+    /// Begins an exchange, for its permit. Returns `None` if it could not begin.
     fn begin(
         &mut self,
+        permit: Permit,
         key: usize,
         server: &Addr,
         list: Option<Shared<Servers>>,
@@ -323,7 +341,7 @@ impl<'a, R: ReadyNet + Log, B: Drop> WorkerSockets<'a, R, B> {
         ensures sent { IfSome result (λ line. line.waits ≡ false) }
         ensures opened { OnSome result (CountsOpened self.old.counts self.new.counts) }
         ensures unopened { IfNone result (self.new.counts ≡ self.old.counts) }
-        ensures keeps { Keeps (λ sockets. sockets.server_port) (λ sockets. sockets.outbox) self.old self.new }
+        ensures keeps { Keeps (λ sockets. sockets.server_port) sockets_of self.old self.new }
         ensures may_ask { OnSome result (MayAskServer R.Datagrams.opened R.Datagrams.is_at R.Connection.connected R.Connection.is_at
             over self.old.place server.now) }
         ensures failed { IfNone result (IsNotToBeHad R.failed R.Datagrams.opened R.Datagrams.is_at R.Datagrams.failed
@@ -333,7 +351,7 @@ impl<'a, R: ReadyNet + Log, B: Drop> WorkerSockets<'a, R, B> {
         self.tally.ask(over);
         let asked = query.share();
         match SocketLine::open(
-            OneSocket::new(self.rt),
+            OneSocket::new(self.rt, permit),
             self.alloc,
             self.poll.registry(),
             Token(key),
@@ -360,7 +378,7 @@ impl<'a, R: ReadyNet + Log, B: Drop> WorkerSockets<'a, R, B> {
     /// Counts and logs what was heard of an exchange, and gives its permit back if it has ended.
     fn tell_heard(&mut self, heard: &Listened, line: &SocketLine<R>)
         ensures counts { self.new.counts ≡ self.old.counts }
-        ensures keeps { Keeps (λ sockets. sockets.server_port) (λ sockets. sockets.outbox) self.old self.new }
+        ensures keeps { Keeps (λ sockets. sockets.server_port) sockets_of self.old self.new }
         ensures unnoted { (self.new.pauses ≡ self.old.pauses) × (self.new.refusals ≡ self.old.refusals) }
         ensures moment { self.new.moment ≡ self.old.moment }
     {
@@ -383,15 +401,19 @@ impl<'a, D: Numbered, C: Clock, R: ReadyNet + Log + Wait, K: Client, B: ReplySen
     C,
     K,
 > for WorkerSockets<'a, R, B> {
+    ghost use Rattle.flight_sockets.specs.Asking.{PostsBy, SocketsState};
+    ghost use Rattle.flight_sockets.specs.Sockets.{sockets_of};
+
     ghost server_port = { λ sockets. sockets.server_port };
 
     ghost counts = { λ sockets. sockets.counts };
 
-    ghost Sending = { B };
+    // With the outbox, how the worker asks name servers: no call changes that.
+    ghost Sending = { SocketsState B };
 
-    ghost outbox = { λ sockets. sockets.outbox };
+    ghost outbox = { sockets_of };
 
-    ghost posts = { B.posts };
+    ghost posts = { PostsBy B.posts };
 
     fn server_port(&self) -> u16 {
         self.server_port
@@ -425,7 +447,7 @@ impl<'a, D: Numbered, C: Clock, R: ReadyNet + Log + Wait, K: Client, B: ReplySen
         ensures opened { OnSome result (CountsOpened self.old.counts self.new.counts) }
         ensures unopened { IfNone result (self.new.counts ≡ self.old.counts) }
         ensures unanswered { IfNone result (Unit {0}) }
-        ensures keeps { Keeps (λ sockets. sockets.server_port) (λ sockets. sockets.outbox) self.old self.new }
+        ensures keeps { Keeps (λ sockets. sockets.server_port) sockets_of self.old self.new }
         ensures may_ask { IfSome result (λ line. ¬ (IsWithheld self.old.do_not_query.now server.now (option_copied hunt.entry))
             × LooksUpList server.now over (list_of_strangers (option_copied hunt.entry)) self.old.moment self.old.refusals
             × (line.waits ≡ false → MayAskServer R.Datagrams.opened R.Datagrams.is_at R.Connection.connected R.Connection.is_at
@@ -450,17 +472,21 @@ impl<'a, D: Numbered, C: Clock, R: ReadyNet + Log + Wait, K: Client, B: ReplySen
             return None;
         }
         let shared = list.and_then(|list| list.share().ok());
-        if !self.permits.ask(key, octets) {
-            self.tally.put_off();
-            return Some(SocketLine::waiting(
-                Token(key),
-                server,
-                over,
-                shared,
-                query,
-                &mut self.counts,
-            ));
-        }
+        let permit = match self.permits.ask(key, octets) {
+            Ok(permit) => permit,
+            Err(refused) => {
+                self.tally.put_off();
+                return Some(SocketLine::waiting(
+                    refused,
+                    Token(key),
+                    server,
+                    over,
+                    shared,
+                    query,
+                    &mut self.counts,
+                ));
+            }
+        };
         if !self.pauses.lets_through(
             self.alloc,
             server,
@@ -472,22 +498,23 @@ impl<'a, D: Numbered, C: Clock, R: ReadyNet + Log + Wait, K: Client, B: ReplySen
             self.permits.end(key);
             return None;
         }
-        self.begin(key, server, shared, over, query)
+        self.begin(permit, key, server, shared, over, query)
     }
 
     fn hear(&mut self, line: &mut SocketLine<R>) -> Listened
-        // As for any `Outside`. Also, nothing is heard only of a quiet exchange, and a server that answered is not passed
-        // over any more.
+        // As for any `Outside`. Also, what is told of the exchange is so, and a server that answered is not passed over any more.
         ensures heard { IsHeard (MayCome R.Datagrams.opened R.Datagrams.sent R.Datagrams.came
             R.Connection.connected R.Connection.contents R.Connection.remaining line.old.asked) result }
         ensures asked { line.new.asked ≡ line.old.asked }
         ensures watched { line.new.token.0 ≡ line.old.token.0 }
         ensures listened { CountsListened result self.old.counts self.new.counts }
-        ensures keeps { Keeps (λ sockets. sockets.server_port) (λ sockets. sockets.outbox) self.old self.new }
-        ensures nothing { result ≡ Nothing → IsQuiet R.Datagrams.sent R.Datagrams.drained R.Datagrams.reported_again line.old }
+        ensures keeps { Keeps (λ sockets. sockets.server_port) sockets_of self.old self.new }
+        ensures tells { TellsOf
+            (MayCome R.Datagrams.opened R.Datagrams.sent R.Datagrams.came
+            R.Connection.connected R.Connection.contents R.Connection.remaining line.old.asked)
+            R.Datagrams.sent R.Datagrams.came R.Datagrams.drained R.Datagrams.reported_again R.Datagrams.failed result line.old }
         ensures refusals { NotesAnswer result line.old.asked.server line.old.asked.over line.old.zone
             self.old.moment self.old.refusals self.new.refusals }
-        ensures anew { result ≡ Anew → line.old.waits ≡ true }
         ensures pauses { NotesHeard result line.new.flaw line.old.asked.server line.old.asked.over line.old.asked.query
             self.old.moment self.old.pauses self.new.pauses }
     {
@@ -517,7 +544,7 @@ impl<'a, D: Numbered, C: Clock, R: ReadyNet + Log + Wait, K: Client, B: ReplySen
     fn expire(&mut self, line: SocketLine<R>)
         // As for any `Outside`. Also, the server let a query go unanswered, unless none was sent.
         ensures expired { CountsExpired self.old.counts self.new.counts }
-        ensures keeps { Keeps (λ sockets. sockets.server_port) (λ sockets. sockets.outbox) self.old self.new }
+        ensures keeps { Keeps (λ sockets. sockets.server_port) sockets_of self.old self.new }
         ensures unsent { line.waits ≡ true → self.new.pauses ≡ self.old.pauses }
         ensures pauses { line.waits ≡ false
             → Loses line.asked.server line.asked.over line.asked.query self.old.moment self.old.pauses self.new.pauses }
@@ -541,7 +568,7 @@ impl<'a, D: Numbered, C: Clock, R: ReadyNet + Log + Wait, K: Client, B: ReplySen
     fn abandon(&mut self, line: SocketLine<R>)
         // As for any `Outside`. Also, nothing is noted of the server.
         ensures abandoned { CountsAbandoned self.old.counts self.new.counts }
-        ensures keeps { Keeps (λ sockets. sockets.server_port) (λ sockets. sockets.outbox) self.old self.new }
+        ensures keeps { Keeps (λ sockets. sockets.server_port) sockets_of self.old self.new }
         ensures unnoted { (self.new.pauses ≡ self.old.pauses) × (self.new.refusals ≡ self.old.refusals) }
     {
         self.permits.end(line.key());

@@ -7,17 +7,18 @@ use mio::{Registry, Token};
 use std::io;
 use std::net::SocketAddr;
 
-/// The right to open one socket to a server. It cannot be cloned, and opening a socket consumes it. An exchange that begins gets one, so
-/// its query leaves by no second socket.
+/// The right to open one socket to a server, for which a permit was given up. It cannot be cloned, and opening a socket consumes it. An
+/// exchange that begins gets one, so its query leaves by no second socket.
 #[derive(Drop)]
-pub struct OneSocket<'a, N> {
+pub struct OneSocket<'a, N, P> {
     net: &'a N,
+    permit: P,
 }
 
-impl<'a, N: ReadyNet> OneSocket<'a, N> {
-    /// The right to open one socket of this network.
-    pub fn new(net: &'a N) -> OneSocket<'a, N> {
-        OneSocket { net }
+impl<'a, N: ReadyNet, P: Drop> OneSocket<'a, N, P> {
+    /// The right to open one socket of this network, for this permit. If a permit cannot be cloned either, there is one socket for each.
+    pub fn new(net: &'a N, permit: P) -> OneSocket<'a, N, P> {
+        OneSocket { net, permit }
     }
 
     /// Opens a socket for datagrams, as `ReadyNet` does.

@@ -4,6 +4,7 @@ ghost use Rattle.std.specs.Prelude.{◌≡◌, ℕ, List, ◌≤◌, length, tak
 ghost use Rattle.std.specs.IoError.{error_kind};
 ghost use Rattle.std.specs.declared.net.SocketAddr.{SocketAddr};
 ghost use Rattle.mio.specs.declared.token.Token.{Token};
+ghost use Rattle.dns_sockets.specs.Datagrams.{StaysAs};
 ghost use Rattle.dns_sockets.specs.Failures.{IsFailure};
 
 use crate::name_servers::drawn_port::bind_for;
@@ -33,8 +34,14 @@ pub trait ReadySocket: Drop {
     /// A datagram came to it.
     ghost came: { Self → List ℕ → Type 0 };
 
+    /// Exactly one datagram was taken from it, which is this one: the socket before, the octets, the socket after.
+    ghost takes: { Self → List ℕ → Self → Type 0 };
+
     /// A call found no datagram waiting.
     ghost drained: { Self → Type 0 };
+
+    /// A signal ended a call.
+    ghost interrupted: { Self → Type 0 };
 
     /// The poll reports once more, under this token, the datagrams that came and were not taken.
     ghost reported_again: { Self → Token → Type 0 };
@@ -57,11 +64,15 @@ pub trait ReadySocket: Drop {
         ensures failed { OnErr result (failed self.new) };
 
     /// The next datagram: the number of octets at the front of the room that it fills.
-    fn take_datagram(&self, room: &mut [u8]) -> io::Result<usize>
+    fn take_datagram(&mut self, room: &mut [u8]) -> io::Result<usize>
         ensures within { IfOk result (λ count. count ≤ length room.new) }
-        ensures came { IfOk result (λ count. came self.now (take count room.new)) }
-        ensures drained { IfErr result (λ error. error_kind error ≡ ErrorKind.WouldBlock → drained self.now) }
-        ensures failed { IfErr result (λ error. IsFailure error → failed self.now) };
+        ensures came { IfOk result (λ count. came self.old (take count room.new)) }
+        ensures takes { IfOk result (λ count. takes self.old (take count room.new) self.new) }
+        ensures stays { StaysAs opened reported sent self.old self.new }
+        ensures untaken { OnErr result (self.new ≡ self.old) }
+        ensures drained { IfErr result (λ error. error_kind error ≡ ErrorKind.WouldBlock → drained self.new) }
+        ensures interrupted { IfErr result (λ error. error_kind error ≡ ErrorKind.Interrupted → interrupted self.new) }
+        ensures failed { IfErr result (λ error. IsFailure error → failed self.new) };
 
     /// Makes the poll report once more the datagrams that are there.
     fn report_again(&mut self, registry: &Registry, token: Token) -> io::Result<()>
@@ -148,7 +159,11 @@ impl ReadySocket for UdpSocket {
 
     ghost came = { λ _ _. Unit {0} };
 
+    ghost takes = { λ _ _ _. Unit {0} };
+
     ghost drained = { λ _. Unit {0} };
+
+    ghost interrupted = { λ _. Unit {0} };
 
     ghost reported_again = { λ _ _. Unit {0} };
 
@@ -163,7 +178,7 @@ impl ReadySocket for UdpSocket {
         Ok(())
     }
 
-    fn take_datagram(&self, room: &mut [u8]) -> io::Result<usize> {
+    fn take_datagram(&mut self, room: &mut [u8]) -> io::Result<usize> {
         self.recv(room)
     }
 

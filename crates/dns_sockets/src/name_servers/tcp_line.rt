@@ -47,8 +47,8 @@ impl<S: ReadyConnection> TcpLine<S> {
     /// Begins to connect, watched by the poll. It can open no other connection. It fails if the query is longer than a message may be,
     /// if no memory or no descriptor is left, if the system knows no way to the place, if the address belongs to no host, or if the
     /// service, which listens at `service`, would ask itself.
-    pub fn begin<R: ReadyNet<Connection = S>>(
-        right: OneSocket<'_, R>,
+    pub fn begin<R: ReadyNet<Connection = S>, P: Drop>(
+        right: OneSocket<'_, R, P>,
         alloc: Global,
         registry: &Registry,
         token: Token,

@@ -7,6 +7,8 @@ ghost use Rattle.flight.specs.declared.table.TheConstants.{PATIENCE, QUESTION_PA
 ghost use Rattle.flight.specs.declared.kept.TheConstants.{MOST_AT_REST};
 ghost use Rattle.flight.specs.Bounds.{AllGoOn, Relieves, kept_all};
 ghost use Rattle.flight.specs.Waiting.{EarlyGoOn, FlightState, IsPatient, IsTimely, JoinsNone};
+ghost use Rattle.flight_sockets.specs.Asking.{asking_at};
+ghost use Rattle.flight_sockets.specs.Sockets.{asking_of};
 ghost use Rattle.flight_sockets.specs.Connections.{Tends};
 ghost use Rattle.flight_sockets.specs.Looked.{AllLookedAt, LooksAtAll};
 ghost use Rattle.flight_sockets.specs.Streaming.{BeginsClient, StreamEndsOverdue, StreamGoesOn, fresh_worker};
@@ -57,7 +59,7 @@ const REST: u64 = 1_000;
 /// The questions of a worker that are in flight.
 pub(crate) type Questions<D, C, G, R, S> = Flight<D, SocketLine<R>, C, G, TcpClient<S>>;
 
-/// The state of a worker between its turns. Contracts see its port of name servers, its counters, its clock, what its poll reported last,
+/// The state of a worker between its turns. Contracts see how it asks name servers, its counters, its clock, what its poll reported last,
 /// and the connections of its clients.
 #[derive(Drop)]
 pub(crate) struct TcpTurns<'a, R, S: ClientStream, L> {
@@ -77,12 +79,13 @@ pub(crate) struct TcpTurns<'a, R, S: ClientStream, L> {
 
 impl<'a, R, S: ClientStream, L> Model for TcpTurns<'a, R, S, L> {
     ghost use Rattle.mio.specs.Events.{items};
+    ghost use Rattle.flight_sockets.specs.Sockets.{asking_of};
     ghost use Rattle.flight_sockets.specs.Streaming.{StreamWorker};
 
     ghost Value = { StreamWorker S };
 
     ghost view = { λ turns. record {
-      server_port = turns.sockets.server_port;
+      asking = asking_of turns.sockets;
       taken = turns.taken;
       failures = turns.failures;
       connections = turns.sockets.outbox;
@@ -110,7 +113,7 @@ impl<'a, R: ReadyNet + Log + Elapsing + Wait, S: ClientStream, L: ClientListener
         seed: u64,
         start: Instant,
     ) -> Result<TcpTurns<'a, R, S, L>, NoMemory>
-        ensures { IfOk result (λ turns. turns ≡ fresh_worker asking.entry.server_port start) }
+        ensures { IfOk result (λ turns. turns ≡ fresh_worker (asking_at listener.place asking.entry) start) }
     {
         let TcpPoll {
             poll,
@@ -138,6 +141,7 @@ impl<'a, R: ReadyNet + Log + Elapsing + Wait, S: ClientStream, L: ClientListener
         ensures counts { self.new.counts ≡ self.old.counts }
         ensures connections { self.new.connections ≡ self.old.connections }
         ensures clock { self.new.clock ≡ self.old.clock }
+        ensures asks { self.new.asking ≡ self.old.asking }
     {
         self.failures = self.failures.saturating_add(1);
     }
@@ -150,6 +154,7 @@ impl<'a, R: ReadyNet + Log + Elapsing + Wait, S: ClientStream, L: ClientListener
         ensures counts { self.new.counts ≡ self.old.counts }
         ensures taken { self.new.taken ≡ self.old.taken }
         ensures failures { self.new.failures ≡ self.old.failures }
+        ensures asks { self.new.asking ≡ self.old.asking }
         ensures reported { self.new.reported ≡ self.old.reported }
     {
         let now = self.clock.millis();
@@ -399,6 +404,7 @@ impl<'a, R: ReadyNet + Log + Elapsing + Wait, S: ClientStream, L: ClientListener
         ensures taken { self.new.taken ≡ self.old.taken }
         ensures counts { self.new.counts ≡ self.old.counts }
         ensures failures { self.new.failures ≡ self.old.failures }
+        ensures asks { self.new.asking ≡ self.old.asking }
         ensures onward { self.old.clock.last ≤ self.new.clock.last }
         ensures reported { self.new.reported ≡ self.old.reported }
     {
@@ -417,6 +423,7 @@ impl<'a, R: ReadyNet + Log + Elapsing + Wait, S: ClientStream, L: ClientListener
         ensures counts { self.new.counts ≡ self.old.counts }
         ensures connections { self.new.connections ≡ self.old.connections }
         ensures failures { self.new.failures ≡ self.old.failures }
+        ensures asks { self.new.asking ≡ self.old.asking }
         ensures onward { self.old.clock.last ≤ self.new.clock.last }
     {
         let now = self.clock.millis();
@@ -456,7 +463,7 @@ fn note_events<R: Log, S: ClientStream>(
 ) -> bool
     ensures connections { sockets.new.outbox ≡ sockets.old.outbox }
     ensures counts { sockets.new.counts ≡ sockets.old.counts }
-    ensures port { sockets.new.server_port ≡ sockets.old.server_port }
+    ensures asks { asking_of sockets.new ≡ asking_of sockets.old }
 {
     let mut may_accept = false;
     for event in events.iter() {

@@ -7,6 +7,7 @@ ghost use Rattle.front_workers.specs.Working.{HasFailed};
 ghost use Rattle.flight.specs.Bounds.{IsBounded};
 ghost use Rattle.flight.specs.Waiting.{FlightState, outstanding};
 ghost use Rattle.flight_sockets.specs.Accounts.{KeepsTime};
+ghost use Rattle.flight_sockets.specs.Asking.{asking_at};
 ghost use Rattle.flight_sockets.specs.Begun.{none_in_flight};
 ghost use Rattle.flight_sockets.specs.Streaming.{AreAccounted, StreamRuns, fresh_worker};
 
@@ -29,7 +30,7 @@ use std::marker::Model;
 use std::sync::Wait;
 use std::time::Instant;
 
-/// A worker that takes messages by connections. Contracts see its port of name servers, its counters, its clock, and the connections of
+/// A worker that takes messages by connections. Contracts see how it asks name servers, its counters, its clock, and the connections of
 /// its clients.
 #[derive(Drop)]
 pub struct TcpWorker<'a, R, S: ClientStream = TcpStream, L = TcpListener> {
@@ -62,7 +63,7 @@ impl<'a, R: ReadyNet + Log + Elapsing + Wait, S: ClientStream, L: ClientListener
         seed: u64,
         start: Instant,
     ) -> Result<TcpWorker<'a, R, S, L>, NoMemory>
-        ensures { IfOk result (λ worker. worker ≡ fresh_worker asking.entry.server_port start) }
+        ensures { IfOk result (λ worker. worker ≡ fresh_worker (asking_at listener.place asking.entry) start) }
     {
         Ok(TcpWorker {
             turns: TcpTurns::new(rt, tally, alloc, listener, connections, asking, seed, start)?,
@@ -102,6 +103,8 @@ pub fn fly_tcp<
         × (outstanding flight ≤ limit) × IsBounded flight
         × AreAccounted 0 worker.old.taken worker.old.counts (outstanding flight) worker.new.taken worker.new.counts
         × KeepsTime worker.old.clock (none_in_flight limit) worker.new.clock flight }
+    // It asked name servers in one way throughout.
+    ensures asks { worker.new.asking ≡ worker.old.asking }
     ensures ended { result ≡ Ended → F.stopped }
     ensures failing { result ≡ Failing → HasFailed MOST_FAILURES worker.old.failures worker.new.failures }
 {

@@ -18,6 +18,7 @@ loop-preserved-in-Ok g c =
       bounded = c.turn-turned.ensures.goes_on.bounded before.bounded;
       limit = c.turn-turned.ensures.goes_on.limit ∙ before.limit;
       few = omega arith;
+      asks = c.turn-turned.ensures.goes_on.asking ∙ before.asks;
       counted = not_failed _ _ _ _ before.counted c.turn-turned.ensures.goes_on.failures;
       sent = λ none. c.turn-turned.ensures.sent (before.sent none);
     }
@@ -27,6 +28,10 @@ pub returns-then-failed-eq-MOST_FAILURES-clause-accounts :
 returns-then-failed-eq-MOST_FAILURES-clause-accounts g c =
     let turned = followed _ _ _ _ _ _ c.loop.invariant.so_far c.turn-turned.ensures.goes_on.accounts in
     (_, search rules, failed _ _ _ _ _ turned c.count_failure.ensures.taken c.count_failure.ensures.counts c.count_failure.ensures.outbox)
+
+pub returns-then-failed-eq-MOST_FAILURES-clause-asks :
+    goal.returns-then-failed-eq-MOST_FAILURES-clause-asks
+returns-then-failed-eq-MOST_FAILURES-clause-asks g c = c.count_failure.ensures.asks ∙ c.turn-turned.ensures.goes_on.asking ∙ c.loop.invariant.asks
 
 pub returns-then-failed-eq-MOST_FAILURES-clause-failing :
     goal.returns-then-failed-eq-MOST_FAILURES-clause-failing
@@ -51,6 +56,7 @@ loop-preserved g c =
       bounded = c.turn-turned.ensures.goes_on.bounded before.bounded;
       limit = c.turn-turned.ensures.goes_on.limit ∙ before.limit;
       few = omega (arith, before.few, c.if-failed-eq-MOST_FAILURES.false);
+      asks = c.count_failure.ensures.asks ∙ c.turn-turned.ensures.goes_on.asking ∙ before.asks;
       counted = failed_more _ _ _ _ _ before.counted c.turn-turned.ensures.goes_on.failures c.count_failure.ensures.failures;
       sent = λ none. rw c.count_failure.ensures.outbox (c.turn-turned.ensures.sent (before.sent none));
     }
@@ -70,6 +76,7 @@ loop-init g c =
       bounded = search rules;
       limit = search rules;
       few = search rules;
+      asks = search rules;
       counted = search rules;
       sent = search rules;
     }

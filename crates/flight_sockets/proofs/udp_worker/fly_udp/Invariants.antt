@@ -16,6 +16,7 @@ invariant-loop g l = record {
   bounded : IsBounded l.questions;
   limit : l.questions.limit ≡ l.fn.limit;
   few : l.failed < 16;
+  asks : l.worker-inside.turns.asking ≡ l.fn.worker.asking;
   counted : HasFailed l.failed l.fn.worker.failures l.worker-inside.turns.failures;
   sent : l.fn.worker.outbox.waiting ≡ [] → l.worker-inside.turns.outbox.waiting ≡ [];
 }

@@ -13,7 +13,7 @@ invariant_of-result g c = elim c.match-over.branch [
         is_place = c.place_of-place.ensures;
         at = w.in_ok-begin-in-Udp.ensures.opened;
         reported_as = w.in_ok-begin-in-Udp.ensures.reported;
-        asks = subst (λ octets. g.R.Datagrams.ReadySocket.sent w.in_ok-begin-in-Udp.field-0 octets) same w.in_ok-begin-in-Udp.ensures.sent;
+        asks = subst (λ octets. g.R.Datagrams.ReadySocket.sent w.in_ok-begin-in-Udp.field-0.socket octets) same w.in_ok-begin-in-Udp.ensures.sent;
       })
   | in-Tcp+in_ok-begin-in-Tcp w ↦
       let same : c.as_slice-octets.result.now ≡ c.args.query = c.as_slice-octets.ensures ∙ c.get.ensures in
@@ -31,6 +31,6 @@ invariant_of-result g c = elim c.match-over.branch [
 
 pub returns-clause-may_ask : goal.returns-clause-may_ask
 returns-clause-may_ask g c = elim c.match-over.branch [
-  | in-Udp+in_ok-begin-in-Udp w ↦ rw w.in-Udp.is (c.place_of-place.result, c.place_of-place.ensures, (w.in_ok-begin-in-Udp.field-0, w.in_ok-begin-in-Udp.ensures.opened, w.in_ok-begin-in-Udp.ensures.may_ask))
+  | in-Udp+in_ok-begin-in-Udp w ↦ rw w.in-Udp.is (c.place_of-place.result, c.place_of-place.ensures, (w.in_ok-begin-in-Udp.field-0.socket, w.in_ok-begin-in-Udp.ensures.opened, w.in_ok-begin-in-Udp.ensures.may_ask))
   | in-Tcp+in_ok-begin-in-Tcp w ↦ rw w.in-Tcp.is (c.place_of-place.result, c.place_of-place.ensures, (w.in_ok-begin-in-Tcp.field-0.stream, w.in_ok-begin-in-Tcp.ensures.connected, w.in_ok-begin-in-Tcp.ensures.may_ask))
 ]

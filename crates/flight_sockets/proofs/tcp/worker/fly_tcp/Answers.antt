@@ -24,6 +24,7 @@ loop-init g c =
       bounded = search rules;
       limit = search rules;
       few = search rules;
+      asks = search rules;
       counted = search rules;
     }
 
@@ -40,6 +41,7 @@ loop-preserved-in-Ok g c =
       bounded = goes_on.bounded before.bounded;
       limit = goes_on.limit ∙ before.limit;
       few = omega arith;
+      asks = goes_on.asking ∙ before.asks;
       counted = not_failed _ _ _ _ before.counted goes_on.failures;
     }
 
@@ -56,6 +58,7 @@ loop-preserved-then-lacks_descriptors g c =
       bounded = goes_on.bounded before.bounded;
       limit = goes_on.limit ∙ before.limit;
       few = before.few;
+      asks = goes_on.asking ∙ before.asks;
       counted = subst (λ (n : ℕ). HasFailed c.loop.failed c.args.worker.now.failures n) (sym goes_on.failures) before.counted;
     }
 
@@ -73,6 +76,9 @@ returns-then-failed-eq-MOST_FAILURES-clause-runs g c =
       rw (counted.taken, counted.counts) accounts,
       rw counted.clock (time_then _ _ _ _ _ _ before.time goes_on.time),
     )
+
+pub returns-then-failed-eq-MOST_FAILURES-clause-asks : goal.returns-then-failed-eq-MOST_FAILURES-clause-asks
+returns-then-failed-eq-MOST_FAILURES-clause-asks g c = c.count_failure.ensures.asks ∙ c.turn.ensures.goes_on.asking ∙ c.loop.invariant.asks
 
 pub returns-then-failed-eq-MOST_FAILURES-clause-failing : goal.returns-then-failed-eq-MOST_FAILURES-clause-failing
 returns-then-failed-eq-MOST_FAILURES-clause-failing g c =
@@ -93,5 +99,6 @@ loop-preserved g c =
       bounded = goes_on.bounded before.bounded;
       limit = goes_on.limit ∙ before.limit;
       few = omega (arith, before.few, c.if-failed-eq-MOST_FAILURES.false);
+      asks = counted.asks ∙ goes_on.asking ∙ before.asks;
       counted = failed_more _ _ _ _ _ before.counted goes_on.failures counted.failures;
     }

@@ -6,7 +6,7 @@ use Rattle.flight_sockets.proofs.Posting.{endings_none, posts_none}
 use Rattle.flight_sockets.proofs.turns.Turns.begin_each.Goals as goal
 
 pub loop-slot-init : goal.loop-slot-init
-loop-slot-init g c = record { so_far = stayed _ _ _ (endings_none (posts_none refl) refl) refl refl refl (omega arith); begin = (refl, refl); reported = refl }
+loop-slot-init g c = record { so_far = stayed _ _ _ (endings_none (posts_none refl) refl) refl refl refl refl (omega arith); begin = (refl, refl); reported = refl }
 
 pub loop-slot-preserved : goal.loop-slot-preserved
 loop-slot-preserved g c =

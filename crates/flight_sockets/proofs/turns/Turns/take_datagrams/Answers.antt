@@ -8,7 +8,7 @@ use Rattle.flight_sockets.proofs.turns.Turns.take_datagrams.Goals as goal
 
 pub loop-init : goal.loop-init
 loop-init g c = rw (← c.self.view_is)
-    (record { so_far = stayed _ _ _ (endings_none (posts_none refl) refl) refl refl refl (onward_by _ _ c.millis-begun.ensures.read); ran = goes_on stays (rests _ _ _ refl refl); sent = λ none. none; reported = refl })
+    (record { so_far = stayed _ _ _ (endings_none (posts_none refl) refl) refl refl refl refl (onward_by _ _ c.millis-begun.ensures.read); ran = goes_on stays (rests _ _ _ refl refl); sent = λ none. none; reported = refl })
 
 pub returns-in_err-take_batch-clause-goes_on : goal.returns-in_err-take_batch-clause-goes_on
 returns-in_err-take_batch-clause-goes_on g c = gone_on _ _ _ _ _ _ c.loop.invariant.so_far c.take_batch.ensures.goes_on
@@ -26,7 +26,7 @@ pub returns-then-saturating_sub-ge-MOST_TAKING-clause-goes_on :
     goal.returns-then-saturating_sub-ge-MOST_TAKING-clause-goes_on
 returns-then-saturating_sub-ge-MOST_TAKING-clause-goes_on g c =
     let more = rw (← c.self-in-loop.view_is) at c.take_batch.ensures.goes_on in
-    gone_on _ _ _ _ _ _ c.loop.invariant.so_far (gone_on _ _ _ _ _ _ more (stayed _ _ _ (endings_none (posts_none refl) refl) refl refl refl (onward_by _ _ c.millis-now.ensures.read)))
+    gone_on _ _ _ _ _ _ c.loop.invariant.so_far (gone_on _ _ _ _ _ _ more (stayed _ _ _ (endings_none (posts_none refl) refl) refl refl refl refl (onward_by _ _ c.millis-now.ensures.read)))
 
 pub returns-then-saturating_sub-ge-MOST_TAKING-clause-runs :
     goal.returns-then-saturating_sub-ge-MOST_TAKING-clause-runs
@@ -40,7 +40,7 @@ loop-preserved g c =
     let begun = rw (← c.self-in-loop.view_is) at c.take_batch.ensures.begun in
     let sent = rw (← c.self-in-loop.view_is) at c.take_batch.ensures.sent in
     record {
-      so_far = gone_on _ _ _ _ _ _ c.loop.invariant.so_far (gone_on _ _ _ _ _ _ more (stayed _ _ _ (endings_none (posts_none refl) refl) refl refl refl (onward_by _ _ c.millis-now.ensures.read)));
+      so_far = gone_on _ _ _ _ _ _ c.loop.invariant.so_far (gone_on _ _ _ _ _ _ more (stayed _ _ _ (endings_none (posts_none refl) refl) refl refl refl refl (onward_by _ _ c.millis-now.ensures.read)));
       ran = goes_on (takes_batch c.loop.invariant.ran begun) (rests _ _ _ refl refl);
       sent = λ _. sent;
       reported = (rw (← c.self-in-loop.view_is) at c.take_batch.ensures.reported) ∙ c.loop.invariant.reported;

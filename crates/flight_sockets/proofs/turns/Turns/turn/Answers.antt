@@ -1,5 +1,4 @@
 use Rattle.std.proofs.Common.{refl}
-use Rattle.std.specs.Prelude.{Result, Ok, Err, OnOk}
 use Rattle.flight_sockets.specs.Begun.{goes_on, stays}
 use Rattle.flight_sockets.proofs.Accounting.{gone_on, stayed}
 use Rattle.flight_sockets.proofs.Beginning.{rests, runs_then}
@@ -7,15 +6,10 @@ use Rattle.flight_sockets.proofs.Posting.{endings_none, posts_none}
 use Rattle.flight_sockets.proofs.Reading.{onward_on, read_after}
 use Rattle.flight_sockets.proofs.turns.Turns.turn.Goals as goal
 
--- A fact holds if the result is no error.
-on_ok : {A E : Type 0} {fact : Type 0} (result : Result A E) → fact → OnOk result fact
-on_ok (Ok _) is = is
-on_ok (Err _) is = tt
-
 pub returns-in_err-wait-clause-goes_on : goal.returns-in_err-wait-clause-goes_on
 returns-in_err-wait-clause-goes_on g c =
     let waited = c.wait.ensures in
-    stayed _ _ _ (endings_none (posts_none waited.outbox) refl) waited.taken waited.counts waited.failures (onward_on waited.read)
+    stayed _ _ _ (endings_none (posts_none waited.outbox) refl) waited.taken waited.counts waited.failures waited.asks (onward_on waited.read)
 
 pub returns-in_err-wait-clause-runs : goal.returns-in_err-wait-clause-runs
 returns-in_err-wait-clause-runs g c = goes_on stays (rests _ _ _ c.wait.ensures.outbox c.wait.ensures.taken)
@@ -23,24 +17,33 @@ returns-in_err-wait-clause-runs g c = goes_on stays (rests _ _ _ c.wait.ensures.
 pub returns-clause-goes_on : goal.returns-clause-goes_on
 returns-clause-goes_on g c =
     let waited = c.wait.ensures in
-    gone_on _ _ _ _ _ _ (stayed _ _ _ (endings_none (posts_none waited.outbox) refl) waited.taken waited.counts waited.failures (onward_on waited.read))
+    gone_on _ _ _ _ _ _ (stayed _ _ _ (endings_none (posts_none waited.outbox) refl) waited.taken waited.counts waited.failures waited.asks (onward_on waited.read))
     (gone_on _ _ _ _ _ _ c.go_on.ensures.goes_on c.take_datagrams.ensures.goes_on)
 
 pub returns-clause-runs : goal.returns-clause-runs
 returns-clause-runs g c =
     runs_then (goes_on (goes_on stays (rests _ _ _ c.wait.ensures.outbox c.wait.ensures.taken)) c.go_on.ensures.takes_none) c.take_datagrams.ensures.runs
 
+pub returns-in_err-more-clause-goes_on : goal.returns-in_err-more-clause-goes_on
+returns-in_err-more-clause-goes_on g c =
+    let waited = c.wait.ensures in
+    gone_on _ _ _ _ _ _ (stayed _ _ _ (endings_none (posts_none waited.outbox) refl) waited.taken waited.counts waited.failures waited.asks (onward_on waited.read))
+    (gone_on _ _ _ _ _ _ c.go_on.ensures.goes_on c.take_datagrams.ensures.goes_on)
+
+pub returns-in_err-more-clause-runs : goal.returns-in_err-more-clause-runs
+returns-in_err-more-clause-runs g c =
+    runs_then (goes_on (goes_on stays (rests _ _ _ c.wait.ensures.outbox c.wait.ensures.taken)) c.go_on.ensures.takes_none) c.take_datagrams.ensures.runs
+
 pub returns-clause-overdue : goal.returns-clause-overdue
-returns-clause-overdue g c = on_ok c.take_datagrams.result
-    (record {
-      between = c.go_on.new.questions;
-      mid = c.go_on.new.self;
-      before = goes_on (goes_on stays (rests _ _ _ c.wait.ensures.outbox c.wait.ensures.taken)) c.go_on.ensures.takes_none;
-      read = read_after c.wait.ensures.read c.go_on.ensures.read;
-      patient = c.go_on.ensures.patient;
-      timely = c.go_on.ensures.timely;
-      relieved = c.go_on.ensures.looks.relieved;
-      looks = rw (← c.wait.ensures.counts, c.take_datagrams.ensures.reported, c.go_on.ensures.reported) c.go_on.ensures.looks;
-      listened = c.take_datagrams.ensures.goes_on.accounts.never_fall.listened;
-      after = c.take_datagrams.ensures.runs;
-    })
+returns-clause-overdue g c = record {
+  between = c.go_on.new.questions;
+  mid = c.go_on.new.self;
+  before = goes_on (goes_on stays (rests _ _ _ c.wait.ensures.outbox c.wait.ensures.taken)) c.go_on.ensures.takes_none;
+  read = read_after c.wait.ensures.read c.go_on.ensures.read;
+  patient = c.go_on.ensures.patient;
+  timely = c.go_on.ensures.timely;
+  relieved = c.go_on.ensures.looks.relieved;
+  looks = rw (← c.wait.ensures.counts, c.take_datagrams.ensures.reported, c.go_on.ensures.reported) c.go_on.ensures.looks;
+  listened = c.take_datagrams.ensures.goes_on.accounts.never_fall.listened;
+  after = c.take_datagrams.ensures.runs;
+}

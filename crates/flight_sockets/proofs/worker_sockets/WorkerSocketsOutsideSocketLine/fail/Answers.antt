@@ -9,4 +9,4 @@ pub send_to-requires : goal.send_to-requires
 send_to-requires g c = record { short = rw c.report_of.ensures.short (header_fits (g.K.Client.over c.args.client)) }
 
 pub returns : goal.returns
-returns g c = record { port = search rules; settled = search rules; left = rw c.report_of.ensures.octets at c.send_to.ensures.posts }
+returns g c = record { port = search rules; settled = search rules; left = record { left = rw c.report_of.ensures.octets at c.send_to.ensures.posts; asking = search rules } }

@@ -2,4 +2,4 @@ use Rattle.std.proofs.Common.{rules}
 use Rattle.flight_sockets.proofs.worker_sockets.WorkerSocketsOutsideSocketLine.give.Goals as goal
 
 pub returns : goal.returns
-returns g c = record { port = search rules; settled = search rules; left = c.send_to.ensures.posts }
+returns g c = record { port = search rules; settled = search rules; left = record { left = c.send_to.ensures.posts; asking = search rules } }

@@ -1,5 +1,6 @@
 use Rattle.std.proofs.Common.{refl}
 use Rattle.flight_sockets.specs.Connections.{stays}
+use Rattle.flight_sockets.specs.Sockets.{asking_of}
 use Rattle.flight_sockets.proofs.Serving.{tends_then}
 use Rattle.flight_sockets.proofs.Flowing.{kept_on, stream_of}
 use Rattle.flight_sockets.proofs.tcp.turns.TcpTurns.accept_each.Goals as goal
@@ -20,5 +21,5 @@ loop-preserved g c =
     let went = rw (← c.self-in-loop-2.view_is) at c.accept.ensures.tends in
     let kept = rw (← c.self-in-loop-2.view_is) at c.accept.ensures.kept in
     let inside = c.self-in-loop-2.inside in
-    let last = stream_of inside.sockets.server_port inside.taken inside.failures inside.sockets.outbox inside.sockets.counts inside.clock inside.events.inner.items in
+    let last = stream_of (asking_of inside.sockets) inside.taken inside.failures inside.sockets.outbox inside.sockets.counts inside.clock inside.events.inner.items in
     record { tended = tends_then c.loop.invariant.tended went; kept = kept_on c.args.self.now c.loop.self last c.loop.invariant.kept kept }

@@ -2,6 +2,7 @@ use Rattle.std.proofs.Common.{[], ◌∷◌, Some, refl, arith, rules}
 use Rattle.front_workers.specs.Serves.{fault_octets}
 use Rattle.flight.proofs.Settling.{accounted_settled}
 use Rattle.flight_sockets.proofs.Accounting.{latest_begun, time_at, time_on}
+use Rattle.flight_sockets.proofs.Outboxes.{asking_kept, ends_of}
 use Rattle.flight_sockets.proofs.Flowing.{accounts_one}
 use Rattle.flight_sockets.proofs.tcp.turns.TcpTurns.begin.Goals as goal
 use Rattle.flight_sockets.proofs.tcp.turns.TcpTurns.begin.Goals.{then-octets-gt-MOST_DATAGRAM+then-is_dear+then-wants_reply, else-octets-gt-MOST_DATAGRAM}
@@ -20,13 +21,14 @@ returns g c =
           limit = refl;
           failures = refl;
           time = time_on _ _ _ (omega arith);
+          asking = w.refuse_dear.ensures.asks;
         };
         reported = refl;
       }))
       | else-octets-gt-MOST_DATAGRAM w ↦ rw (w.questions-is, w.self-inside-is) (rw (← c.self.view_is) (record {
         ends = record {
           counted = search rules;
-          ends = w.begin.ensures.settles.ends;
+          ends = ends_of w.begin.ensures.settles.ends;
           own = w.begin.ensures.settles.own;
           accounts = accounts_one _ _ _ _ _ _ (search rules) w.begin.ensures.settles.accounted;
           within = w.begin.ensures.settles.within;
@@ -35,6 +37,7 @@ returns g c =
           failures = refl;
           time = time_at c.last_millis-now.result c.args.questions.now w.begin.new.self c.self.inside.clock (omega (arith, c.last_millis-now.ensures))
               (latest_begun c.last_millis-now.result _ c.args.questions.now w.begin.new.self w.begin.ensures.settles.waits);
+          asking = asking_kept w.begin.ensures.settles.ends;
         };
         reported = refl;
       }))

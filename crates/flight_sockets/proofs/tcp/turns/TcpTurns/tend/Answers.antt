@@ -22,6 +22,11 @@ returns-clause-failures g c =
     ap (λ (worker : StreamWorker _). worker.failures) c.accept_each.ensures.kept ∙ ap (λ (worker : StreamWorker _). worker.failures) c.end_overdue.ensures.kept ∙ c.set_now-now.ensures.failures
     ∙ ap (λ (worker : StreamWorker _). worker.failures) c.note.ensures
 
+pub returns-clause-asks : goal.returns-clause-asks
+returns-clause-asks g c =
+    ap (λ (worker : StreamWorker _). worker.asking) c.accept_each.ensures.kept ∙ ap (λ (worker : StreamWorker _). worker.asking) c.end_overdue.ensures.kept ∙ c.set_now-now.ensures.asks
+    ∙ ap (λ (worker : StreamWorker _). worker.asking) c.note.ensures
+
 pub returns-clause-onward : goal.returns-clause-onward
 returns-clause-onward g c =
     omega (

@@ -11,22 +11,22 @@ on_ok (Err _) is = tt
 pub returns-in_err-wait-clause-goes_on : goal.returns-in_err-wait-clause-goes_on
 returns-in_err-wait-clause-goes_on g c =
     let waited = c.wait.ensures in
-    streams_tend _ _ _ (tends_none waited.connections) waited.taken waited.counts waited.failures waited.onward
+    streams_tend _ _ _ (tends_none waited.connections) waited.taken waited.counts waited.failures waited.asks waited.onward
 
 pub returns-clause-goes_on : goal.returns-clause-goes_on
 returns-clause-goes_on g c =
     let waited = c.wait.ensures in
     let tended = c.tend-tended.ensures in
-    streams_then _ _ _ _ _ _ (streams_tend _ _ _ (tends_none waited.connections) waited.taken waited.counts waited.failures waited.onward)
-    (streams_then _ _ _ _ _ _ c.go_on.ensures.goes_on (streams_then _ _ _ _ _ _ (streams_tend _ _ _ tended.tends tended.taken tended.counts tended.failures tended.onward) c.serve_queued.ensures.goes_on))
+    streams_then _ _ _ _ _ _ (streams_tend _ _ _ (tends_none waited.connections) waited.taken waited.counts waited.failures waited.asks waited.onward)
+    (streams_then _ _ _ _ _ _ c.go_on.ensures.goes_on (streams_then _ _ _ _ _ _ (streams_tend _ _ _ tended.tends tended.taken tended.counts tended.failures tended.asks tended.onward) c.serve_queued.ensures.goes_on))
 
 pub returns-clause-overdue : goal.returns-clause-overdue
 returns-clause-overdue g c =
     let waited = c.wait.ensures in
     let tended = c.tend-tended.ensures in
     let went = c.go_on.ensures in
-    let before = streams_then _ _ _ _ _ _ (streams_tend c.args.questions.now c.args.self.now c.wait.new.self (tends_none waited.connections) waited.taken waited.counts waited.failures waited.onward) went.goes_on in
-    let after = streams_then _ _ _ _ _ _ (streams_tend c.go_on.new.questions c.go_on.new.self c.tend-tended.new.self tended.tends tended.taken tended.counts tended.failures tended.onward) c.serve_queued.ensures.goes_on in
+    let before = streams_then _ _ _ _ _ _ (streams_tend c.args.questions.now c.args.self.now c.wait.new.self (tends_none waited.connections) waited.taken waited.counts waited.failures waited.asks waited.onward) went.goes_on in
+    let after = streams_then _ _ _ _ _ _ (streams_tend c.go_on.new.questions c.go_on.new.self c.tend-tended.new.self tended.tends tended.taken tended.counts tended.failures tended.asks tended.onward) c.serve_queued.ensures.goes_on in
     on_ok c.tend-tended.result
     (record {
       between = c.go_on.new.questions;
