@@ -1,6 +1,6 @@
 //! The world: its face, and the changes that it keeps.
 
-ghost use Rattle.std.specs.Prelude.{◌≡◌, ◌<◌, ℕ, Bool, true, false, List, Option, IfOk, IfErr, IfSome, IfNone, IsOk, OnOk, OnErr, IsErrOf};
+ghost use Rattle.std.specs.Prelude.{◌≡◌, ◌<◌, ◌≤◌, ◌+◌, ◌^◌, ℕ, Bool, true, false, List, Option, IfOk, IfErr, IfSome, IfNone, IsOk, OnOk, OnErr, IsErrOf};
 ghost use Rattle.dns_name.specs.Labels.{Labels};
 ghost use Rattle.dns_text.specs.declared.record.Question.{Question};
 ghost use Rattle.ranked.specs.declared.find.Scope.{Scope};
@@ -69,6 +69,9 @@ pub trait World: Drop {
     /// A bound of what a sweep at a moment has left to do.
     ghost unswept: { Self → ℕ → ℕ };
 
+    /// A bound of what one call of `sweep_some` takes from it, but at the latest moment that a clock can show.
+    ghost turn: { ℕ };
+
     /// The number of the table of a change, by the data that it saved. A change of cells has none.
     fn table(saved: &Self::Saved) -> Option<u8>
         ensures { result ≡ table saved.now };
@@ -105,6 +108,7 @@ pub trait World: Drop {
         ensures counts { IsNoMore newest stored limit counts self.old self.new }
         ensures more { result ≡ true → unswept self.new moment < unswept self.old moment }
         ensures none { result ≡ false → unswept self.new moment ≡ 0 }
+        ensures short { moment + 1 < 2 ^ 64 → unswept self.old moment ≤ unswept self.new moment + turn }
         ensures needed { result ≡ false → AreNeeded counts keeps face moment self.new };
 
     /// Forgets a name: empties its cells, in each face, whichever changes are chosen. Undoing a change does not bring them back.
@@ -135,6 +139,9 @@ pub trait World: Drop {
     ghost reads: { (world : Self) (kept : List (KeptChange Self.Saved)) (chosen other : ℕ → Bool) → keeps world kept →
         Agree chosen other kept →
         (q : Question) → (face world kept chosen).cell q ≡ (face world kept other).cell q };
+
+    /// A law: at a later moment a sweep has no less to do.
+    ghost later: { (world : Self) (s t : ℕ) → s ≤ t → unswept world s ≤ unswept world t };
 
     /// A law: to clear the undone changes, no call is needed. Each face is as before.
     ghost clears: { (world : Self) (kept : List (KeptChange Self.Saved)) → keeps world kept →

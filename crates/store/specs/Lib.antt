@@ -2,6 +2,8 @@ pub mod Sum
 pub mod SumLaws
 pub mod World
 pub mod WorldLaws
+pub mod Kept
+pub mod Sweep
 pub mod Store
 pub mod StoreLaws
 pub mod Command

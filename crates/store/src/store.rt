@@ -77,6 +77,7 @@ impl World for Store {
     ghost use Rattle.store.specs.Store.{store_face, store_shown, table_of, needs_after_of, needs_memory_of, KeepsStore};
     ghost use Rattle.store.specs.StoreLaws.{clears_store, shows_store};
     ghost use Rattle.store.specs.ReadLaws.{reads_store};
+    ghost use Rattle.store.specs.Sweep.{turn_of_sweep, unswept_later};
     ghost use Rattle.store.specs.World.{counts_in, unswept_in};
 
     type Tables = Tables;
@@ -111,7 +112,11 @@ impl World for Store {
 
     ghost unswept = { λ store moment. unswept_in store.cells moment };
 
+    ghost turn = { turn_of_sweep };
+
     ghost shows = { λ world kept chosen h p. shows_store world kept chosen h p };
+
+    ghost later = { λ store s t le. unswept_later store.cells s t le };
 
     fn table(saved: &SavedChange) -> Option<u8> {
         match &saved.way {

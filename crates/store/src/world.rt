@@ -70,6 +70,7 @@ impl ShelfWorld {
     ghost use Rattle.cell_store.specs.Owner.{held_now};
     ghost use Rattle.store.specs.World.{empty_cells};
     ghost use Rattle.world_book.specs.Book.{IsUntouched};
+    ghost use Rattle.store.specs.Kept.{kept_in};
 
     /// An empty cache that may store so many cells. It keeps no flushes, and its index hashes with the fixed seed.
     pub fn new(alloc: Global, limit: u64) -> ShelfWorld
@@ -147,7 +148,8 @@ impl ShelfWorld {
 
     /// How many cells are kept for a question, as `Shelf::kept` counts them: no more than versions.
     pub fn kept(&self, question: &Question) -> usize
-        ensures { result ≤ length self.now.flushes + 1 }
+        ensures value { result ≡ length (kept_in self.now question.now) }
+        ensures few { result ≤ length self.now.flushes + 1 }
     {
         self.shelf.kept(question)
     }
@@ -156,6 +158,7 @@ impl ShelfWorld {
 impl World for ShelfWorld {
     ghost use Rattle.std.specs.Prelude.{true, false, None};
     ghost use Rattle.store.specs.World.{KeepsFlushes, counts_in, face_by, shown_face, unswept_in};
+    ghost use Rattle.store.specs.Sweep.{turn_of_sweep, unswept_later};
     ghost use Rattle.store.specs.WorldLaws.{shows_present, clears_by_word};
     ghost use Rattle.store.specs.ReadLaws.{reads_flushes};
 
@@ -191,7 +194,11 @@ impl World for ShelfWorld {
 
     ghost unswept = { unswept_in };
 
+    ghost turn = { turn_of_sweep };
+
     ghost shows = { λ world kept chosen h p. shows_present world kept chosen h p };
+
+    ghost later = { unswept_later };
 
     ghost reads = { λ world kept chosen other h same q. reads_flushes world kept chosen other h same q };
 

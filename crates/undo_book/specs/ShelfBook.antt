@@ -1,6 +1,10 @@
 -- The book that keeps no history.
-use Rattle.std.specs.Prelude.{ℕ, ◌+◌, length}
+use Rattle.std.specs.Prelude.{ℕ, ◌+◌, List, Option, length}
+use Rattle.dns_text.specs.declared.record.Question.{Question}
+use Rattle.ranked.specs.declared.cell.Admitted.{Admitted}
+use Rattle.ranked.specs.declared.find.Find.{Find}
 use Rattle.cell_store.specs.declared.seed.NameSeed.{NameSeed}
+use Rattle.store.specs.Kept.{kept_in}
 use Rattle.undo_book.specs.declared.shelf_book.ShelfBook.{ShelfBook}
 
 -- the seed with which its cache hashes names
@@ -18,3 +22,7 @@ commands_of book = length book.book.changes.kept
 -- how many versions a place of its cache may have: one for each flush of the journal, and one without them
 abbrev pub versions_of : ShelfBook → ℕ
 versions_of book = length book.book.world.cells.flushes + 1
+
+-- the cells that its cache keeps for a question
+abbrev pub cells_of : ShelfBook → Question → List (Option (Admitted Find))
+cells_of book question = kept_in book.book.world.cells question

@@ -1,9 +1,9 @@
 //! The book that keeps no history: the tables and the cache under a journal of their changes.
 
-ghost use Rattle.std.specs.Prelude.{◌≡◌, ◌≤◌, ◌+◌, ◌^◌, ◌↔◌, [], List, IfOk, IsErr, IsErrOf};
+ghost use Rattle.std.specs.Prelude.{◌≡◌, ◌≤◌, ◌+◌, ◌^◌, ◌↔◌, [], List, length, IfOk, IsErr, IsErrOf};
 ghost use Rattle.history.specs.Event.{AreSettings, lagging_of};
 ghost use Rattle.history.specs.declared.event.Event.{Event};
-ghost use Rattle.undo_book.specs.ShelfBook.{commands_of, names_of, seed_of, versions_of};
+ghost use Rattle.undo_book.specs.ShelfBook.{cells_of, commands_of, names_of, seed_of, versions_of};
 
 use cell_store::NameSeed;
 use dns_name::{Name, NoMemory};
@@ -110,7 +110,8 @@ impl ShelfBook {
 
     /// How many cells its cache keeps for a question: one for each version that differs from the one before.
     pub fn kept(&self, question: &Question) -> usize
-        ensures { result ≤ versions_of self.now }
+        ensures value { result ≡ length (cells_of self.now question.now) }
+        ensures few { result ≤ versions_of self.now }
     {
         self.book.world().cells.kept(question)
     }
@@ -137,12 +138,13 @@ impl ShelfBook {
 
 impl Book for ShelfBook {
     ghost use Rattle.std.proofs.Common.{◌≡◌, ◌<◌, ◌≤◌, List, sym, ◌∙◌};
-    ghost use Rattle.std.specs.Prelude.{◌⊎◌, ℕ, OnOk, OnErr, IfErr, IsErrOf};
+    ghost use Rattle.std.specs.Prelude.{◌⊎◌, ℕ, true, false, OnOk, OnErr, IfErr, IsErrOf};
     ghost use Rattle.dns_name.specs.Labels.{Labels};
     ghost use Rattle.ranked.specs.declared.find.Scope.{Scope};
     ghost use Rattle.history.specs.declared.event.Event.{Event};
     ghost use Rattle.history.specs.Answers.{Answers, Follows, history_after};
     ghost use Rattle.history.specs.History.{past_of};
+    ghost use Rattle.store.specs.Sweep.{turn_of_sweep};
     ghost use Rattle.world_book.specs.Book.{IsByLimit};
     ghost use Rattle.world_book.specs.Versions.{count_pairs, pairs_left, AreAliveAfter, ForgetsOldest};
 
@@ -215,6 +217,10 @@ impl Book for ShelfBook {
         ensures by_limit { IfErr result (λ fault. IsByLimit (⟦<WorldBook<StoreChange> as Book>⟧.stands_for self.old.book)
             (⟦<WorldBook<StoreChange> as Book>⟧.stored self.old.book)
             (⟦<WorldBook<StoreChange> as Book>⟧.settings self.old.book).cells event fault) }
+
+        // A sweep is one turn, so it is short, however much has expired.
+        ensures short { (moment : ℕ) → event ≡ Event.Sweep moment → ⟦<WorldBook<StoreChange> as Book>⟧.unswept self.old.book
+            ≤ ⟦<WorldBook<StoreChange> as Book>⟧.unswept self.new.book + turn_of_sweep }
     {
         match self.book.follow(event) {
             Ok(()) => Ok(()),
@@ -222,7 +228,20 @@ impl Book for ShelfBook {
         }
     }
 
-    fn sweep_some(&mut self) -> bool {
+    fn sweep_some(&mut self) -> bool
+        ensures stands { (h : List Event) → ⟦<WorldBook<StoreChange> as Book>⟧.stands_for self.old.book h →
+            ⟦<WorldBook<StoreChange> as Book>⟧.stands_for self.new.book h }
+        ensures stored { ⟦<WorldBook<StoreChange> as Book>⟧.stored self.new.book ≤ ⟦<WorldBook<StoreChange> as Book>⟧.stored self.old.book }
+        ensures settings { ⟦<WorldBook<StoreChange> as Book>⟧.settings self.new.book
+            ≡ ⟦<WorldBook<StoreChange> as Book>⟧.settings self.old.book }
+        ensures more { result ≡ true →
+            ⟦<WorldBook<StoreChange> as Book>⟧.unswept self.new.book < ⟦<WorldBook<StoreChange> as Book>⟧.unswept self.old.book }
+        ensures none { result ≡ false → ⟦<WorldBook<StoreChange> as Book>⟧.unswept self.new.book ≡ 0 }
+
+        // It is one turn, so it is short, however much has expired.
+        ensures short { ⟦<WorldBook<StoreChange> as Book>⟧.unswept self.old.book
+            ≤ ⟦<WorldBook<StoreChange> as Book>⟧.unswept self.new.book + turn_of_sweep }
+    {
         self.book.sweep_some()
     }
 

@@ -1,5 +1,5 @@
 -- What a book keeps, and which histories it represents.
-use Rattle.std.specs.Prelude.{◌≡◌, ◌≢◌, ◌≤◌, ◌⊎◌, ℕ, Bool, true, List, [], length, count_by, refl, Result, IfErr, OnErr, IsTrue}
+use Rattle.std.specs.Prelude.{◌≡◌, ◌<◌, ◌≤◌, ◌⊎◌, ℕ, Bool, true, List, [], length, count_by, refl, Result, IfErr, OnErr}
 use Rattle.std.specs.Coded.{Coded, code_by, coded×, coded_ℕ}
 use Rattle.change_law.specs.declared.world.World.{Ghosts}
 use Rattle.change_law.specs.Face.{Face, IsSame}
@@ -11,7 +11,7 @@ use Rattle.history.specs.declared.event.Settings.{Settings}
 use Rattle.history.specs.declared.tables.Tables.{Tables}
 use Rattle.history.specs.declared.book.StepFault.{StepFault}
 use Rattle.history.specs.declared.book.StepFault.TheVariants.{BadMoment, CountEnded, Full, NoMemory}
-use Rattle.history.specs.declared.limits.TheConstants.{MOST_EVENTS}
+use Rattle.history.specs.declared.limits.TheConstants.{MOMENT_END, MOST_EVENTS}
 use Rattle.history.specs.Answers.{Follows, TellsLimit, history_after}
 use Rattle.history.specs.Event.{is_admission}
 use Rattle.history.specs.History.{past_of}
@@ -35,11 +35,12 @@ book_code {W} {S} w c s =
     (λ p. record { world = p.0; changes = p.1.0; settings = p.1.1.0; moment = p.1.1.1.0; count = p.1.1.1.1 })
     (λ _. refl)
 
--- No more tickets were given out than events were taken.
+-- No more tickets were given out than events were taken. No event's moment was too late.
 pub record IsWell {W T S D : Type 0} (by : Ghosts W T S D) (book : BookState W S) : Type 0 where
   pub sound : IsSound by book.world book.changes
   pub tickets : book.changes.tickets ≤ book.count
   pub count : book.count ≤ MOST_EVENTS
+  pub early : book.moment < MOMENT_END
 
 -- The book is in the state that the history gives. A command whose undo may need memory removed something when it was given.
 pub record IsBookOf {W S : Type 0} (by : Ghosts W Tables S Command) (book : BookState W S) (history : List Event) : Type 0 where

@@ -1,6 +1,6 @@
 //! A book of a world under a journal of its changes. It keeps no history.
 
-ghost use Rattle.std.specs.Prelude.{◌≡◌, ◌≤◌, [], List, length, IfOk};
+ghost use Rattle.std.specs.Prelude.{◌≡◌, ◌≤◌, ◌+◌, [], List, length, IfOk};
 ghost use Rattle.history.specs.declared.event.Event.{Event};
 ghost use Rattle.world_book.specs.Book.{IsPassed, IsUntouched};
 ghost use Rattle.world_book.specs.Deeds.{empty_face};
@@ -100,7 +100,9 @@ impl<C: BookChange> WorldBook<C> {
 
     /// Takes a sweep whose reply nobody reads. It removes only some of what has expired, so that it is short.
     fn pass_sweep(&mut self, moment: u64) -> Result<(), StepFault>
-        ensures { IsPassed C.World.World self.old (Event.Sweep moment) result self.new }
+        ensures passed { IsPassed C.World.World self.old (Event.Sweep moment) result self.new }
+        ensures short { C.World.unswept self.old.world self.old.moment
+            ≤ C.World.unswept self.new.world self.new.moment + C.World.turn }
     {
         if moment >= MOMENT_END {
             return Err(StepFault::BadMoment);
@@ -210,6 +212,10 @@ impl<C: BookChange> Book for WorldBook<C> {
         // A fault comes from the limit of cells as in `step`.
         ensures by_limit { IfErr result (λ fault. IsByLimit (IsBookOf C.World.World self.old)
             (C.World.stored self.old.world) self.old.settings.cells event fault) }
+
+        // A sweep is one turn, so it is short, however much has expired.
+        ensures short { (moment : ℕ) → event ≡ Event.Sweep moment → C.World.unswept self.old.world self.old.moment
+            ≤ C.World.unswept self.new.world self.new.moment + C.World.turn }
     {
         match event {
             Event::Look { moment, ask } => self.pass_look(moment, &ask),
@@ -231,6 +237,10 @@ impl<C: BookChange> Book for WorldBook<C> {
         ensures more { result ≡ true →
             C.World.unswept self.new.world self.new.moment < C.World.unswept self.old.world self.old.moment }
         ensures none { result ≡ false → C.World.unswept self.new.world self.new.moment ≡ 0 }
+
+        // It is one turn, so it is short, however much has expired.
+        ensures short { C.World.unswept self.old.world self.old.moment
+            ≤ C.World.unswept self.new.world self.new.moment + C.World.turn }
 
         // If nothing is left, each cell that counts is needed: a find about it is alive by some choice of the kept commands.
         ensures needed { result ≡ false →

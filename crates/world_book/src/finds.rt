@@ -1,6 +1,6 @@
 //! Admissions, sweeps and forgets of a world under its journal.
 
-ghost use Rattle.std.specs.Prelude.{◌≡◌, ◌<◌, ◌∷◌, [], ℕ, true, false, IfOk, IfErr, IsOk, OnOk, OnErr};
+ghost use Rattle.std.specs.Prelude.{◌≡◌, ◌+◌, ◌<◌, ◌≤◌, ◌^◌, ◌∷◌, [], ℕ, true, false, IfOk, IfErr, IsOk, OnOk, OnErr};
 ghost use Rattle.change_law.specs.Pairs.{AreNeeded, CountsNoneOf, IsAliveIn, pair_of};
 ghost use Rattle.history.specs.declared.event.Event.TheVariants.{Admit, Sweep, Forget};
 ghost use Rattle.history.specs.declared.event.Settings.{Settings};
@@ -59,6 +59,7 @@ pub(crate) fn sweep_some<C: BookChange>(
     ensures sound { IsSoundAfter C.World.World 0 [] world.old journal.now world.new journal.now }
     ensures more { result ≡ true → C.World.unswept world.new clock < C.World.unswept world.old clock }
     ensures none { result ≡ false → C.World.unswept world.new clock ≡ 0 }
+    ensures short { clock + 1 < 2 ^ 64 → C.World.unswept world.old clock ≤ C.World.unswept world.new clock + C.World.turn }
     ensures needed { result ≡ false → AreNeeded C.World.counts C.World.keeps C.World.face clock world.new }
 {
     let _ = journal;
@@ -80,6 +81,7 @@ pub(crate) fn sweep_unread<C: BookChange>(journal: &Journal<C>, world: &mut C::W
     requires { IsSound C.World.World world.old journal.now }
     ensures tied { (moment : ℕ) → TakesIn C.World.World clock (Sweep moment) world.old journal.now world.new journal.now }
     ensures sound { IsSoundAfter C.World.World 0 [] world.old journal.now world.new journal.now }
+    ensures short { clock + 1 < 2 ^ 64 → C.World.unswept world.old clock ≤ C.World.unswept world.new clock + C.World.turn }
 {
     let _ = journal;
     let _more = world.sweep_some(clock);

@@ -21,3 +21,6 @@ returns-clause-more c = rw (← c.self.view_is) (c.sweep_some.ensures.more)
 
 pub returns-clause-needed : goal.returns-clause-needed
 returns-clause-needed c = λ none. needed_there c.sweep_some.new.self c.args.moment (c.sweep_some.ensures.alive none).1
+
+pub returns-clause-short : goal.returns-clause-short
+returns-clause-short c = rw (← c.self.view_is) (λ early. c.sweep_some.ensures.short (omega (arith, early)))
