@@ -23,7 +23,13 @@ servers hints, servers no hints, servers stub, servers stub at a set, servers ca
 servers with some missing, servers with all missing
 oldest of some, oldest of none, oldest of what a command hides
 list_commands done, list_commands undone
+look_undo shown, look_undo refused, look_redo shown, look_redo refused, look_without shown, look_without refused
+what_undo shown, what_undo refused
 """.strip().replace("\n", ", ").split(", ") + [f"{word} of {size}" for word in LISTS for size in ("some", "none")]
+
+
+PREVIEWS = ("look_undo", "look_redo", "look_without", "what_undo")
+REFUSED = ("nothing_to_undo", "nothing_to_redo", "not_kept", "buried")
 
 
 def settled(model):
@@ -75,6 +81,8 @@ def kinds_of(model, line, told):
         yield f"{verb} of {'some' if told[1:] else 'none'}"
         if verb == "list_commands":
             yield from {f"{verb} {row.split(' ')[1]}" for row in told[:-1]}
+    elif verb in PREVIEWS and (words[0] != "error" or words[1] in REFUSED):
+        yield f"{verb} {'refused' if words[0] == 'error' else 'shown'}"
     elif words[0] == "servers":
         yield from kinds_of_servers(model, words)
     elif words[0] in ("found", "local"):

@@ -40,6 +40,14 @@ AT_A_BOOK = [
         b"ok 1\nok 2\nok 3\n1 by 3\nend\nerror buried 3\nundone 3\nundone 1\n3 by 1\nend\nerror buried 1\nredone 1\nerror not_kept\nerror not_kept\n",
         END,
     ),
+    # What an undo or a redo would show. Nothing changes by it.
+    (
+        b"flush a.\nwhat_undo\nlook_undo a. A\nlook_redo a. A\nlook_without 1 a. A\nlook_without 2 a. A\nundo\nwhat_undo\nlook_redo a. A\nlook_undo a. A\n",
+        b"ok 1\n1 done flush a.\nunknown\nerror nothing_to_redo\nunknown\nerror not_kept\nundone 1\nerror nothing_to_undo\nunknown\nerror nothing_to_undo\n",
+        END,
+    ),
+    (b"look_undo\nlook_redo a..b A\nlook_without a. A\nlook_without 0 a. A\nlook_without 1 a. NOPE\nwhat_undo 1\n",
+     b"error missing\nerror bad_name\nerror missing\nerror bad_data\nerror bad_type\nerror bad_data\n", END),
     (b"undo 0\nredo 0\nundo x\nundo 1 2\nredo 4611686018427387904\nredo 4611686018427387903\nlist_buried x\n",
      b"error bad_data\n" * 5 + b"error not_kept\nerror bad_data\n", END),
     (b"undo\nredo\nlook\nlook a..b A\nlook a. NOPE\n", b"error nothing_to_undo\nerror nothing_to_redo\nerror missing\nerror bad_name\nerror bad_type\n", END),

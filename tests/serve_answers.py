@@ -364,6 +364,32 @@ def check_undone(checks, over):
             checks.equal(f"undone over {over}: asked after {line}", servers.count("a.test. A") - 1, count)
 
 
+def check_previews(checks):
+    """What an undo would show while the service answers, and of how many names a flush hides data: the zone, its server, and both names."""
+    rows = [
+        ("what_undo", "error nothing_to_undo"),
+        ("local_zone test. refuse", "ok 1"),
+        ("look b.test. A", "local refuse"),
+        ("look_undo b.test. A", "found 2 b.test. A 192.0.2.7"),
+        ("what_undo", "1 done local_zone test. refuse"),
+        ("what_undo x", "error bad_data"),
+        ("flush_zone test.", "ok 2"),
+        ("look_without 1 b.test. A", "unknown"),
+        ("look_undo b.test. A", "local refuse"),
+        ("look_redo b.test. A", "error nothing_to_redo"),
+        ("what_undo", "2 done flush_zone test."),
+    ]
+    with NameServers(WORKED) as servers, serving(servers) as service:
+        checks.equal("previews: the first answer", service.ask("a.test.").words(), ALIAS)
+        with service.control() as control:
+            for line, wanted in rows:
+                checks.equal(f"previews: {line}", without_left(control.tell(line)), wanted)
+            checks.equal("previews: the second line of what_undo", control.line(), "hides 4 names, counted over 1 turns")
+            checks.equal("previews: the undo", [control.tell(line) for line in ("undo", "undo")], ["undone 2", "undone 1"])
+        checks.equal("previews: the last answer", service.ask("a.test.").words(), ALIAS)
+        checks.equal("previews: stopped", service.stop(), STOPPED)
+
+
 def check_overlap(checks, over):
     """The first question's exchange is held up until a second question and a command were answered, by one worker."""
     gate = threading.Event()
@@ -484,6 +510,7 @@ def main():
     checks.make(check_long_replies)
     checks.make(check_control)
     checks.make(check_journal)
+    checks.make(check_previews)
     checks.make(check_short_log)
     checks.make(check_given_again)
     checks.make(check_full)

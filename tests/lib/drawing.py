@@ -49,6 +49,18 @@ undo 0
 undo x
 redo 1 2
 redo 4611686018427387904
+look_undo a.test.
+look_redo
+look_undo a..b A
+look_redo a.test. NOPE
+look_undo a.test. A A
+look_without 1 a.test.
+look_without x a.test. A
+look_without 0 a..b A
+look_without 1 a..b NOPE
+look_without 1 a.test. ANY
+look_without 1 a.test. A 2
+what_undo 1
 sweep now
 list_commands all
 servers a.test. b.test.
@@ -72,11 +84,11 @@ at 1 2
 WEIGHTS = [
     dict(
         at=6, clock=1, admit=16, ns=8, denial=6, look=16, servers=8, flush=7,
-        stub=4, zone=2, record=3, list=5, back=5, by_ticket=4, sweep=1, forget=1, oldest=1, wrong=2,
+        stub=4, zone=2, record=3, list=5, back=5, by_ticket=4, preview=6, sweep=1, forget=1, oldest=1, wrong=2,
     ),
-    dict(at=6, clock=4, admit=20, denial=8, look=20, flush=12, flushed_type=4, list=1, back=6, by_ticket=6, sweep=4, forget=4, oldest=4, wrong=1),
+    dict(at=6, clock=4, admit=20, denial=8, look=20, flush=12, flushed_type=4, list=1, back=6, by_ticket=6, preview=12, sweep=4, forget=4, oldest=4, wrong=1),
     dict(at=6, admit=4, ns=24, denial=3, servers=32, flush=4, stub=7, list=2, back=6, by_ticket=4),
-    dict(at=2, admit=4, look=20, zone=12, record=24, stub=4, list=10, back=8, by_ticket=8, wrong=1),
+    dict(at=2, admit=4, look=20, zone=12, record=24, stub=4, list=10, back=8, by_ticket=8, preview=20, wrong=1),
 ]
 OFTEN = [3, 3, 2, 2]
 
@@ -142,6 +154,18 @@ class Drawer:
     def look(self):
         owner, kind = self.question()
         return [f"look {owner} {kind}"]
+
+    def preview(self):
+        """What an undo or a redo would show, and now and then what it shows then."""
+        owner, kind = self.question()
+        ticket = self.draw.randint(self.given // 2 + 1, self.given + 1)
+        before, move, back = self.draw.choice([
+            ("look_undo", "undo", "redo"), ("look_redo", "redo", "undo"), (f"look_without {ticket}", f"undo {ticket}", f"redo {ticket}"),
+        ])
+        lines = [f"{before} {owner} {kind}"]
+        if self.draw.random() < 0.5:
+            lines += [move, f"look {owner} {kind}", *self.draw.choice([[], [back]])]
+        return [*lines, *self.draw.choice([[], [], ["what_undo"]])]
 
     def clock(self):
         """An event whose moment counts whatever its reply is, before the moment goes back."""

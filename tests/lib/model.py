@@ -493,10 +493,25 @@ def list_text(tables, word):
     return lines + ["end"]
 
 
+def seen_after(settings, history, event, question):
+    """The reply to a lookup of a question right after an undo or a redo, or why that is refused."""
+    ticket, told = moved(given_in(history), event, *marks(settings.journal, history)[:2])
+    if ticket is None:
+        return [told]
+    then = [*history, Entry(event, max(now(history), event.moment), None)]
+    return seen_text(settings, then, standing(settings.journal, then), ("look", *question), then[-1].moment)
+
+
 def seen_text(settings, history, entries, ask, moment):
     """The lines of the reply to a lookup."""
     word, *rest = ask
     tables = tables_of(entries)
+    if word in ("look_undo", "look_redo", "look_without"):
+        event = Event("redo" if word == "look_redo" else "undo", moment, rest[2] if rest[2:] else None)
+        return seen_after(settings, history, event, rest[:2])
+    if word == "what_undo":
+        done = marks(settings.journal, history)[0]
+        return [f"{done[-1]} done {command_text(given_in(history)[done[-1]])}"] if done else ["error nothing_to_undo"]
     if word == "look":
         answer = local(tables, rest)
         if answer is not None:

@@ -135,7 +135,7 @@ class Event:
 # The least number of words of each line.
 LEAST = {
     "at": 1, "admit": 5, "nodata": 5, "noname": 4, "forget": 1, "look": 2, "servers": 1, "oldest": 0, "sweep": 0, "undo": 0,
-    "redo": 0, "list_local_zones": 0, "list_local_data": 0, "list_stubs": 0, "list_commands": 0, "list_buried": 0,
+    "redo": 0, "look_undo": 2, "look_redo": 2, "look_without": 3, "what_undo": 0, "list_local_zones": 0, "list_local_data": 0, "list_stubs": 0, "list_commands": 0, "list_buried": 0,
     "local_zone": 2, "local_zone_remove": 1, "local_data": 3, "local_data_remove": 1,
     "stub_add": 2, "stub_remove": 1, "flush": 1, "flush_type": 2, "flush_zone": 1,
 }
@@ -214,7 +214,13 @@ def event_in(verb, words, moment):
         question = name_in(words[0]), type_in(words[1])
         none_left(words[2:])
         return Event("look", moment, ("look", *question))
-    if verb in ("servers", "oldest") or verb.startswith("list_"):
+    if verb in ("look_undo", "look_redo", "look_without"):
+        tickets = [number_in(word, 1, MOST_TICKETS) for word in words[: LEAST[verb] - 2]]
+        owner, kind, *rest = words[len(tickets) :]
+        question = name_in(owner), type_in(kind)
+        none_left(rest)
+        return Event("look", moment, (verb, *question, *tickets))
+    if verb in ("servers", "oldest", "what_undo") or verb.startswith("list_"):
         name = [name_in(word) for word in words[: LEAST[verb]]]
         none_left(words[LEAST[verb] :])
         return Event("look", moment, (verb, *name))

@@ -16,7 +16,7 @@ LISTS = (b"list_local_zones", b"list_local_data", b"list_stubs", b"list_commands
 LIST_END = b"end"
 
 # Only the replies to these lines take memory, so no other reply is lost.
-SHOWING = (b"look ", b"servers ", b"oldest", *LISTS)
+SHOWING = (b"look ", b"look_undo ", b"look_redo ", b"look_without ", b"what_undo", b"servers ", b"oldest", *LISTS)
 
 
 def replies_to(lines, told):

@@ -4,7 +4,9 @@ use Rattle.streams.specs.declared.held_line.TheConstants.{LONGEST_LINE}
 use Rattle.dns_name.specs.Results.{◌>>=◌, or_fault}
 use Rattle.dns_text.specs.Word.{next_word}
 use Rattle.dns_text.specs.Number.{number_in}
-use Rattle.history.specs.declared.event.Ask.TheVariants.{Answer, Servers as ServersAsk, Zones, Records, Stubs, Commands as CommandsAsk, Buried as BuriedAsk, Oldest as OldestAsk}
+use Rattle.history.specs.declared.event.Ask.TheVariants.{Answer, Servers as ServersAsk, Zones, Records, Stubs, Commands as CommandsAsk, Buried as BuriedAsk, Oldest as OldestAsk, After, NextUndo}
+use Rattle.history.specs.declared.event.Move.{Move}
+use Rattle.history.specs.declared.event.Move.TheVariants as move
 use Rattle.history.specs.declared.event.Command.TheVariants.{Flush as FlushCommand, FlushType as FlushTypeCommand, FlushZone as FlushZoneCommand}
 use Rattle.command_text.specs.declared.line.Line.{Line}
 use Rattle.command_text.specs.declared.line.Line.TheVariants.{Silent, At as AtLine, Admit as AdmitLine, Deny as DenyLine, Request as RequestLine, Stop as StopLine}
@@ -12,10 +14,10 @@ use Rattle.command_text.specs.declared.request.Request.TheVariants.{Look as Look
 use Rattle.command_text.specs.declared.fault.LineFault.{LineFault}
 use Rattle.command_text.specs.declared.fault.LineFault.TheVariants.{Unknown, BadData, TooLong}
 use Rattle.command_text.specs.declared.words.Verb.{Verb}
-use Rattle.command_text.specs.declared.words.Verb.TheVariants.{At, Admit, NoData, NoName, Forget, Oldest, Look, Servers, Sweep, Flush, FlushType, FlushZone, LocalZone, LocalZoneRemove, LocalData, LocalDataRemove, StubAdd, StubRemove, ListLocalZones, ListLocalData, ListStubs, ListCommands, ListBuried, Undo, Redo, Stop}
+use Rattle.command_text.specs.declared.words.Verb.TheVariants.{At, Admit, NoData, NoName, Forget, Oldest, Look, Servers, Sweep, Flush, FlushType, FlushZone, LocalZone, LocalZoneRemove, LocalData, LocalDataRemove, StubAdd, StubRemove, ListLocalZones, ListLocalData, ListStubs, ListCommands, ListBuried, Undo, Redo, LookUndo, LookRedo, LookWithout, WhatUndo, Stop}
 use Rattle.command_text.specs.declared.words.Channel.{Channel}
 use Rattle.command_text.specs.Words.{verb_in}
-use Rattle.command_text.specs.Parts.{word_in, ends, question_words, question_in, only_name}
+use Rattle.command_text.specs.Parts.{word_in, ends, question_words, needs_question, question_in, only_name}
 use Rattle.command_text.specs.Admit.{admit_words, given_of}
 use Rattle.command_text.specs.Deny.{no_data_words, no_name_words, no_data_of, no_name_of}
 use Rattle.command_text.specs.Stubs.{stub_words, set_stub_in, drop_stub_in}
@@ -45,11 +47,15 @@ abbrev pub given_ticket : Option ℕ → Option ℕ
 given_ticket None = None
 given_ticket (Some n) = if n == 0 then None else Some n
 
+-- The ticket that a word writes.
+abbrev pub ticket_of : List ℕ → Result ℕ LineFault
+ticket_of word = or_fault BadData (given_ticket (number_in (2 ^ 62 - 1) word))
+
 -- A ticket, and no more.
 unfoldable pub ticket_in : List ℕ → Result ℕ LineFault
 ticket_in text = do
   n ← word_in text
-  ticket ← or_fault BadData (given_ticket (number_in (2 ^ 62 - 1) n.0))
+  ticket ← ticket_of n.0
   end ← ends n.1
   Ok ticket
 
@@ -95,6 +101,21 @@ unfoldable pub look_in : List ℕ → Result Line LineFault
 look_in text = do
   question ← question_in text
   Ok (RequestLine (LookRequest (Answer question)))
+
+-- `look_undo NAME TYPE` and `look_redo NAME TYPE`: the lookup of a question right after an undo or a redo, which is not made.
+unfoldable pub look_after_in : Move → List ℕ → Result Line LineFault
+look_after_in step text = do
+  question ← question_in text
+  Ok (RequestLine (LookRequest (After step question)))
+
+-- `look_without N NAME TYPE`: the same for the undo of the command of a ticket.
+unfoldable pub look_without_in : List ℕ → Result Line LineFault
+look_without_in text = do
+  n ← word_in text
+  found ← needs_question n.1
+  ticket ← ticket_of n.0
+  question ← question_in n.1
+  Ok (RequestLine (LookRequest (After (move.UndoOf ticket) question)))
 
 -- `servers NAME`: the lookup of the servers to ask for a name.
 unfoldable pub servers_in : List ℕ → Result Line LineFault
@@ -183,6 +204,10 @@ said_by ListCommands text = alone (RequestLine (LookRequest CommandsAsk)) text
 said_by ListBuried text = alone (RequestLine (LookRequest BuriedAsk)) text
 said_by Undo text = undo_in text
 said_by Redo text = redo_in text
+said_by LookUndo text = look_after_in move.Undo text
+said_by LookRedo text = look_after_in move.Redo text
+said_by LookWithout text = look_without_in text
+said_by WhatUndo text = alone (RequestLine (LookRequest NextUndo)) text
 said_by Stop text = alone StopLine text
 
 -- Reads a line. It is unknown if it has no word, or if its first word is no command of the channel.
@@ -228,6 +253,10 @@ takes_by ListCommands text = false
 takes_by ListBuried text = false
 takes_by Undo text = false
 takes_by Redo text = false
+takes_by LookUndo text = is_ok (question_words text)
+takes_by LookRedo text = is_ok (question_words text)
+takes_by LookWithout text = is_ok (word_in text >>= λ n. needs_question n.1)
+takes_by WhatUndo text = false
 takes_by Stop text = false
 
 abbrev takes_if : Option Verb → List ℕ → Bool

@@ -2,7 +2,7 @@
 use Rattle.std.specs.Prelude.{ℕ, Option, Some, None, Result, Ok, Err, List, [], ◌∷◌}
 use Rattle.dns_name.specs.Labels.{Labels}
 use Rattle.dns_name.specs.Options.{◌>>=◌ as ◌>>=?◌}
-use Rattle.dns_name.specs.Results.{◌>>=◌, or_fault}
+use Rattle.dns_name.specs.Results.{◌>>=◌, or_fault, result_map}
 use Rattle.dns_text.specs.declared.record.Question.{Question}
 use Rattle.dns_text.specs.Word.{next_word}
 use Rattle.dns_text.specs.Kind.{type_in}
@@ -35,6 +35,10 @@ question_words text = do
   name ← word_in text
   kind ← word_in name.1
   Ok (record { name = name.0; kind = kind.0; rest = kind.1 })
+
+-- Fails if one of the words NAME TYPE is missing.
+unfoldable pub needs_question : List ℕ → Result (Unit {0}) LineFault
+needs_question text = result_map (λ words. tt) (question_words text)
 
 -- The question that these words ask, or the first fault from the left.
 unfoldable pub question_of : QuestionWords → Result Question LineFault

@@ -29,7 +29,9 @@ use Rattle.history.specs.declared.servers.Origin.TheVariants as source
 use Rattle.history.specs.declared.event.Reason.{Reason}
 use Rattle.history.specs.declared.event.Reason.TheVariants.{BelowRedirect, DataBelow, CnameClash, TooMany}
 use Rattle.history.specs.declared.event.Seen.{Seen as Sight}
-use Rattle.history.specs.declared.event.Seen.TheVariants.{Unknown as NothingHeld, Held, Local as LocalSeen, Servers, Zones, Records, Stubs, Commands, Buried as BuriedSeen, Oldest}
+use Rattle.history.specs.declared.event.Seen.TheVariants.{Unknown as NothingHeld, Held, Local as LocalSeen, Servers, Zones, Records, Stubs, Commands, Buried as BuriedSeen, Oldest, Command as CommandSeen, Refused as RefusedSeen}
+use Rattle.history.specs.declared.event.Refusal.{Refusal}
+use Rattle.history.specs.declared.event.Refusal.TheVariants as refusal
 use Rattle.history.specs.declared.event.Reply.{Reply}
 use Rattle.history.specs.declared.event.Reply.TheVariants.{Taken, Outranked, Swept, Forgotten, Seen, Done, Refused, Undone, Redone, NothingToUndo, NothingToRedo, NotKept, Buried}
 use Rattle.history.specs.declared.book.StepFault.{StepFault}
@@ -99,8 +101,12 @@ state_text true = codes " done "
 state_text false = codes " undone "
 
 -- TICKET STATE COMMAND, where COMMAND is the line that gives the command.
+abbrev pub journalled_text : Journalled → List ℕ
+journalled_text j = decimal j.ticket ++ state_text j.done ++ command_words j.command
+
+-- The same, as a line.
 abbrev pub journalled_line : Journalled → List ℕ
-journalled_line j = with_end (decimal j.ticket ++ state_text j.done ++ command_words j.command)
+journalled_line j = with_end (journalled_text j)
 
 -- TICKET by TICKET, of a command and of the one that must be undone, or redone, before it.
 abbrev pub buried_line : BuriedCommand → List ℕ
@@ -130,6 +136,13 @@ abbrev pub oldest_text : Option Labels → List ℕ
 oldest_text None = codes "unknown"
 oldest_text (Some name) = codes "oldest " ++ text_of name
 
+-- Why an undo or a redo is refused.
+abbrev pub refusal_text : Refusal → List ℕ
+refusal_text refusal.NothingToUndo = codes "error nothing_to_undo"
+refusal_text refusal.NothingToRedo = codes "error nothing_to_redo"
+refusal_text refusal.NotKept = codes "error not_kept"
+refusal_text (refusal.Buried ticket) = codes "error buried " ++ decimal ticket
+
 -- The reply to a lookup, without its line end.
 abbrev pub seen_text : Sight → List ℕ
 seen_text NothingHeld = codes "unknown"
@@ -142,6 +155,8 @@ seen_text (Stubs stubs) = flat_map stub_line stubs ++ codes "end"
 seen_text (Commands commands) = flat_map journalled_line commands ++ codes "end"
 seen_text (BuriedSeen buried) = flat_map buried_line buried ++ codes "end"
 seen_text (Oldest name) = oldest_text name
+seen_text (CommandSeen held) = journalled_text held
+seen_text (RefusedSeen why) = refusal_text why
 
 -- Why a command is refused.
 abbrev pub reason_text : Reason → List ℕ
@@ -166,6 +181,7 @@ is_long (Seen (Stubs stubs)) = true
 is_long (Seen (Commands commands)) = true
 is_long (Seen (BuriedSeen buried)) = true
 is_long (Seen (Oldest name)) = is_some name
+is_long (Seen (CommandSeen held)) = true
 is_long _ = false
 
 -- The reply to an event that was taken.
@@ -179,10 +195,10 @@ reply_text (Done ticket) = with_end (codes "ok " ++ decimal ticket)
 reply_text (Refused reason) = with_end (reason_text reason)
 reply_text (Undone ticket) = with_end (codes "undone " ++ decimal ticket)
 reply_text (Redone ticket) = with_end (codes "redone " ++ decimal ticket)
-reply_text NothingToUndo = with_end (codes "error nothing_to_undo")
-reply_text NothingToRedo = with_end (codes "error nothing_to_redo")
-reply_text NotKept = with_end (codes "error not_kept")
-reply_text (Buried ticket) = with_end (codes "error buried " ++ decimal ticket)
+reply_text NothingToUndo = with_end (refusal_text refusal.NothingToUndo)
+reply_text NothingToRedo = with_end (refusal_text refusal.NothingToRedo)
+reply_text NotKept = with_end (refusal_text refusal.NotKept)
+reply_text (Buried ticket) = with_end (refusal_text (refusal.Buried ticket))
 
 -- Why a book did not take an event.
 abbrev pub fault_text : StepFault → List ℕ

@@ -3,7 +3,7 @@ use Rattle.std.specs.Prelude.{ℕ, Bool, true, false, List, [], ◌∷◌, ◌++
 use Rattle.std.specs.Str.{bytes_eq}
 use Rattle.dns_name.specs.Options.{◌>>=◌}
 use Rattle.command_text.specs.declared.words.Verb.{Verb}
-use Rattle.command_text.specs.declared.words.Verb.TheVariants.{At, Admit, NoData, NoName, Forget, Oldest, Look, Servers, Sweep, Flush, FlushType, FlushZone, LocalZone, LocalZoneRemove, LocalData, LocalDataRemove, StubAdd, StubRemove, ListLocalZones, ListLocalData, ListStubs, ListCommands, ListBuried, Undo, Redo, Stop}
+use Rattle.command_text.specs.declared.words.Verb.TheVariants.{At, Admit, NoData, NoName, Forget, Oldest, Look, Servers, Sweep, Flush, FlushType, FlushZone, LocalZone, LocalZoneRemove, LocalData, LocalDataRemove, StubAdd, StubRemove, ListLocalZones, ListLocalData, ListStubs, ListCommands, ListBuried, Undo, Redo, LookUndo, LookRedo, LookWithout, WhatUndo, Stop}
 use Rattle.command_text.specs.declared.words.Channel.{Channel}
 use Rattle.command_text.specs.declared.words.Channel.TheVariants.{Script, Control}
 use Rattle.command_text.specs.declared.words.Usage.{Usage}
@@ -53,6 +53,10 @@ commands =
     ∷ anywhere ListBuried (codes "list_buried") []
     ∷ anywhere Undo (codes "undo") (codes "[N]")
     ∷ anywhere Redo (codes "redo") (codes "[N]")
+    ∷ anywhere LookUndo (codes "look_undo") (codes "NAME TYPE")
+    ∷ anywhere LookRedo (codes "look_redo") (codes "NAME TYPE")
+    ∷ anywhere LookWithout (codes "look_without") (codes "N NAME TYPE")
+    ∷ anywhere WhatUndo (codes "what_undo") []
     ∷ control_only Stop (codes "stop") []
     ∷ []
 

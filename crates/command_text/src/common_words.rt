@@ -6,7 +6,7 @@ ghost use Rattle.dns_text.specs.Field.{named};
 ghost use Rattle.dns_text.specs.Kind.{type_in};
 ghost use Rattle.command_text.specs.declared.fault.LineFault.TheVariants.{Missing, BadName, BadType, NoMemory};
 ghost use Rattle.command_text.specs.Fault.{Gives};
-ghost use Rattle.command_text.specs.Parts.{word_in, ends, question_words, question_in, only_name};
+ghost use Rattle.command_text.specs.Parts.{word_in, ends, question_words, needs_question, question_in, only_name};
 
 use crate::fault::LineFault;
 use dns_name::{Name, NameFault};
@@ -62,6 +62,17 @@ pub(crate) fn read_question(alloc: Global, text: &[u8]) -> Result<Question, Line
     let kind = read_kind(kind)?;
     read_end(rest)?;
     Ok(Question { owner, kind })
+}
+
+/// Fails if one of the words `NAME TYPE` is missing.
+#[tactic(auto, unfolding(crate::specs::Parts::question_words, crate::specs::Parts::needs_question))]
+pub(crate) fn need_question(text: &[u8]) -> Result<(), LineFault>
+    ensures value { result ≡ needs_question text.now }
+    ensures fault { IfErr result (λ e. e ≡ Missing) }
+{
+    let (_, rest) = read_word(text)?;
+    let _ = read_word(rest)?;
+    Ok(())
 }
 
 /// `NAME` and no more.

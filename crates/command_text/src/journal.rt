@@ -36,6 +36,15 @@ fn push_commands(commands: &[Journalled], out: &mut Vec<u8>) -> Result<(), NoMem
     Ok(())
 }
 
+/// The line of one command.
+pub(crate) fn command_line(alloc: Global, journalled: &Journalled) -> Result<Vec<u8>, NoMemory>
+    ensures { IfOk result (λ text. text.items ≡ journalled_line journalled.now) }
+{
+    let mut out = Vec::new(alloc);
+    push_journalled(journalled, &mut out)?;
+    Ok(out)
+}
+
 /// A line for each command, the oldest first, and `end`.
 pub(crate) fn commands_lines(
     alloc: Global,

@@ -62,5 +62,5 @@ pub use laws::{bars_are, channels_are_apart, commands_are_read_back, words_are};
 pub use line::{Line, read_line};
 pub use request::Request;
 pub use script::run_script;
-pub use text::reply_text;
+pub use text::{answer_text, reply_text};
 pub use words::{Channel, help_text};

@@ -3,11 +3,11 @@
 ghost use Rattle.std.specs.Prelude.{◌≡◌, ◌⊎◌, IsTrue, IfErr, IsErrOf, is_ok};
 ghost use Rattle.command_text.specs.declared.fault.LineFault.TheVariants.{BadData, Missing, NoMemory};
 ghost use Rattle.command_text.specs.Fault.{Gives};
-ghost use Rattle.command_text.specs.Line.{is_silent, alone, at_in, admit_in, no_data_in, no_name_in, forget_in, look_in, servers_in, flush_in, flush_type_in, flush_zone_in, local_zone_in, local_zone_remove_in, local_data_in, local_data_remove_in, stub_add_in, stub_remove_in, ticket_in, undo_in, redo_in, said_by, takes_by, read_of, takes_memory};
+ghost use Rattle.command_text.specs.Line.{is_silent, alone, at_in, admit_in, no_data_in, no_name_in, forget_in, look_in, look_after_in, look_without_in, servers_in, flush_in, flush_type_in, flush_zone_in, local_zone_in, local_zone_remove_in, local_data_in, local_data_remove_in, stub_add_in, stub_remove_in, ticket_in, ticket_of, undo_in, redo_in, said_by, takes_by, read_of, takes_memory};
 
 use crate::admission_find::Admission;
 use crate::admission_words::{admit_words, read_admission};
-use crate::common_words::{read_end, read_only_name, read_question, read_word};
+use crate::common_words::{need_question, read_end, read_only_name, read_question, read_word};
 use crate::denial_find::Denial;
 use crate::denial_words::{no_data_words, no_name_words, read_no_data, read_no_name};
 use crate::fault::LineFault;
@@ -16,7 +16,7 @@ use crate::request::Request;
 use crate::stubs::{read_drop_stub, read_set_stub};
 use crate::words::{Channel, Verb, verb_in};
 use dns_text::{next_word, read_number};
-use history::{Ask, Command};
+use history::{Ask, Command, Move};
 use std::alloc::Global;
 use streams::LONGEST_LINE;
 
@@ -62,16 +62,24 @@ fn read_at(text: &[u8]) -> Result<Line, LineFault>
 }
 
 /// A ticket: from 1 to 2^62 - 1.
+fn ticket_of(word: &[u8]) -> Result<u64, LineFault>
+    ensures value { result ≡ ticket_of word.now }
+    ensures fault { IfErr result (λ e. e ≡ BadData) }
+{
+    match read_number(word, MOST_TICKETS) {
+        None | Some(0) => Err(LineFault::BadData),
+        Some(ticket) => Ok(ticket),
+    }
+}
+
+/// A ticket, and no more.
 #[tactic(auto, unfolding(crate::specs::Line::ticket_in))]
 fn read_ticket(text: &[u8]) -> Result<u64, LineFault>
     ensures value { result ≡ ticket_in text.now }
     ensures fault { IfErr result (λ e. (e ≡ Missing) ⊎ (e ≡ BadData)) }
 {
     let (word, rest) = read_word(text)?;
-    let ticket = read_number(word, MOST_TICKETS).ok_or(LineFault::BadData)?;
-    if ticket == 0 {
-        return Err(LineFault::BadData);
-    }
+    let ticket = ticket_of(word)?;
     read_end(rest)?;
     Ok(ticket)
 }
@@ -150,6 +158,28 @@ fn read_look(alloc: Global, text: &[u8]) -> Result<Line, LineFault>
 {
     let question = read_question(alloc, text)?;
     Ok(Line::Request(Request::Look(Ask::Answer(question))))
+}
+
+#[tactic(auto, unfolding(crate::specs::Line::look_after_in))]
+fn read_look_after(alloc: Global, step: Move, text: &[u8]) -> Result<Line, LineFault>
+    ensures value { Gives result (look_after_in step text.now) }
+    ensures no_memory { IsErrOf result NoMemory → IsTrue (takes_by Verb.LookUndo text.now) }
+{
+    let question = read_question(alloc, text)?;
+    Ok(Line::Request(Request::Look(Ask::After { step, question })))
+}
+
+#[tactic(auto, unfolding(crate::specs::Line::look_without_in))]
+fn read_look_without(alloc: Global, text: &[u8]) -> Result<Line, LineFault>
+    ensures value { Gives result (look_without_in text.now) }
+    ensures no_memory { IsErrOf result NoMemory → IsTrue (takes_by Verb.LookWithout text.now) }
+{
+    let (word, rest) = read_word(text)?;
+    need_question(rest)?;
+    let ticket = ticket_of(word)?;
+    let question = read_question(alloc, rest)?;
+    let step = Move::UndoOf { ticket };
+    Ok(Line::Request(Request::Look(Ask::After { step, question })))
 }
 
 #[tactic(auto, unfolding(crate::specs::Line::servers_in))]
@@ -283,6 +313,10 @@ fn read_command(alloc: Global, verb: Verb, text: &[u8]) -> Result<Line, LineFaul
         Verb::ListBuried => read_alone(Line::Request(Request::Look(Ask::Buried)), text),
         Verb::Undo => read_undo(text),
         Verb::Redo => read_redo(text),
+        Verb::LookUndo => read_look_after(alloc, Move::Undo, text),
+        Verb::LookRedo => read_look_after(alloc, Move::Redo, text),
+        Verb::LookWithout => read_look_without(alloc, text),
+        Verb::WhatUndo => read_alone(Line::Request(Request::Look(Ask::NextUndo)), text),
         Verb::Stop => read_alone(Line::Stop, text),
     }
 }

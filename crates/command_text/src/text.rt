@@ -6,19 +6,19 @@ ghost use Rattle.streams.specs.Text.{octets_in};
 ghost use Rattle.dns_name.specs.Text.{text_of};
 ghost use Rattle.dns_text.specs.Data.{data_text};
 ghost use Rattle.ranked.specs.Body.{is_negative};
-ghost use Rattle.command_text.specs.Text.{set_text, scope_text, found_text, held_text, is_long, oldest_text, reply_text, reason_text, fault_text, desk_fault_text, line_fault_text};
+ghost use Rattle.command_text.specs.Text.{set_text, scope_text, found_text, held_text, is_long, oldest_text, refusal_text, reply_text, reason_text, fault_text, desk_fault_text, line_fault_text};
 ghost use Rattle.command_text.specs.declared.text.TheConstants.{MOST_WORDS};
 ghost use Rattle.command_text.specs.Obeying.{IsTextOf};
 
 use crate::answers::answer_line;
 use crate::fault::LineFault;
-use crate::journal::{buried_lines, commands_lines};
+use crate::journal::{buried_lines, command_line, commands_lines};
 use crate::lists::{records_lines, stubs_lines, zones_lines};
 use crate::servers::servers_line;
 use arrayvec::ArrayVec;
 use dns_name::Name;
 use dns_text::{Data, NoMemory, push_data, push_type};
-use history::{DeskFault, Reason, Reply, Seen, StepFault};
+use history::{DeskFault, Reason, Refusal, Reply, Seen, StepFault};
 use itoa::Buffer;
 use ranked::{Body, Find, Scope, SharedFind, Shown};
 use std::alloc::Global;
@@ -130,6 +130,18 @@ fn reason_line(reason: Reason) -> Text
     }
 }
 
+/// The line of an undo or a redo that is refused, or would be.
+fn refusal_line(refusal: Refusal) -> Text
+    ensures { octets_in result ≡ with_end (refusal_text refusal) }
+{
+    match refusal {
+        Refusal::NothingToUndo => Text::Fixed(b"error nothing_to_undo\n"),
+        Refusal::NothingToRedo => Text::Fixed(b"error nothing_to_redo\n"),
+        Refusal::NotKept => Text::Fixed(b"error not_kept\n"),
+        Refusal::Buried { ticket } => number_line(b"error buried", ticket),
+    }
+}
+
 /// The line of the name to forget first. It takes memory only if there is one.
 fn oldest_line(alloc: Global, name: &Option<Name>) -> Result<Text, NoMemory>
     ensures text { IfOk result (λ text. octets_in text ≡ with_end (oldest_text name.now)) }
@@ -171,14 +183,16 @@ pub fn reply_text(alloc: Global, reply: &Reply) -> Result<Text, NoMemory>
         Reply::Seen(Seen::Commands(commands)) => Ok(Text::Made(commands_lines(alloc, commands)?)),
         Reply::Seen(Seen::Buried(buried)) => Ok(Text::Made(buried_lines(alloc, buried)?)),
         Reply::Seen(Seen::Oldest(name)) => oldest_line(alloc, name),
+        Reply::Seen(Seen::Command(held)) => Ok(Text::Made(command_line(alloc, held)?)),
+        Reply::Seen(Seen::Refused(refusal)) => Ok(refusal_line(*refusal)),
         Reply::Done { ticket } => Ok(number_line(b"ok", *ticket)),
         Reply::Refused(reason) => Ok(reason_line(*reason)),
         Reply::Undone { ticket } => Ok(number_line(b"undone", *ticket)),
         Reply::Redone { ticket } => Ok(number_line(b"redone", *ticket)),
-        Reply::NothingToUndo => Ok(Text::Fixed(b"error nothing_to_undo\n")),
-        Reply::NothingToRedo => Ok(Text::Fixed(b"error nothing_to_redo\n")),
-        Reply::NotKept => Ok(Text::Fixed(b"error not_kept\n")),
-        Reply::Buried { ticket } => Ok(number_line(b"error buried", *ticket)),
+        Reply::NothingToUndo => Ok(refusal_line(Refusal::NothingToUndo)),
+        Reply::NothingToRedo => Ok(refusal_line(Refusal::NothingToRedo)),
+        Reply::NotKept => Ok(refusal_line(Refusal::NotKept)),
+        Reply::Buried { ticket } => Ok(refusal_line(Refusal::Buried { ticket: *ticket })),
     }
 }
 

@@ -34,6 +34,10 @@ pub(crate) enum Verb {
     ListBuried,
     Undo,
     Redo,
+    LookUndo,
+    LookRedo,
+    LookWithout,
+    WhatUndo,
     Stop,
 }
 
@@ -57,7 +61,7 @@ struct Usage {
     in_control: bool,
 }
 
-static COMMANDS: [Usage; 26] = [
+static COMMANDS: [Usage; 30] = [
     Usage {
         verb: Verb::At,
         word: "at",
@@ -230,6 +234,34 @@ static COMMANDS: [Usage; 26] = [
         verb: Verb::Redo,
         word: "redo",
         form: "[N]",
+        in_script: true,
+        in_control: true,
+    },
+    Usage {
+        verb: Verb::LookUndo,
+        word: "look_undo",
+        form: "NAME TYPE",
+        in_script: true,
+        in_control: true,
+    },
+    Usage {
+        verb: Verb::LookRedo,
+        word: "look_redo",
+        form: "NAME TYPE",
+        in_script: true,
+        in_control: true,
+    },
+    Usage {
+        verb: Verb::LookWithout,
+        word: "look_without",
+        form: "N NAME TYPE",
+        in_script: true,
+        in_control: true,
+    },
+    Usage {
+        verb: Verb::WhatUndo,
+        word: "what_undo",
+        form: "",
         in_script: true,
         in_control: true,
     },

@@ -1,5 +1,6 @@
 mod JournalLaw
 mod OrderLaw
+mod PreviewLaw
 mod ReachLaws
 mod RefusalLaw
 mod RedoLaw

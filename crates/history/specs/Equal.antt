@@ -3,6 +3,8 @@ use Rattle.std.specs.Prelude.{Bool}
 use Rattle.history.specs.declared.servers.Servers.{Servers}
 use Rattle.history.specs.declared.servers.Origin.{Origin}
 use Rattle.history.specs.declared.event.Ask.{Ask}
+use Rattle.history.specs.declared.event.Move.{Move}
+use Rattle.history.specs.declared.event.Refusal.{Refusal}
 use Rattle.history.specs.declared.event.Command.{Command}
 use Rattle.history.specs.declared.event.BuriedCommand.{BuriedCommand}
 use Rattle.history.specs.declared.event.Journalled.{Journalled}
@@ -13,6 +15,8 @@ use Rattle.history.specs.declared.event.Reply.{Reply}
 use Rattle.history.specs.contracts.servers.ServersPartialEq.TheImpl as servers_impl
 use Rattle.history.specs.contracts.servers.OriginPartialEq.TheImpl as source_impl
 use Rattle.history.specs.contracts.event.AskPartialEq.TheImpl as ask_impl
+use Rattle.history.specs.contracts.event.MovePartialEq.TheImpl as move_impl
+use Rattle.history.specs.contracts.event.RefusalPartialEq.TheImpl as refusal_impl
 use Rattle.history.specs.contracts.event.CommandPartialEq.TheImpl as command_impl
 use Rattle.history.specs.contracts.event.JournalledPartialEq.TheImpl as journalled_impl
 use Rattle.history.specs.contracts.event.BuriedCommandPartialEq.TheImpl as buried_impl
@@ -20,6 +24,14 @@ use Rattle.history.specs.contracts.event.EventPartialEq.TheImpl as event_impl
 use Rattle.history.specs.contracts.event.SeenPartialEq.TheImpl as seen_impl
 use Rattle.history.specs.contracts.event.ReasonPartialEq.TheImpl as reason_impl
 use Rattle.history.specs.contracts.event.ReplyPartialEq.TheImpl as reply_impl
+
+-- whether `==` calls two moves equal
+abbrev pub move_eq : Move → Move → Bool
+move_eq a b = move_impl.ghosts.eq a b
+
+-- whether `==` calls two refusals equal
+abbrev pub refusal_eq : Refusal → Refusal → Bool
+refusal_eq a b = refusal_impl.ghosts.eq a b
 
 -- whether `==` calls two questions of a look equal
 abbrev pub ask_eq : Ask → Ask → Bool

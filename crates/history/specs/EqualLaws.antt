@@ -8,6 +8,7 @@ use Rattle.dns_name.specs.Labels.{Labels}
 use Rattle.dns_name.specs.Order.{name_eq, name_eq_exact, name_eq_itself}
 use Rattle.dns_text.specs.declared.record.Record.{Record}
 use Rattle.dns_text.specs.Equal.{record_eq}
+use Rattle.dns_text.specs.declared.record.Question.{Question}
 use Rattle.dns_text.specs.EqualLaws.{question_eq_exact, question_eq_itself, record_eq_exact, record_eq_itself}
 use Rattle.ranked.specs.declared.find.Find.{Find}
 use Rattle.ranked.specs.declared.cell.Shown.{Shown}
@@ -29,6 +30,10 @@ use Rattle.history.specs.declared.servers.Origin.{Origin}
 use Rattle.history.specs.declared.servers.Origin.TheVariants.{Hints, Stub as FromStub, Cache}
 use Rattle.history.specs.declared.event.Ask.{Ask}
 use Rattle.history.specs.declared.event.Ask.TheVariants as ask
+use Rattle.history.specs.declared.event.Move.{Move}
+use Rattle.history.specs.declared.event.Move.TheVariants as move
+use Rattle.history.specs.declared.event.Refusal.{Refusal}
+use Rattle.history.specs.declared.event.Refusal.TheVariants as refusal
 use Rattle.history.specs.declared.event.Command.{Command}
 use Rattle.history.specs.declared.event.Command.TheVariants.{FlushType, Flush, FlushZone, SetZone, DropZone, AddRecord, DropName, SetStub, DropStub}
 use Rattle.history.specs.declared.event.Event.{Event}
@@ -41,12 +46,31 @@ use Rattle.history.specs.declared.event.Reason.{Reason}
 use Rattle.history.specs.declared.event.Reason.TheVariants.{BelowRedirect, DataBelow, CnameClash, TooMany}
 use Rattle.history.specs.declared.event.Reply.{Reply}
 use Rattle.history.specs.declared.event.Reply.TheVariants.{Taken, Outranked, Seen, Swept, Forgotten, Done, Refused, Undone, Redone, NothingToUndo, NothingToRedo, NotKept, Buried}
-use Rattle.history.specs.Equal.{source_eq, servers_eq, ask_eq, command_eq, journalled_eq, buried_eq, event_eq, seen_eq, reason_eq, reply_eq}
+use Rattle.history.specs.Equal.{source_eq, servers_eq, ask_eq, command_eq, journalled_eq, buried_eq, event_eq, move_eq, refusal_eq, seen_eq, reason_eq, reply_eq}
 
 same : (n : ℕ) → eqb n n ≡ true
 same n = eq-eqb n n refl
 
 -- ---- what is asked
+
+move_eq_exact : (a b : Move) → move_eq a b ≡ true → a ≡ b
+move_eq_exact move.Undo move.Undo e = refl
+move_eq_exact move.Redo move.Redo e = refl
+move_eq_exact (move.UndoOf t) (move.UndoOf u) e = ap move.UndoOf (eqb-true t u e)
+move_eq_exact _ _ e = absurd (false≢true e)
+
+move_eq_itself : (a : Move) → move_eq a a ≡ true
+move_eq_itself move.Undo = refl
+move_eq_itself move.Redo = refl
+move_eq_itself (move.UndoOf t) = same t
+
+after_exact : (s : Move) (q : Question) (b : Ask) → ask_eq (ask.After s q) b ≡ true → ask.After s q ≡ b
+after_exact s q (ask.After t r) e =
+    let parts = and_parts _ _ e in
+    let same_step : s ≡ t = move_eq_exact s t parts.0 in
+    let same_question : q ≡ r = question_eq_exact q r parts.1 in
+    λ i. ask.After (same_step i) (same_question i)
+after_exact s q _ e = absurd (false≢true e)
 
 pub ask_eq_exact : (a b : Ask) → ask_eq a b ≡ true → a ≡ b
 ask_eq_exact (ask.Answer q) (ask.Answer r) e = ap ask.Answer (question_eq_exact q r e)
@@ -57,6 +81,8 @@ ask_eq_exact ask.Commands ask.Commands e = refl
 ask_eq_exact ask.Buried ask.Buried e = refl
 ask_eq_exact (ask.Servers name) (ask.Servers other) e = ap ask.Servers (name_eq_exact name other e)
 ask_eq_exact ask.Oldest ask.Oldest e = refl
+ask_eq_exact (ask.After step question) b e = after_exact step question b e
+ask_eq_exact ask.NextUndo ask.NextUndo e = refl
 ask_eq_exact _ _ e = absurd (false≢true e)
 
 pub ask_eq_itself : (a : Ask) → ask_eq a a ≡ true
@@ -68,6 +94,8 @@ ask_eq_itself ask.Commands = refl
 ask_eq_itself ask.Buried = refl
 ask_eq_itself (ask.Servers name) = name_eq_itself name
 ask_eq_itself ask.Oldest = refl
+ask_eq_itself (ask.After step question) = both_true (move_eq_itself step) (question_eq_itself question)
+ask_eq_itself ask.NextUndo = refl
 
 -- ---- commands
 
@@ -285,6 +313,19 @@ oldest_exact None None e = refl
 oldest_exact (Some name) (Some other) e = ap Some (name_eq_exact name other e)
 oldest_exact _ _ e = absurd (false≢true e)
 
+refusal_eq_exact : (a b : Refusal) → refusal_eq a b ≡ true → a ≡ b
+refusal_eq_exact refusal.NothingToUndo refusal.NothingToUndo e = refl
+refusal_eq_exact refusal.NothingToRedo refusal.NothingToRedo e = refl
+refusal_eq_exact refusal.NotKept refusal.NotKept e = refl
+refusal_eq_exact (refusal.Buried t) (refusal.Buried u) e = ap refusal.Buried (eqb-true t u e)
+refusal_eq_exact _ _ e = absurd (false≢true e)
+
+refusal_eq_itself : (a : Refusal) → refusal_eq a a ≡ true
+refusal_eq_itself refusal.NothingToUndo = refl
+refusal_eq_itself refusal.NothingToRedo = refl
+refusal_eq_itself refusal.NotKept = refl
+refusal_eq_itself (refusal.Buried t) = same t
+
 pub seen_eq_exact : (a b : SeenValue) → seen_eq a b ≡ true → a ≡ b
 seen_eq_exact seen.Unknown seen.Unknown e = refl
 seen_eq_exact (seen.Held s) b e = held_exact s b e
@@ -296,6 +337,8 @@ seen_eq_exact (seen.Commands commands) (seen.Commands other) e = ap seen.Command
 seen_eq_exact (seen.Buried buried) (seen.Buried other) e = ap seen.Buried ((slice_eq-Decides buried_eq-Decides buried other _ refl).0 e)
 seen_eq_exact (seen.Servers servers) (seen.Servers other) e = ap seen.Servers (servers_eq_exact servers other e)
 seen_eq_exact (seen.Oldest name) (seen.Oldest other) e = ap seen.Oldest (oldest_exact name other e)
+seen_eq_exact (seen.Command held) (seen.Command other) e = ap seen.Command (journalled_eq_exact held other e)
+seen_eq_exact (seen.Refused why) (seen.Refused other) e = ap seen.Refused (refusal_eq_exact why other e)
 seen_eq_exact _ _ e = absurd (false≢true e)
 
 no_data_itself : (a : Option Record) → seen_eq (seen.Local (local.NoData a)) (seen.Local (local.NoData a)) ≡ true
@@ -328,6 +371,8 @@ seen_eq_itself (seen.Stubs stubs) = (slice_eq-Decides stub_eq-Decides stubs stub
 seen_eq_itself (seen.Buried buried) = (slice_eq-Decides buried_eq-Decides buried buried _ refl).1 refl
 seen_eq_itself (seen.Servers servers) = servers_eq_itself servers
 seen_eq_itself (seen.Oldest name) = oldest_itself name
+seen_eq_itself (seen.Command held) = journalled_eq_itself held
+seen_eq_itself (seen.Refused why) = refusal_eq_itself why
 seen_eq_itself (seen.Commands commands) = (slice_eq-Decides journalled_eq-Decides commands commands _ refl).1 refl
 
 -- ---- replies

@@ -44,6 +44,20 @@ tickets_done past = tickets_of (filter (λ command. command.done) (commands_of p
 abbrev pub tickets_undone : Past → List ℕ
 tickets_undone past = tickets_of (filter (λ command. not command.done) (commands_of past))
 
+-- the command of a ticket, if the journal holds it
+abbrev pub command_at : List Journalled → ℕ → Option Journalled
+command_at [] ticket = None
+command_at (held ∷ commands) ticket = if held.ticket == ticket then Some held else command_at commands ticket
+
+-- the command of a ticket, if there is a ticket
+abbrev pub command_of : List Journalled → Option ℕ → Option Journalled
+command_of commands None = None
+command_of commands (Some ticket) = command_at commands ticket
+
+-- the command that an undo would take back
+abbrev pub next_undo : Marks → List Journalled → Option Journalled
+next_undo marks commands = command_of commands (last_of marks.done)
+
 -- ---- what is in the way of an undo or a redo of a ticket
 
 -- the number of the table that a command changes: 1 is that of local zones and records, 2 that of stubs; a flush changes none

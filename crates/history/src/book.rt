@@ -10,6 +10,7 @@ ghost use Rattle.history.specs.Servers.{servers_of};
 ghost use Rattle.history.specs.Answers.{Answers, Follows, TellsLimit, history_after};
 
 use crate::event::{Ask, Event, Look, Reply, Seen, Settings};
+use crate::hidden::Hidden;
 use crate::servers::Servers;
 use dns_name::{Name, NoMemory};
 use dns_text::Question;
@@ -147,6 +148,13 @@ pub trait Book: Drop {
     fn servers(&self, name: &Name, moment: u64) -> Result<Servers, NoMemory>
         ensures { (h : List Event) → stands_for self.now h →
             IfOk result (λ s. s ≡ servers_of (settings self.now) (past_of (settings self.now).journal h) name.now moment) };
+
+    /// Counts of how many cached names with data alive the flush of a ticket hides a cell: of some names from a place on, so that no call is
+    /// long. It is for an operator's eyes, and no clause says what is counted.
+    fn hidden_some(&self, ticket: u64, from: u64, moment: u64) -> Hidden {
+        let _ = (ticket, from, moment);
+        Hidden::none()
+    }
 
     /// How many cells are stored.
     fn stored(&self) -> usize

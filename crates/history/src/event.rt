@@ -1,13 +1,13 @@
 //! Events, lookups and replies of a book.
 
-ghost use Rattle.std.specs.Prelude.{◌≡◌, IfOk, Some};
+ghost use Rattle.std.specs.Prelude.{◌≡◌, ⊤, IfOk, MatchOption, Some};
 ghost use Rattle.std.specs.Option.{option_map};
 ghost use Rattle.local_zone.specs.Answer.{local_now};
 
 use crate::servers::Servers;
 use dns_name::{Name, NoMemory};
 use dns_text::{Addr, Items, Question, Record, Shared};
-use local_zone::{Local, LocalRecord, LocalSet, SeenRecord, Zone, ZoneType};
+use local_zone::{Local, LocalRecord, LocalSet, SeenRecord, Zone, ZoneType, share_seen};
 use ranked::{Flush, Held, Reach, SharedFind, Shown};
 use std::alloc::Global;
 use stub_table::Stub;
@@ -31,6 +31,36 @@ pub enum Ask {
     Servers(Name),
     /// The name to forget first when the cells are full.
     Oldest,
+    /// The answer for a question right after an undo or a redo, which is not made.
+    After { step: Move, question: Question },
+    /// The command that an undo would take back.
+    NextUndo,
+}
+
+/// An undo or a redo.
+#[derive(Clone, Copy, PartialEq, Eq, Drop)]
+pub enum Move {
+    /// Of the newest command that can be undone.
+    Undo,
+    /// Of the command that was undone last.
+    Redo,
+    /// Of the command of a ticket: its undo.
+    UndoOf { ticket: u64 },
+}
+
+impl Move {
+    ghost use Rattle.history.specs.Reply.{move_at};
+
+    /// The event of this move at a moment.
+    pub fn event(self, moment: u64) -> Event
+        ensures { result ≡ move_at moment self }
+    {
+        match self {
+            Move::Undo => Event::Undo { moment },
+            Move::Redo => Event::Redo { moment },
+            Move::UndoOf { ticket } => Event::UndoOf { moment, ticket },
+        }
+    }
 }
 
 /// A command of the operator, which can be undone.
@@ -193,7 +223,7 @@ impl Look<'_> {
 }
 
 /// A local answer with shares of its records.
-fn share_answer(
+pub fn share_answer(
     alloc: Global,
     answer: &Local<LocalSet<'_>, &LocalRecord>,
 ) -> Result<Local<Items<SeenRecord>, LocalRecord>, NoMemory>
@@ -241,6 +271,68 @@ pub enum Seen {
     Servers(Shared<Servers>),
     /// The name to forget first, if any name has a find that is alive.
     Oldest(Option<Name>),
+    /// A command that can be undone.
+    Command(Journalled),
+    /// The undo or the redo that was asked about would be refused.
+    Refused(Refusal),
+}
+
+/// Why an undo or a redo would be refused.
+#[derive(Clone, Copy, PartialEq, Eq, Drop)]
+pub enum Refusal {
+    /// No command can be undone.
+    NothingToUndo,
+    /// No command can be redone.
+    NothingToRedo,
+    /// The command of the ticket cannot be undone: the journal does not hold it so.
+    NotKept,
+    /// The command cannot be undone before another of its table: the farthest of those in the way.
+    Buried { ticket: u64 },
+}
+
+impl Seen {
+    /// The same once more, if it is what a lookup of a question sees: it shares the data. None if it is anything else.
+    pub fn share(&self, alloc: Global) -> Result<Option<Seen>, NoMemory>
+        ensures { IfOk result (λ shared. MatchOption shared ⊤ (λ seen. seen ≡ self.now)) }
+    {
+        match self {
+            Seen::Unknown => Ok(Some(Seen::Unknown)),
+            Seen::Held(held) => Ok(Some(Seen::Held(Shown {
+                rank: held.rank,
+                left: held.left,
+                body: held.body.share()?,
+            }))),
+            Seen::Local(answer) => Ok(Some(Seen::Local(share_seen_answer(alloc, answer)?))),
+            Seen::Refused(refusal) => Ok(Some(Seen::Refused(*refusal))),
+            _ => Ok(None),
+        }
+    }
+}
+
+/// A local answer once more, with shares of its records.
+fn share_seen_answer(
+    alloc: Global,
+    answer: &Local<Items<SeenRecord>, LocalRecord>,
+) -> Result<Local<Items<SeenRecord>, LocalRecord>, NoMemory>
+    ensures { IfOk result (λ shared. shared ≡ answer.now) }
+{
+    match answer {
+        Local::Data(set) => Ok(Local::Data(share_seen(alloc, set.as_slice())?)),
+        Local::NoData(soa) => Ok(Local::NoData(share_seen_soa(soa)?)),
+        Local::NoName(soa) => Ok(Local::NoName(share_seen_soa(soa)?)),
+        Local::Refuse => Ok(Local::Refuse),
+        Local::Drop => Ok(Local::Drop),
+        Local::Pass => Ok(Local::Pass),
+    }
+}
+
+fn share_seen_soa(soa: &Option<LocalRecord>) -> Result<Option<LocalRecord>, NoMemory>
+    ensures { IfOk result (λ shared. shared ≡ soa.now) }
+{
+    match soa {
+        Some(record) => Ok(Some(record.share()?)),
+        None => Ok(None),
+    }
 }
 
 /// A command that can be undone or redone, as the journal holds it.

@@ -1,22 +1,30 @@
 //! The laws of undo, redo, flush, refusal and of the name to forget first, by the definitions alone.
 
-ghost use Rattle.std.specs.Prelude.{◌≡◌, ◌≤◌, ℕ, List, Option, IsTrue, true, max, fold, map};
+ghost use Rattle.std.specs.Prelude.{◌≡◌, ◌≤◌, ◌++◌, ◌∷◌, [], ℕ, List, Option, None, Some, IsTrue, true, max, fold, map};
+ghost use Rattle.std.specs.List.{Contains};
 ghost use Rattle.dns_name.specs.Labels.{Labels, IsAtOrBelow};
 ghost use Rattle.dns_text.specs.declared.record.Question.{Question};
 ghost use Rattle.history.specs.declared.event.Entry.{Entry};
 ghost use Rattle.history.specs.Event.{moment_of};
 ghost use Rattle.history.specs.declared.event.Event.{Event};
-ghost use Rattle.history.specs.declared.event.Event.TheVariants.{Sweep};
+ghost use Rattle.history.specs.declared.event.Event.TheVariants.{Look, Sweep, Undo};
+ghost use Rattle.history.specs.declared.event.Ask.TheVariants.{After, Answer, NextUndo};
+ghost use Rattle.history.specs.declared.event.Move.{Move};
+ghost use Rattle.history.specs.declared.event.Refusal.{Refusal};
+ghost use Rattle.history.specs.declared.event.Refusal.TheVariants as refusal;
+ghost use Rattle.history.specs.declared.event.Reply.TheVariants.{Seen, Undone, NothingToUndo};
+ghost use Rattle.history.specs.declared.event.Seen.TheVariants.{Command as CommandSeen, Refused as RefusedSeen};
+ghost use Rattle.history.specs.declared.event.Journalled.{Journalled};
 ghost use Rattle.history.specs.declared.event.Command.{Command};
 ghost use Rattle.history.specs.declared.event.Settings.{Settings};
 ghost use Rattle.history.specs.declared.event.Reply.{Reply};
-ghost use Rattle.history.specs.History.{Past, past_of};
+ghost use Rattle.history.specs.History.{Past, followed_by, is_unstruck, past_of};
 ghost use Rattle.history.specs.Flushes.{ForgetsBefore, LastFlushDecides};
 ghost use Rattle.history.specs.Journal.{commands_of, is_among, tickets_done, tickets_of, tickets_undone};
 ghost use Rattle.history.specs.Marks.{AreAscending};
 ghost use Rattle.history.specs.Oldest.{IsOldest};
 ghost use Rattle.history.specs.OldestFound.{oldest_of};
-ghost use Rattle.history.specs.Reply.{reply_to};
+ghost use Rattle.history.specs.Reply.{answer_by, answer_of, marks_moved, move_at, refusal_in, reply_to};
 ghost use Rattle.history.specs.Refusal.{is_refusal, ChangesOnlyClock};
 ghost use Rattle.history.specs.Undo.{TakesBack};
 ghost use Rattle.history.specs.Redo.{StandsAgain, UndoIsPutBack};
@@ -36,6 +44,27 @@ pub fn undo_takes_back()
 pub fn redo_puts_back()
     ensures command { (bound : ℕ) (history : List Event) (c : Command) → 1 ≤ bound → StandsAgain bound history c }
     ensures undo { (settings : Settings) (history : List Event) → UndoIsPutBack settings history }
+{}
+
+/// What a preview shows is what a lookup at the same moment sees right after the undo or redo. One that would be refused is refused for
+/// the same reason. Of the commands, those are in force that the marks after it leave unstruck.
+/// The command that `what_undo` shows is the one that an undo takes back. It shows none only if an undo finds none.
+pub fn preview_law()
+    ensures granted { (settings : Settings) (history : List Event) (m : ℕ) (step : Move) (q : Question) →
+        refusal_in (reply_to settings history (move_at m step)) ≡ None →
+        reply_to settings history (Look m (After step q)) ≡ reply_to settings (history ++ move_at m step ∷ []) (Look m (Answer q)) }
+    ensures refused { (settings : Settings) (history : List Event) (m : ℕ) (step : Move) (q : Question) (why : Refusal) →
+        refusal_in (reply_to settings history (move_at m step)) ≡ Some why →
+        reply_to settings history (Look m (After step q)) ≡ Seen (RefusedSeen why) }
+    ensures choice { (bound : ℕ) (past : Past) (m : ℕ) (step : Move) (q : Question) →
+        answer_of (followed_by bound past (move_at m step)) q m
+        ≡ answer_by (is_unstruck (marks_moved past step)) past.log q (max past.now m) }
+    ensures next { (settings : Settings) (history : List Event) (m : ℕ) (held : Journalled) →
+        reply_to settings history (Look m NextUndo) ≡ Seen (CommandSeen held) →
+        (reply_to settings history (Undo m) ≡ Undone held.ticket) × Contains (commands_of (past_of settings.journal history)) held }
+    ensures none { (settings : Settings) (history : List Event) (m : ℕ) →
+        reply_to settings history (Look m NextUndo) ≡ Seen (RefusedSeen refusal.NothingToUndo) →
+        reply_to settings history (Undo m) ≡ NothingToUndo }
 {}
 
 /// A flush forgets what was before it: a cell that it covers depends only on what is in force after it.

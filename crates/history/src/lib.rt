@@ -3,6 +3,8 @@
 
 // The servers to ask about a name.
 mod servers;
+// How many names a flush hides.
+mod hidden;
 // Events, lookups and replies.
 mod event;
 // Copies of events and replies.
@@ -36,18 +38,20 @@ pub use book::{Book, StepFault};
 pub use closest::servers as closest_servers;
 pub use desk::{Desk, DeskFault};
 pub use event::{
-    Ask, BuriedCommand, Command, Entry, Event, Journalled, Look, Reason, Reply, Seen, Settings,
+    Ask, BuriedCommand, Command, Entry, Event, Journalled, Look, Move, Reason, Refusal, Reply,
+    Seen, Settings, share_answer,
 };
+pub use hidden::Hidden;
 pub use laws::{
     clock_is_greatest, done_is_in_order, equality_law, flush_forgets, journal_law, oldest_law,
-    redo_puts_back, refusal_changes_only_the_clock, servers_law, sweep_changes_only_the_clock,
-    undo_takes_back,
+    preview_law, redo_puts_back, refusal_changes_only_the_clock, servers_law,
+    sweep_changes_only_the_clock, undo_takes_back,
 };
 pub use limits::{
     LAGGING_CELLS, MOMENT_END, MOST_CELLS, MOST_COMMANDS, MOST_EVENTS, MOST_HINTS, MakeFault,
     are_settings, limits_law,
 };
-pub use lookup::{share_records, share_stubs, share_zones, sight as question_sight};
+pub use lookup::{share_records, share_stubs, share_zones, sight as question_sight, sight_beside};
 pub use reach::{buried, over, under};
 pub use runs::{RunFault, run};
 pub use servers::{Origin, Servers};

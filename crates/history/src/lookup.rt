@@ -4,11 +4,11 @@ ghost use Rattle.std.specs.Prelude.{◌≡◌, IfOk};
 ghost use Rattle.history.specs.Reply.{look_seen, passes_on, seen_by, seen_first};
 ghost use Rattle.local_zone.specs.Answer.{local_now, local_of};
 
-use crate::event::Look;
+use crate::event::{Look, Seen};
 use crate::source::CellSource;
 use dns_name::NoMemory;
-use dns_text::{Question, Shared};
-use local_zone::{Local, LocalRecord, LocalSet, Zone, ZoneTable};
+use dns_text::{Items, Question, Shared};
+use local_zone::{Local, LocalRecord, LocalSet, SeenRecord, Zone, ZoneTable};
 use std::alloc::Global;
 use stub_table::{Stub, StubTable};
 
@@ -56,6 +56,22 @@ fn cell_sight<'a, C: CellSource>(cells: &'a C, question: &Question, moment: u64)
             }
         }
         None => Look::Unknown,
+    }
+}
+
+/// The reply to a lookup of a question, if local zones have this answer for it: that, or the cell if they have none.
+pub fn sight_beside<C: CellSource>(
+    alloc: Global,
+    cells: &C,
+    answer: Local<Items<SeenRecord>, LocalRecord>,
+    question: &Question,
+    moment: u64,
+) -> Result<Seen, NoMemory>
+    ensures { IfOk result (λ seen. seen ≡ seen_first answer (seen_by (C.shows_at cells.now moment question.now))) }
+{
+    match answer {
+        Local::Pass => cell_sight(cells, question, moment).to_seen(alloc),
+        answer => Ok(Seen::Local(answer)),
     }
 }
 

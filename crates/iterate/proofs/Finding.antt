@@ -15,7 +15,7 @@ use Rattle.history.specs.declared.event.Event.{Event}
 use Rattle.history.specs.declared.event.Event.TheVariants.{Look}
 use Rattle.history.specs.declared.event.Reply.TheVariants.{Seen}
 use Rattle.history.specs.declared.event.Seen.{Seen as SeenValue}
-use Rattle.history.specs.declared.event.Seen.TheVariants.{Unknown, Held, Local as LocalSeen, Zones, Records, Stubs, Commands, Buried as BuriedSeen, Servers as SeenServers, Oldest as SeenOldest}
+use Rattle.history.specs.declared.event.Seen.TheVariants.{Unknown, Held, Local as LocalSeen, Zones, Records, Stubs, Commands, Buried as BuriedSeen, Servers as SeenServers, Oldest as SeenOldest, Command as SeenCommand, Refused as SeenRefused}
 use Rattle.history.specs.declared.servers.Servers.{Servers}
 use Rattle.iterate.specs.declared.answer.Answer.TheVariants.{Reply as Replies}
 use Rattle.iterate.specs.declared.answer.AnswerSet.{AnswerSet}
@@ -246,6 +246,8 @@ had_seen port m before log question (Commands commands) told a lawful is = absur
 had_seen port m before log question (BuriedSeen buried) told a lawful is = absurd is
 had_seen port m before log question (SeenServers servers) told a lawful is = absurd is
 had_seen port m before log question (SeenOldest name) told a lawful is = absurd is
+had_seen port m before log question (SeenCommand held) told a lawful is = absurd is
+had_seen port m before log question (SeenRefused why) told a lawful is = absurd is
 
 each_serves : (port m : ℕ) (before log : List Exchange) (servers : Servers) (target : Labels) (seen : SeenValue) (found : List Addr) → Adds before (exchange (Book (Look m (Asked (address_question target)))) (Reply (Seen seen))) log
     → IsLookReply (Asked (address_question target)) (Seen seen) → Known port log (Listed servers) → Contains servers.missing target → AllByRecursion (IsAddressSeen port seen) found

@@ -15,7 +15,7 @@ use Rattle.history.specs.declared.event.Ask.TheVariants.{Answer as Asked, Server
 use Rattle.history.specs.declared.event.Event.TheVariants.{Look}
 use Rattle.history.specs.declared.event.Reply.TheVariants.{Taken, Outranked, Seen, Swept, Forgotten, Done, Refused as RefusedCommand, Undone, Redone, NothingToUndo, NothingToRedo, NotKept, Buried}
 use Rattle.history.specs.declared.event.Seen.{Seen as SeenValue}
-use Rattle.history.specs.declared.event.Seen.TheVariants.{Unknown, Held, Local as LocalSeen, Zones, Records, Stubs, Commands, Buried as BuriedSeen, Servers, Oldest}
+use Rattle.history.specs.declared.event.Seen.TheVariants.{Unknown, Held, Local as LocalSeen, Zones, Records, Stubs, Commands, Buried as BuriedSeen, Servers, Oldest, Command as SeenCommand, Refused as SeenRefused}
 use Rattle.iterate.specs.declared.answer.Answer.{Answer}
 use Rattle.iterate.specs.declared.answer.Answer.TheVariants.{Reply as Replies}
 use Rattle.iterate.specs.declared.answer.Soa.{Soa}
@@ -212,6 +212,8 @@ set_known port m question input before log (Commands commands) told r set adds =
 set_known port m question input before log (BuriedSeen buried) told r set adds = absurd set
 set_known port m question input before log (Servers servers) told r set adds = absurd set
 set_known port m question input before log (Oldest name) told r set adds = absurd set
+set_known port m question input before log (SeenCommand held) told r set adds = absurd set
+set_known port m question input before log (SeenRefused why) told r set adds = absurd set
 
 -- ---- the first look
 
@@ -252,6 +254,8 @@ no_answer m question (Reply (Seen (Commands commands))) bad = tt
 no_answer m question (Reply (Seen (BuriedSeen buried))) bad = tt
 no_answer m question (Reply (Seen (Servers servers))) bad = tt
 no_answer m question (Reply (Seen (Oldest name))) bad = tt
+no_answer m question (Reply (Seen (SeenCommand held))) bad = tt
+no_answer m question (Reply (Seen (SeenRefused why))) bad = tt
 no_answer m question (Reply Taken) bad = tt
 no_answer m question (Reply Outranked) bad = tt
 no_answer m question (Reply Swept) bad = tt
@@ -336,3 +340,5 @@ same_set (Commands commands) told other is also = absurd is
 same_set (BuriedSeen buried) told other is also = absurd is
 same_set (Servers servers) told other is also = absurd is
 same_set (Oldest name) told other is also = absurd is
+same_set (SeenCommand held) told other is also = absurd is
+same_set (SeenRefused why) told other is also = absurd is

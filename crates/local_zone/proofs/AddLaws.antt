@@ -96,7 +96,7 @@ retimed-with new rs = by (is_there rs new) refl
     by true e = sym (ap (λ b. cond b (map (retimed_by new) rs) (map (retimed_by new) rs ++ new ∷ [])) (there_retimed new rs ∙ e))
     by false e = map_push new rs ∙ sym (ap (λ b. cond b (map (retimed_by new) rs) (map (retimed_by new) rs ++ new ∷ [])) (there_retimed new rs ∙ e))
 
-take_front : (xs : List Record) (x : Record) → take (length (xs ++ x ∷ []) - 1) (xs ++ x ∷ []) ≡ xs
+pub take_front : (xs : List Record) (x : Record) → take (length (xs ++ x ∷ []) - 1) (xs ++ x ∷ []) ≡ xs
 take_front xs x = take_at xs (x ∷ []) (length (xs ++ x ∷ []) - 1) (omega (arith, length-append xs (x ∷ [])))
 
 -- from the list with the record, what was saved gives the one without

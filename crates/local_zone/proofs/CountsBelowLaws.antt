@@ -283,7 +283,7 @@ owner_kept new r = by (is_of_set r new)
     by true = refl
     by false = refl
 
-count_retimed : (p : Labels → Bool) (new : Record) (records : List Record) → count_where p (map (retimed_by new) records) ≡ count_where p records
+pub count_retimed : (p : Labels → Bool) (new : Record) (records : List Record) → count_where p (map (retimed_by new) records) ≡ count_where p records
 count_retimed p new [] = refl
 count_retimed p new (r ∷ records) =
     count_one p (retimed_by new r) (map (retimed_by new) records) ∙ (λ i. cond (p (owner_kept new r i)) 1 0 + count_retimed p new records i) ∙ sym (count_one p r records)

@@ -7,10 +7,21 @@ use Rattle.dns_name.specs.Labels.{Labels}
 use Rattle.dns_name.specs.Order.{name_eq}
 use Rattle.dns_text.specs.declared.record.Record.{Record}
 use Rattle.named_list.specs.ClosestLaws.{closest_is, none_passes}
+use Rattle.local_zone.specs.Added.{brings_back, records_need}
+use Rattle.local_zone.specs.declared.added.RecordTurn.{RecordTurn}
+use Rattle.local_zone.specs.declared.added.RecordTurn.TheVariants.{Nothing, Added, Adds, Removed, Removes}
 use Rattle.local_zone.specs.declared.zone.Zone.{Zone}
 use Rattle.local_zone.specs.declared.zone_type.ZoneType.TheVariants.{Transparent}
 use Rattle.local_zone.specs.Change.{has_zone, zones_for}
 use Rattle.local_zone.specs.Closest.{closest, is_named, lies_in}
+
+-- records that a removal took need memory to come back
+pub needs_back : (turn : RecordTurn) → brings_back turn ≡ true → records_need turn ≡ true
+needs_back Nothing e = absurd (false≢true e)
+needs_back (Added added) e = absurd (false≢true e)
+needs_back (Adds new) e = refl
+needs_back (Removed removed) e = refl
+needs_back (Removes gaps) e = absurd (false≢true e)
 
 -- the second of two tests of which none holds, and the first
 pub second_fails : (a b : Bool) → (a || b) ≡ false → b ≡ false

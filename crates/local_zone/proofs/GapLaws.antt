@@ -13,7 +13,7 @@ use Rattle.local_zone.specs.Gaps.{records_of, gaps_of, put_back, first_at, at_ga
 
 -- ---- a place in a list
 
-abbrev behind : ℕ → List Record → List Record
+abbrev pub behind : ℕ → List Record → List Record
 behind gap records = drop 1 (drop gap records)
 
 pub record CutAt (gap : ℕ) (records : List Record) : Type 0 where

@@ -92,18 +92,31 @@ module _ {K G : Type 0} (octets : K → List ℕ) (items : G → List Record) wh
     λ other none. same_moved owner groups es groups' es' m other ∙ h.1 other none,
   )
 
-  pub moved_some : (owner : Labels) (groups es after : List (K × G)) (k : K) (g : G) → octets k ≡ octets_of owner → under octets (octets_of owner) es ≡ Some g → under octets (octets_of owner) after ≡ None
-      → KeepsOthers (λ x y. pointwise nat_eq (octets x) (octets y)) (λ k. pointwise nat_eq (octets_of owner) (octets k)) es after → IsMoved owner groups es (groups ++ (k, g) ∷ []) after
-  moved_some owner groups es after k g key found gone keeps = record {
-    here =
-        (λ i. first_of (under_append (octets_of owner) groups ((k, g) ∷ []) i) (gone i)) ∙ first_none (first_of (under octets (octets_of owner) groups) (under octets (octets_of owner) ((k, g) ∷ [])))
-        ∙ ap (first_of (under octets (octets_of owner) groups)) (one_here (octets_of owner) k g key ∙ sym found);
-    kept = λ other e. under_others owner other es after keeps e;
-    others = λ other e.
-        under_append (octets_of other) groups ((k, g) ∷ [])
-        ∙ ap (first_of (under octets (octets_of other) groups)) (one_there (octets_of other) k g (apart_from owner other (octets k) e (ap (pointwise nat_eq (octets_of owner)) key ∙ name_eq_itself owner)))
-        ∙ first_none (under octets (octets_of other) groups);
-  }
+  pub moved_some : (owner : Labels) (groups groups' es after : List (K × G)) (k : K) (g : G) → octets k ≡ octets_of owner → under octets (octets_of owner) groups ≡ None → under octets (octets_of owner) es ≡ Some g
+      → under octets (octets_of owner) after ≡ None → KeepsOthers (λ x y. pointwise nat_eq (octets x) (octets y)) (λ k. pointwise nat_eq (octets_of owner) (octets k)) es after
+      → under octets (octets k) groups' ≡ Some g → KeepsOthers (λ x y. pointwise nat_eq (octets x) (octets y)) (λ q. pointwise nat_eq (octets k) (octets q)) groups groups'
+      → IsMoved owner groups es groups' after
+  moved_some owner groups groups' es after k g key none found gone keeps put puts =
+      let now : under octets (octets_of owner) groups' ≡ Some g = ap (λ (s : List ℕ). under octets s groups') (sym key) ∙ put in
+      record {
+        here = (λ i. first_of (now i) (gone i)) ∙ sym (λ i. first_of (none i) (found i));
+        kept = λ other e. under_others owner other es after keeps e;
+        others = λ other e. others_kept (octets k) (octets_of other) groups groups' puts (λ q is. apart_from owner other (octets q) e (ap (λ (s : List ℕ). pointwise nat_eq s (octets q)) (sym key) ∙ is));
+      }
+
+  -- a name that has a group in one has none in the other
+  pub absent_here : (owner : Labels) (groups es : List (K × G)) (g : G) → under octets (octets_of owner) es ≡ Some g
+      → (under octets (octets_of owner) groups ≡ None) ⊎ (under octets (octets_of owner) es ≡ None) → under octets (octets_of owner) groups ≡ None
+  absent_here owner groups es g found (inl none) = none
+  absent_here owner groups es g found (inr none) = let both : Some g ≡ None = sym found ∙ none in absurd cc
+
+  pub apart_moved : (owner : Labels) (groups es groups' es' : List (K × G)) → IsMoved owner groups es groups' es' → under octets (octets_of owner) es' ≡ None
+      → ((o : Labels) → (under octets (octets_of o) groups ≡ None) ⊎ (under octets (octets_of o) es ≡ None)) → (o : Labels) → (under octets (octets_of o) groups' ≡ None) ⊎ (under octets (octets_of o) es' ≡ None)
+  apart_moved owner groups es groups' es' m gone apart o = by (name_eq owner o) refl
+    where
+      by : (b : Bool) → name_eq owner o ≡ b → (under octets (octets_of o) groups' ≡ None) ⊎ (under octets (octets_of o) es' ≡ None)
+      by true e = inr (subst (λ (x : Labels). under octets (octets_of x) es' ≡ None) (name_eq_exact owner o e) gone)
+      by false e = elim (apart o) [ inl none ↦ inl (m.others o e ∙ none) | inr none ↦ inr (m.kept o e ∙ none) ]
 
   pub moved_none : (owner : Labels) (groups es after : List (K × G)) → under octets (octets_of owner) es ≡ None → under octets (octets_of owner) after ≡ None
       → KeepsOthers (λ x y. pointwise nat_eq (octets x) (octets y)) (λ k. pointwise nat_eq (octets_of owner) (octets k)) es after → IsMoved owner groups es groups after

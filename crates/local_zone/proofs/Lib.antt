@@ -16,3 +16,6 @@ pub mod MaskLaws
 pub mod CountsBelowLaws
 pub mod ZonedLaws
 pub mod InPlaceLaws
+pub mod OtherLaws
+pub mod AnswerOverLaws
+pub mod CountsAtLaws

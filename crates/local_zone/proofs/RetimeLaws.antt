@@ -49,7 +49,7 @@ owner_kept new r = by (is_of_set r new)
     by true = refl
     by false = refl
 
-own-retimed : (owner : Labels) (new : Record) (rs : List Record) → of_owner owner (map (retimed_by new) rs) ≡ map (retimed_by new) (of_owner owner rs)
+pub own-retimed : (owner : Labels) (new : Record) (rs : List Record) → of_owner owner (map (retimed_by new) rs) ≡ map (retimed_by new) (of_owner owner rs)
 own-retimed owner new [] = refl
 own-retimed owner new (r ∷ rs) =
     ap (λ o. cond (name_eq o owner) (retimed_by new r ∷ of_owner owner (map (retimed_by new) rs)) (of_owner owner (map (retimed_by new) rs))) (owner_kept new r) ∙ by (name_eq r.owner owner) (own-retimed owner new rs)

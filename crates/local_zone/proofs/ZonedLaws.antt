@@ -1,5 +1,5 @@
 -- The counts of the records that lie in zones below names: what they are after a change of the zones, and what they tell.
-use Rattle.std.proofs.Common.{◌≡◌, ℕ, zero, suc, ◌+◌, ◌-◌, ◌<◌, ◌≤◌, Bool, true, false, ◌||◌, ◌&&◌, not, cond, nat_lt, List, [], ◌∷◌, ◌++◌, map, filter, length, insert, slice_get, take, Option, Some, None, refl, ap, sym, subst, ◌∙◌, inl, inr, arith, length-append}
+use Rattle.std.proofs.Common.{◌≡◌, ℕ, zero, suc, ◌+◌, ◌-◌, ◌<◌, ◌≤◌, Bool, true, false, ◌||◌, ◌&&◌, not, cond, nat_lt, List, [], ◌∷◌, ◌++◌, map, filter, length, insert, remove, slice_get, slice_set, take, Option, Some, None, refl, ap, sym, subst, ◌∙◌, inl, inr, arith, length-append}
 use Rattle.std.specs.Prelude.{is_some, nat_le}
 use Rattle.std.specs.Option.{option_map, option_or}
 use Rattle.std.specs.List.{list_any, AllByRecursion, IsDistinct}
@@ -18,13 +18,13 @@ use Rattle.local_zone.specs.declared.zone.Zone.{Zone}
 use Rattle.local_zone.specs.Answer.{has_record, has_record_below}
 use Rattle.local_zone.specs.Change.{has_zone, zones_without}
 use Rattle.local_zone.specs.Closest.{closest, gives_way, lies_in, zone_named}
-use Rattle.local_zone.specs.Count.{count_of, counts_for, same_zone}
+use Rattle.local_zone.specs.Count.{count_of, counts_for, counts_there, same_zone}
 use Rattle.local_zone.specs.CountsBelow.{count_below, count_zoned, counted, is_below, is_below_from, is_zone_below, is_zoned, lies_below, octets_over, AreZoned}
 use Rattle.local_zone.specs.Index.{of_owner}
 use Rattle.local_zone.specs.Reason.{has_data_below}
 use Rattle.local_zone.specs.Tables.{Tables}
 use Rattle.local_zone.specs.ZoneType.{is_redirect}
-use Rattle.local_zone.specs.Zoned.{HasOneMore}
+use Rattle.local_zone.specs.Zoned.{zone_out, HasOneMore}
 use Rattle.local_zone.proofs.ClosestLaws.{not_longer}
 use Rattle.local_zone.proofs.CountLaws.{alike, any_some, below_counts, more_pass, own_counts, redirect_counts}
 use Rattle.local_zone.proofs.CountsBelowLaws.{below_parent, count_one, from_root, no_longer, shorter}
@@ -215,7 +215,7 @@ beyond_zone zones n o (Some z) is apart =
       | inr other ↦ other
     ]
 
-not_itself : (o n : Labels) → is_at_or_below o n ≡ false → name_eq o n ≡ false
+pub not_itself : (o n : Labels) → is_at_or_below o n ≡ false → name_eq o n ≡ false
 not_itself o n apart =
     elim (cases_Bool (name_eq o n)) [
       | inl same ↦ absurd (false≢true (sym apart ∙ subst (λ (x : Labels). is_at_or_below o x ≡ true) (name_eq_exact o n same) (below_itself o)))
@@ -226,10 +226,7 @@ halves : (b : Bool) → cond (not b) 1 0 + cond b 1 0 ≡ 1
 halves true = omega arith
 halves false = omega arith
 
-abbrev stays : List Zone → Labels → Labels → Bool
-stays zones n o = is_at_or_below o n && same_zone (closest zones n) (closest zones o)
-
-one_within : (zones : List Zone) (n o : Labels) → cond (stays zones n o) 1 0 + cond (is_zoned zones n o) 1 0 ≡ cond (name_eq o n) 1 0 + cond (is_below o n) 1 0
+one_within : (zones : List Zone) (n o : Labels) → cond (counts_there zones n o) 1 0 + cond (is_zoned zones n o) 1 0 ≡ cond (name_eq o n) 1 0 + cond (is_below o n) 1 0
 one_within zones n o = by (is_at_or_below o n) refl
   where
     by : (b : Bool) → is_at_or_below o n ≡ b
@@ -245,7 +242,7 @@ within zones n [] = omega arith
 within zones n (r ∷ records) =
     omega (
       arith,
-      count_one (stays zones n) r records,
+      count_one (counts_there zones n) r records,
       count_one (is_zoned zones n) r records,
       count_one (λ o. name_eq o n) r records,
       count_one (lies_below n) r records,
@@ -310,7 +307,7 @@ module _ (zones more : List Zone) (z : Labels) (one : HasOneMore zones z more) w
   abbrev from : ℕ
   from = octets_over (closest zones z)
 
-  now_is : (n o : Labels) → is_zoned more n o ≡ one_below n (pick (stays zones z o) z (top (has_zone zones) o))
+  now_is : (n o : Labels) → is_zoned more n o ≡ one_below n (pick (counts_there zones z o) z (top (has_zone zones) o))
   now_is n o =
       zoned_is more n o ∙ ap (one_below n) (top_more (has_zone zones) (has_zone more) z one.new one.names o)
       ∙ ap (λ b. one_below n (pick b z (top (has_zone zones) o))) (by (is_at_or_below o z) refl)
@@ -319,10 +316,10 @@ module _ (zones more : List Zone) (z : Labels) (one : HasOneMore zones z more) w
       by true below = ap not (sym (zoned_is zones z o)) ∙ sym (way z (closest zones o)) ∙ alike zones z o below
       by false apart = refl
 
-  moved : (n o : Labels) → cond (is_zoned more n o) 1 0 ≡ cond (is_zoned zones n o) 1 0 + cond (is_below_from from z n && stays zones z o) 1 0
-  moved n o = by (stays zones z o) refl (now_is n o)
+  moved : (n o : Labels) → cond (is_zoned more n o) 1 0 ≡ cond (is_zoned zones n o) 1 0 + cond (is_below_from from z n && counts_there zones z o) 1 0
+  moved n o = by (counts_there zones z o) refl (now_is n o)
     where
-      by : (b : Bool) → stays zones z o ≡ b → is_zoned more n o ≡ one_below n (pick b z (top (has_zone zones) o))
+      by : (b : Bool) → counts_there zones z o ≡ b → is_zoned more n o ≡ one_below n (pick b z (top (has_zone zones) o))
           → cond (is_zoned more n o) 1 0 ≡ cond (is_zoned zones n o) 1 0 + cond (is_below_from from z n && b) 1 0
       by false s is =
           omega (arith, ap {B = ℕ} (λ b. cond b 1 0) is, ap {B = ℕ} (λ b. cond b 1 0) (zoned_is zones n o), ap {B = ℕ} (λ b. cond b 1 0) (and_false (is_below_from from z n)))
@@ -348,10 +345,10 @@ module _ (zones more : List Zone) (z : Labels) (one : HasOneMore zones z more) w
       by false = omega arith
   zoned_more n (r ∷ records) = by (is_below_from from z n) (moved n r.owner) (zoned_more n records)
     where
-      by : (b : Bool) → cond (is_zoned more n r.owner) 1 0 ≡ cond (is_zoned zones n r.owner) 1 0 + cond (b && stays zones z r.owner) 1 0
+      by : (b : Bool) → cond (is_zoned more n r.owner) 1 0 ≡ cond (is_zoned zones n r.owner) 1 0 + cond (b && counts_there zones z r.owner) 1 0
           → count_zoned more n records ≡ count_zoned zones n records + cond b (count_of zones z records) 0
           → count_zoned more n (r ∷ records) ≡ count_zoned zones n (r ∷ records) + cond b (count_of zones z (r ∷ records)) 0
-      by true here rest = omega (arith, here, rest, count_one (is_zoned more n) r records, count_one (is_zoned zones n) r records, count_one (stays zones z) r records)
+      by true here rest = omega (arith, here, rest, count_one (is_zoned more n) r records, count_one (is_zoned zones n) r records, count_one (counts_there zones z) r records)
       by false here rest = omega (arith, here, rest, count_one (is_zoned more n) r records, count_one (is_zoned zones n) r records)
 
   not_below : is_below_from from z z ≡ false
@@ -361,6 +358,14 @@ module _ (zones more : List Zone) (z : Labels) (one : HasOneMore zones z more) w
   same_count : (records : List Record) → count_of more z records ≡ count_of zones z records
   same_count records =
       omega (arith, within more z records, within zones z records, zoned_more z records, ap {B = ℕ} (λ b. cond b (count_of zones z records) 0) not_below)
+
+  -- what counts for a name without the zone, and with it
+  pub count_more : (n : Labels) (records : List Record) → count_of zones n records ≡ count_of more n records + cond (is_below_from from z n) (count_of zones z records) 0
+  count_more n records = omega (arith, within zones n records, within more n records, zoned_more n records)
+
+  -- the same, by the records that lie in the zone
+  pub count_fewer : (n : Labels) (records : List Record) → count_of zones n records ≡ count_of more n records + cond (is_below_from from z n) (count_of more z records) 0
+  count_fewer n records = count_more n records ∙ ap (λ c. count_of more n records + cond (is_below_from from z n) c 0) (sym (same_count records))
 
   module _ (records : List Record) (start after : List (List ℕ × ℕ)) (least count : ℕ) (least_is : least ≡ from) where
     amount : count ≡ count_of zones z records → (n : Labels) → cond (is_below_from least z n) count 0 ≡ cond (is_below_from from z n) (count_of zones z records) 0
@@ -472,6 +477,38 @@ has_by_names (z ∷ zones) n = ap (λ b. name_eq z.name n || b) (has_by_names zo
 pub zoned_named : (zones after : List Zone) (records : List Record) (start : List (List ℕ × ℕ)) → map (λ z. z.name) after ≡ map (λ z. z.name) zones → AreZoned zones records start → AreZoned after records start
 zoned_named zones after records start names h name =
     h name ∙ zoned_same zones after (λ n. has_by_names after n ∙ ap (λ (ns : List Labels). list_any (λ x. name_eq x n) ns) names ∙ sym (has_by_names zones n)) name records
+
+pub count_named : (zones after : List Zone) (n : Labels) (records : List Record) → map (λ z. z.name) after ≡ map (λ z. z.name) zones → count_of zones n records ≡ count_of after n records
+count_named zones after n records names =
+    let same = zoned_same zones after (λ o. has_by_names after o ∙ ap (λ (ns : List Labels). list_any (λ x. name_eq x o) ns) names ∙ sym (has_by_names zones o)) n records in
+    omega (arith, within zones n records, within after n records, same)
+
+insert_back : (zones : List Zone) (i : ℕ) (z : Zone) → slice_get zones i ≡ Some z → insert (remove zones i) i z ≡ zones
+insert_back [] i z at = absurd cc
+insert_back (x ∷ zones) zero z at = let is : x ≡ z = cc in ap (λ (y : Zone). y ∷ zones) (sym is)
+insert_back (x ∷ zones) (suc i) z at = ap (λ (ys : List Zone). x ∷ ys) (insert_back zones i z at)
+
+-- a list without the zone at a place has one zone less
+pub one_more_at : (zones : List Zone) (i : ℕ) (z : Zone) → slice_get zones i ≡ Some z → AreNamed (λ (y : Zone). y.name) zones → HasOneMore (remove zones i) z.name zones
+one_more_at zones i z at h =
+    let back = insert_back zones i z at in
+    subst (λ (zs : List Zone). HasOneMore (remove zones i) z.name zs) back
+    (one_more_in (remove zones i) i z (subst (λ (zs : List Zone). IsDistinct name_eq (map (λ (y : Zone). y.name) zs)) (sym back) h))
+
+-- the zone that a step takes out, if one is found
+pub one_more_out : (turn : Turn Zone) (zones : List Zone) (z : Zone) → Some z ≡ zone_out turn zones → AreNamed (λ (y : Zone). y.name) zones → HasOneMore (other_of turn zones) z.name zones
+one_more_out Nothing zones z e h = absurd cc
+one_more_out (Other place zone) zones z e h = absurd cc
+one_more_out (Without place) zones z e h = one_more_at zones place z (sym e) h
+one_more_out (With place zone) zones z e h = absurd cc
+
+-- a step that has no zone to take out, and none to put in
+pub count_still : (turn : Turn Zone) (zones : List Zone) (n : Labels) (records : List Record) → HasPlace (λ (z : Zone). z.name) turn zones → None ≡ name_in (λ (z : Zone). z.name) turn → None ≡ zone_out turn zones
+    → count_of zones n records ≡ count_of (other_of turn zones) n records
+count_still Nothing zones n records fits new out = refl
+count_still (Other place zone) zones n records fits new out = count_named zones (slice_set zones place zone) n records fits.1
+count_still (Without place) zones n records fits new out = let found = some_at zones place fits in let both : None ≡ Some found.0 = out ∙ found.1 in absurd cc
+count_still (With place zone) zones n records fits new out = absurd cc
 
 -- without a zone in which none of the records lies
 pub zoned_without : (zones : List Zone) (gone : Labels) (records : List Record) (start : List (List ℕ × ℕ)) → AreZoned zones (filter (λ r. not (lies_in zones gone r.owner)) records) start

@@ -1,5 +1,5 @@
 -- The records of one owner, and an index of such groups by owner.
-use Rattle.std.specs.Prelude.{List, [], ◌∷◌, Option}
+use Rattle.std.specs.Prelude.{◌≡◌, ◌⊎◌, List, [], ◌∷◌, Option, None}
 use Rattle.dns_name.specs.Labels.{Labels, octets_of}
 use Rattle.dns_text.specs.declared.record.Record.{Record}
 use Rattle.local_zone.specs.Index.{items_in, under, IsGrouped, IsIndexed}
@@ -19,6 +19,10 @@ records_in group = items_in (λ g. records_held g) group
 -- the group of a name
 abbrev pub group_of : Labels → List (Labels × Group) → Option Group
 group_of name groups = under (λ k. octets_of k) (octets_of name) groups
+
+-- No name has a group in both.
+abbrev pub ShareNone : List (Labels × Group) → List (Labels × Group) → Type 0
+ShareNone a b = (name : Labels) → (group_of name a ≡ None) ⊎ (group_of name b ≡ None)
 
 -- Under each name are the records of this owner.
 abbrev pub AreIndexed : List Record → List (Labels × Group) → Type 0

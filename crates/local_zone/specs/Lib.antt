@@ -18,4 +18,5 @@ pub mod Gaps
 pub mod Count
 pub mod CountsBelow
 pub mod Zoned
+pub mod OtherSide
 pub mod InPlace

@@ -1,9 +1,16 @@
 -- One zone more, or less, in a list of zones.
-use Rattle.std.specs.Prelude.{◌≡◌, false, ◌||◌, List}
+use Rattle.std.specs.Prelude.{◌≡◌, false, ◌||◌, List, Option, None, slice_get}
 use Rattle.dns_name.specs.Labels.{Labels}
 use Rattle.dns_name.specs.Order.{name_eq}
 use Rattle.local_zone.specs.declared.zone.Zone.{Zone}
+use Rattle.named_list.specs.declared.turn.Turn.{Turn}
+use Rattle.named_list.specs.declared.turn.Turn.TheVariants.{Without}
 use Rattle.local_zone.specs.Change.{has_zone}
+
+-- the zone that a step takes out, if it takes one out
+abbrev pub zone_out : Turn Zone → List Zone → Option Zone
+zone_out (Without place) zones = slice_get zones place
+zone_out _ zones = None
 
 -- The second list has one more zone, of a new name.
 pub record HasOneMore (zones : List Zone) (name : Labels) (more : List Zone) : Type 0 where

@@ -31,14 +31,14 @@ fn has_set(records: &[LocalRecord], owner: &Name, kind: u16) -> bool
 }
 
 /// The first SOA record at a zone's name.
-fn soa_of<'a>(records: &'a [LocalRecord], name: &Name) -> Option<&'a LocalRecord>
+pub(crate) fn soa_of<'a>(records: &'a [LocalRecord], name: &Name) -> Option<&'a LocalRecord>
     ensures { option_map (λ r. r.now) result ≡ soa_of name.now records.now }
 {
     records.iter().find(|r| is_for(r, name, SOA))
 }
 
 /// Whether a name has a record.
-fn has_record(records: &[LocalRecord], name: &Name) -> bool
+pub(crate) fn has_record(records: &[LocalRecord], name: &Name) -> bool
     ensures { result ≡ has_record name.now records.now }
 {
     records.iter().any(|r| *r.owner() == *name)
@@ -54,7 +54,7 @@ fn has_record_below(records: &RecordList, zoned: &CountsBelow, name: &Name) -> b
 }
 
 /// The CNAME of an owner, else its set of the type, shown with the QNAME as owner. None if there is neither.
-fn data<'a>(
+pub(crate) fn data<'a>(
     records: &'a [LocalRecord],
     asked: &'a Name,
     owner: &'a Name,

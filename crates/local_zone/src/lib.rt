@@ -43,6 +43,11 @@ mod answer;
 mod local_answer;
 mod owner_records;
 mod shared_answer;
+// The same on the other side of a change, without going there.
+mod answer_over;
+mod other_counts;
+mod other_side;
+mod own_records;
 // The two lists together.
 mod table;
 // The way back of a change.

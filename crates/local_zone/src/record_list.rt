@@ -2,10 +2,10 @@
 
 ghost use Rattle.std.specs.Prelude.{◌≡◌, ◌≤◌, ◌+◌, ◌++◌, ◌∷◌, [], IfOk, MatchOption, OnErr, OnOk};
 ghost use Rattle.std.specs.Vec.{vec_len, vec_capacity};
-ghost use Rattle.local_zone.specs.Gaps.{at_gaps, gaps_of, put_back, rest_of, AreApart, AreWithin};
+ghost use Rattle.local_zone.specs.Gaps.{at_gaps, gaps_of, put_back, records_of, rest_of, AreApart, AreWithin};
 ghost use Rattle.std.specs.Prelude.{◌-◌, List, None, map, take, length, false, IsTrue, ◌&&◌, ◌==◌, not};
 ghost use Rattle.std.specs.List.{list_any};
-ghost use Rattle.local_zone.specs.CountsBelow.{count_below};
+ghost use Rattle.local_zone.specs.CountsBelow.{count_below, AreCounted};
 ghost use Rattle.local_zone.specs.Tables.{is_of_set};
 ghost use Rattle.local_zone.specs.Change.{retimed_by};
 ghost use Rattle.dns_name.specs.Labels.{Labels};
@@ -182,6 +182,21 @@ fn put_all(
     }
 }
 
+/// Counts of the records at the gaps, below each name above them.
+fn counts_at(alloc: Global, list: &[LocalRecord], gaps: &[usize]) -> Result<CountsBelow, NoMemory>
+    requires { AreWithin gaps.now list.now }
+    ensures { IfOk result (λ counts. AreCounted (records_of (at_gaps gaps.now list.now)) counts) }
+{
+    let mut counts = CountsBelow::new(alloc);
+    let mut place = 0;
+    for gap in gaps {
+        place += *gap;
+        counts.add(alloc, list[place].owner())?;
+        place += 1;
+    }
+    Ok(counts)
+}
+
 /// Records in order. Contracts see the list alone. An index finds those of an owner in one lookup, and counts say in one lookup
 /// how many are below a name.
 #[derive(Drop)]
@@ -292,11 +307,16 @@ impl RecordList {
         ensures err { OnErr result (self.new ≡ self.old) }
     {
         let mut taken = Vec::with_capacity(alloc, gaps.len())?;
-        let mut groups = Vec::with_capacity(alloc, gaps.len())?;
+        let mut groups = IndexMap::with_capacity(alloc, gaps.len())?;
+        let below = counts_at(alloc, self.list.as_slice(), gaps)?;
         cut_out(alloc, &mut self.list, gaps, &mut taken)?;
         move_groups(&mut self.owners, &mut groups, &taken);
         self.below.remove_all(&taken);
-        Ok(Removed { taken, groups })
+        Ok(Removed {
+            taken,
+            groups,
+            below,
+        })
     }
 
     /// Puts records back in their places, and returns the gaps. It takes all its memory first. If that is refused,
@@ -316,7 +336,8 @@ impl RecordList {
         self.owners.reserve(removed.groups.len())?;
         self.below.add_all(alloc, &removed.taken)?;
         let taken = mem::replace(&mut removed.taken, Vec::new(alloc));
-        let groups = mem::replace(&mut removed.groups, Vec::new(alloc));
+        let groups = mem::replace(&mut removed.groups, IndexMap::new(alloc));
+        removed.below = CountsBelow::new(alloc);
         push_gaps(&taken, &mut gaps);
         put_all(alloc, &mut self.list, taken, &gaps, second);
         put_groups(&mut self.owners, groups);

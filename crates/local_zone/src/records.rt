@@ -7,7 +7,7 @@ ghost use Rattle.local_zone.specs.Gaps.{at_gaps, gaps_of, gaps_where, put_back, 
 ghost use Rattle.std.specs.List.{Contains, find, list_any};
 ghost use Rattle.std.specs.Option.{option_map};
 ghost use Rattle.dns_text.specs.declared.record.Record.{Record};
-ghost use Rattle.local_zone.specs.Added.{ttl_of, records_before, records_need, records_need_after, records_other, GoesBack};
+ghost use Rattle.local_zone.specs.Added.{ttl_of, records_before, records_need, records_other, GoesBack, IsTurned, PutsBack};
 ghost use Rattle.local_zone.specs.declared.added.RecordTurn.TheVariants as RecordTurn;
 ghost use Rattle.local_zone.specs.Tables.{is_of_set};
 ghost use Rattle.local_zone.specs.Change.{is_there, records_with, with_record};
@@ -32,7 +32,7 @@ use std::alloc::Global;
 use std::mem;
 
 /// Whether a record of the list says the same.
-fn is_among(records: &[LocalRecord], new: &Record) -> bool
+pub(crate) fn is_among(records: &[LocalRecord], new: &Record) -> bool
     ensures { result ≡ is_there records.now new.now }
 {
     records.iter().any(|r| r.is_same(new))
@@ -187,7 +187,7 @@ fn take_added(
     requires { GoesBack (RecordTurn.Added added) records.old }
     ensures list { records.new ≡ records_before added records.old }
     ensures again { GoesBack result records.new × (records_other result records.new ≡ records.old) }
-    ensures turned { (records_need result ≡ true) × (records_need_after result ≡ false) }
+    ensures turned { IsTurned (RecordTurn.Added added) result }
     ensures zoned { AreZoned zones.now records.old zoned.old → AreZoned zones.now records.new zoned.new }
 {
     take_back(zones, records, zoned, &added);
@@ -207,7 +207,7 @@ fn add_again(
     requires one_ttl { (r s : Record) → Contains records.old r → Contains records.old s → is_of_set r s ≡ true → r.ttl ≡ s.ttl }
     ensures ok { OnOk result (records.new ≡ records_with new records.old) }
     ensures again { OnOk result (GoesBack turn.new records.new × (records_other turn.new records.new ≡ records.old)) }
-    ensures turned { OnOk result ((records_need turn.new ≡ false) × (records_need_after turn.new ≡ true)) }
+    ensures turned { OnOk result (IsTurned (RecordTurn.Adds new) turn.new) }
     ensures err { OnErr result ((records.new ≡ records.old) × (turn.new ≡ RecordTurn.Adds new)) }
     ensures zoned { AreZoned zones.now records.old zoned.old → AreZoned zones.now records.new zoned.new }
 {
@@ -257,7 +257,7 @@ fn put_again(
     requires { GoesBack (RecordTurn.Removed removed) records.old }
     ensures ok { OnOk result (records.new ≡ put_back removed records.old) }
     ensures again { OnOk result (GoesBack turn.new records.new × (records_other turn.new records.new ≡ records.old)) }
-    ensures turned { OnOk result ((records_need turn.new ≡ true) × (records_need_after turn.new ≡ true)) }
+    ensures turned { OnOk result (IsTurned (RecordTurn.Removed removed) turn.new) }
     ensures err { OnErr result ((records.new ≡ records.old) × (turn.new ≡ RecordTurn.Removed removed)) }
     ensures zoned { AreZoned zones.now records.old zoned.old → AreZoned zones.now records.new zoned.new }
 {
@@ -306,7 +306,7 @@ fn take_again(
     requires { GoesBack (RecordTurn.Removes gaps) records.old }
     ensures ok { OnOk result (records.new ≡ rest_of gaps.items records.old) }
     ensures again { OnOk result (GoesBack turn.new records.new × (records_other turn.new records.new ≡ records.old)) }
-    ensures turned { OnOk result ((records_need turn.new ≡ true) × (records_need_after turn.new ≡ true)) }
+    ensures turned { OnOk result (IsTurned (RecordTurn.Removes gaps) turn.new) }
     ensures err { OnErr result ((records.new ≡ records.old) × (turn.new ≡ RecordTurn.Removes gaps)) }
     ensures zoned { AreZoned zones.now records.old zoned.old → AreZoned zones.now records.new zoned.new }
 {
@@ -334,8 +334,7 @@ pub(crate) fn turn_over(
     requires one_ttl { (r s : Record) → Contains records.old r → Contains records.old s → is_of_set r s ≡ true → r.ttl ≡ s.ttl }
     ensures ok { OnOk result (records.new ≡ records_other turn.old records.old) }
     ensures again { OnOk result (GoesBack turn.new records.new × (records_other turn.new records.new ≡ records.old)) }
-    ensures turned { OnOk result ((records_need turn.new ≡ records_need_after turn.old)
-        × (records_need_after turn.new ≡ records_need turn.old)) }
+    ensures turned { OnOk result (IsTurned turn.old turn.new) }
     ensures err { OnErr result ((records.new ≡ records.old) × (turn.new ≡ turn.old)) }
     ensures free { records_need turn.old ≡ false → IsOk result }
     ensures zoned { AreZoned zones.now records.old zoned.old → AreZoned zones.now records.new zoned.new }
@@ -406,7 +405,7 @@ fn take_gaps(
     requires within { AreWithin gaps.now records.old }
     requires apart { AreApart (at_gaps gaps.now records.old) (rest_of gaps.now records.old) }
     ensures ok { OnOk result (records.new ≡ rest_of gaps.now records.old) }
-    ensures saved { IfOk result (λ turn. GoesBack turn records.new × (records_other turn records.new ≡ records.old)) }
+    ensures saved { IfOk result (λ turn. PutsBack turn records.new records.old) }
     ensures err { OnErr result (records.new ≡ records.old) }
     ensures free { gaps.now ≡ [] → IsOk result }
     ensures frees { IfOk result (λ turn. gaps.now ≡ [] → records_need turn ≡ false) }
@@ -429,7 +428,7 @@ pub(crate) fn take_in(
     name: &Name,
 ) -> Result<RecordTurn, NoMemory>
     ensures ok { OnOk result (records.new ≡ filter (λ r. not (lies_in zones.now name.now r.owner)) records.old) }
-    ensures saved { IfOk result (λ turn. GoesBack turn records.new × (records_other turn records.new ≡ records.old)) }
+    ensures saved { IfOk result (λ turn. PutsBack turn records.new records.old) }
     ensures err { OnErr result (records.new ≡ records.old) }
     ensures free { list_any (λ r. lies_in zones.now name.now r.owner) records.old ≡ false → IsOk result }
     ensures frees { IfOk result (λ turn. list_any (λ r. lies_in zones.now name.now r.owner) records.old ≡ false →
@@ -451,7 +450,7 @@ pub(crate) fn take_of(
     owner: &Name,
 ) -> Result<RecordTurn, NoMemory>
     ensures ok { OnOk result (records.new ≡ filter (λ r. not (name_eq r.owner owner.now)) records.old) }
-    ensures saved { IfOk result (λ turn. GoesBack turn records.new × (records_other turn records.new ≡ records.old)) }
+    ensures saved { IfOk result (λ turn. PutsBack turn records.new records.old) }
     ensures err { OnErr result (records.new ≡ records.old) }
     ensures free { list_any (λ r. name_eq r.owner owner.now) records.old ≡ false → IsOk result }
     ensures frees { IfOk result (λ turn. list_any (λ r. name_eq r.owner owner.now) records.old ≡ false → records_need turn ≡ false) }

@@ -1,22 +1,28 @@
 //! The records that a change took out.
 
+use crate::counts_below::CountsBelow;
 use crate::group::Group;
+use crate::record::LocalRecord;
 use crate::taken::Taken;
 use dns_name::Name;
+use indexmap::IndexMap;
 use std::alloc::Global;
 use std::marker::Model;
 
-/// Records that were taken out of the list, each with its gap. Contracts see these alone. The groups of the index came with them.
+/// Records that were taken out of the list, each with its gap. Contracts see these alone. The groups of the index came with them, and
+/// counts say how many are below a name. So a lookup of what would be there again passes over no record.
 #[derive(Drop)]
 pub(crate) struct Removed {
     pub(crate) taken: Vec<Taken>,
     // The groups of their owners, with their keys, as they were in the index.
-    pub(crate) groups: Vec<(Name, Group)>,
+    pub(crate) groups: IndexMap<Name, Group>,
+    pub(crate) below: CountsBelow,
 }
 
 impl Model for Removed {
     ghost use Rattle.std.specs.Prelude.{List};
     ghost use Rattle.local_zone.specs.declared.taken.Taken.{Taken};
+    ghost use Rattle.local_zone.specs.CountsBelow.{AreCounted};
     ghost use Rattle.local_zone.specs.Gaps.{records_of};
     ghost use Rattle.local_zone.specs.Group.{AreGrouped};
 
@@ -24,11 +30,31 @@ impl Model for Removed {
 
     ghost view = { λ r. r.taken.items };
 
-    ghost invariant = { λ r. AreGrouped (records_of r.taken.items) r.groups.items };
+    ghost invariant = { λ r. AreGrouped (records_of r.taken.items) r.groups.entries × AreCounted (records_of r.taken.items) r.below };
 }
 
 impl Removed {
     ghost use Rattle.std.specs.Prelude.{◌≡◌, []};
+    ghost use Rattle.local_zone.specs.CountsBelow.{count_below};
+    ghost use Rattle.local_zone.specs.Gaps.{records_of};
+    ghost use Rattle.local_zone.specs.Index.{of_owner};
+
+    /// The records of an owner, in order.
+    pub(crate) fn of(&self, owner: &Name) -> &[LocalRecord]
+        ensures { result.now ≡ of_owner owner.now (records_of self.now) }
+    {
+        match self.groups.get(owner) {
+            Some(group) => group.as_slice(),
+            None => &[],
+        }
+    }
+
+    /// How many of the records lie strictly below a name.
+    pub(crate) fn count_below(&self, name: &Name) -> u64
+        ensures { result ≡ count_below name.now (records_of self.now) }
+    {
+        self.below.of(name)
+    }
 
     /// The records, each with its gap.
     pub(crate) fn as_slice(&self) -> &[Taken]
@@ -43,7 +69,8 @@ impl Removed {
     {
         Removed {
             taken: Vec::new(alloc),
-            groups: Vec::new(alloc),
+            groups: IndexMap::new(alloc),
+            below: CountsBelow::new(alloc),
         }
     }
 }

@@ -7,20 +7,23 @@ ghost use Rattle.local_zone.specs.Closest.{lies_in};
 
 use crate::added::RecordTurn;
 use crate::answer::answer;
+use crate::answer_over::answer_over;
 use crate::counts_below::CountsBelow;
 use crate::fault::TableFault;
 use crate::local_answer::{Local, LocalSet};
+use crate::other_side::OtherSide;
 use crate::reason::{reason_of_add, reason_of_set};
 use crate::record::LocalRecord;
 use crate::record_list::RecordList;
 use crate::records::{put_record, take_back, take_in, take_of, turn_over};
 use crate::saved::SavedTables;
+use crate::shared_answer::SeenRecord;
 use crate::zone::Zone;
 use crate::zone_list::{put_zone, put_zone_in, turn_zone_out};
 use crate::zone_type::ZoneType;
 use crate::zones::put_implied;
 use dns_name::{Name, NoMemory};
-use dns_text::{Question, Record, Shared};
+use dns_text::{Items, Question, Record, Shared};
 use named_list::{NamedList, Turn};
 use std::alloc::Global;
 use std::marker::Model;
@@ -304,6 +307,25 @@ impl ZoneTable {
         ensures free { needs_memory saved.old ≡ false → IsOk result }
     {
         self.turn_over(saved)
+    }
+
+    /// The answer to a question as `answer` would give it after `back`, or `again`, with this saved value. Nothing changes. It takes memory
+    /// only for the records that it shares.
+    pub fn answer_over(
+        &self,
+        saved: &SavedTables,
+        question: &Question,
+    ) -> Result<Local<Items<SeenRecord>, LocalRecord>, NoMemory>
+        requires { (other : Tables) × TakesBack saved.now self.now other }
+        ensures { IfOk result (λ answer. answer ≡ local_of (before_of saved.now self.now) question.now) }
+    {
+        let side = OtherSide {
+            zones: &self.zones,
+            records: &self.records,
+            zoned: &self.zoned,
+            saved,
+        };
+        answer_over(self.alloc, &side, question)
     }
 
     /// Drops the way back of a change, which can then no longer be taken back or made again.

@@ -88,7 +88,7 @@ pub(crate) fn put_zone_in(
 }
 
 /// Whether the other side of a change lacks a zone.
-fn takes_out(turn: &Turn<Zone>) -> bool
+pub(crate) fn takes_out(turn: &Turn<Zone>) -> bool
     ensures { result ≡ takes_out turn.now }
 {
     matches!(turn, Turn::Without { .. })

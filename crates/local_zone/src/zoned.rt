@@ -1,20 +1,22 @@
 //! Counts of the records that lie in zones strictly below each name.
 
+ghost use Rattle.std.specs.Option.{option_map};
 ghost use Rattle.std.specs.Prelude.{◌≡◌, ◌+◌, ◌-◌, List, Some, OnErr, OnOk, if◌then◌else◌};
 ghost use Rattle.dns_name.specs.Labels.{Labels};
 ghost use Rattle.local_zone.specs.Closest.{closest};
 ghost use Rattle.local_zone.specs.Count.{count_of};
-ghost use Rattle.local_zone.specs.CountsBelow.{count_zoned, counted, is_zoned, octets_over, AreZoned};
+ghost use Rattle.local_zone.specs.CountsBelow.{count_zoned, counted, is_below_from, is_zoned, octets_over, AreZoned};
 ghost use Rattle.local_zone.specs.Gaps.{records_of};
-ghost use Rattle.local_zone.specs.Zoned.{HasOneMore};
+ghost use Rattle.local_zone.specs.Zoned.{zone_out, HasOneMore};
 ghost use Rattle.local_zone.specs.declared.zone.Zone.{Zone};
-ghost use Rattle.named_list.specs.Turn.{name_in};
+ghost use Rattle.named_list.specs.Named.{AreNamed};
+ghost use Rattle.named_list.specs.Turn.{name_in, other_of, HasPlace};
 
 use crate::counts_below::CountsBelow;
 use crate::record_list::RecordList;
 use crate::taken::Taken;
 use crate::zone::Zone;
-use crate::zones::closest;
+use crate::zones::{closest, closest_over};
 use dns_name::{Name, NoMemory};
 use named_list::{NamedList, Turn};
 use std::alloc::Global;
@@ -76,18 +78,25 @@ pub(crate) fn uncount_zones(zones: &NamedList<Zone>, zoned: &mut CountsBelow, ta
     }
 }
 
-/// How many octets the name of the zone has that covers a name, or 0 if none does.
-fn octets_over(zones: &NamedList<Zone>, name: &Name) -> usize
-    ensures { result ≡ octets_over (closest zones.now name.now) }
+/// How many octets the name of the zone has that was found, or 0 if none was.
+fn octets_in(found: Option<&Zone>) -> usize
+    ensures { result ≡ octets_over (option_map (λ z. z.now) found.entry) }
 {
-    match closest(zones, name) {
+    match found {
         Some(zone) => zone.name.octets().len(),
         None => 0,
     }
 }
 
+/// How many octets the name of the zone has that covers a name, or 0 if none does.
+fn octets_over(zones: &NamedList<Zone>, name: &Name) -> usize
+    ensures { result ≡ octets_over (closest zones.now name.now) }
+{
+    octets_in(closest(zones, name))
+}
+
 /// How many records lie at or below a name, in the zone in which the name lies.
-fn count_of(records: &RecordList, zoned: &CountsBelow, name: &Name) -> u64
+pub(crate) fn count_of(records: &RecordList, zoned: &CountsBelow, name: &Name) -> u64
     ensures { (zones : List Zone) → AreZoned zones records.now zoned.now → result ≡ count_of zones name.now records.now }
 {
     // For its bound alone: the count is no greater than the number of records.
@@ -160,5 +169,75 @@ pub(crate) fn count_step_out(
 {
     if let Some(name) = turn.name_in() {
         count_out(zones, records, zoned, name);
+    }
+}
+
+/// Whether a name lies strictly below another, which has so many octets at least.
+fn is_below_from(least: usize, name: &Name, other: &Name) -> bool
+    ensures { result ≡ is_below_from least name.now other.now }
+{
+    name.at_or_below(other) && *name != *other && least <= other.octets().len()
+}
+
+/// How many records of a zone count for a name on one side of a change alone, if the zone is on one side alone. On the other, `above`
+/// covers its name, if a zone does: if that too lies strictly below the name, they count on neither.
+fn count_moved(
+    records: &RecordList,
+    zoned: &CountsBelow,
+    zone: &Name,
+    above: Option<&Zone>,
+    name: &Name,
+) -> u64
+    ensures { (zones : List Zone) → AreZoned zones records.now zoned.now →
+        result ≡ (if is_below_from (octets_over (option_map (λ z. z.now) above.entry)) zone.now name.now
+        then count_of zones zone.now records.now else 0) }
+{
+    if is_below_from(octets_in(above), zone, name) {
+        count_of(records, zoned, zone)
+    } else {
+        0
+    }
+}
+
+/// The zone that a step takes out, if it takes one out.
+fn zone_out<'a>(zones: &'a NamedList<Zone>, turn: &Turn<Zone>) -> Option<&'a Zone>
+    requires { HasPlace (λ z. z.name) turn.now zones.now }
+    ensures { option_map (λ z. z.now) result ≡ zone_out turn.now zones.now }
+{
+    match turn {
+        Turn::Without { place } => {
+            let zone = &zones.as_slice()[*place];
+            Some(zone.get())
+        }
+        _ => None,
+    }
+}
+
+/// How many records lie at or below a name, in the zone in which the name lies on the other side of a change of the zones.
+pub(crate) fn count_over(
+    zones: &NamedList<Zone>,
+    turn: &Turn<Zone>,
+    records: &RecordList,
+    zoned: &CountsBelow,
+    name: &Name,
+) -> u64
+    requires fits { HasPlace (λ z. z.name) turn.now zones.now }
+    requires sound { AreNamed (λ z. z.name) (other_of turn.now zones.now) }
+    requires zoned { AreZoned zones.now records.now zoned.now }
+    ensures { result ≡ count_of (other_of turn.now zones.now) name.now records.now }
+{
+    // For its law alone: no two zones have the same name.
+    let _zones = zones.as_slice();
+    let _all = records.as_slice().len();
+    let count = count_of(records, zoned, name);
+    if let Some(new) = turn.name_in() {
+        return count.saturating_sub(count_moved(records, zoned, new, closest(zones, new), name));
+    }
+    match zone_out(zones, turn) {
+        Some(gone) => {
+            let above = closest_over(zones, turn, &gone.name);
+            count.saturating_add(count_moved(records, zoned, &gone.name, above, name))
+        }
+        None => count,
     }
 }

@@ -5,7 +5,8 @@ ghost use Rattle.std.specs.Option.{option_map};
 ghost use Rattle.local_zone.specs.Change.{zones_for, zones_with};
 ghost use Rattle.local_zone.specs.Closest.{closest, lies_in};
 ghost use Rattle.local_zone.specs.CountsBelow.{AreZoned};
-ghost use Rattle.named_list.specs.Turn.{IsWayBack};
+ghost use Rattle.named_list.specs.Named.{AreNamed};
+ghost use Rattle.named_list.specs.Turn.{other_of, HasPlace, IsWayBack};
 ghost use Rattle.local_zone.specs.declared.table.TheConstants.{MOST_ZONES};
 
 use crate::counts_below::CountsBelow;
@@ -26,6 +27,22 @@ pub(crate) fn closest<'a>(zones: &'a NamedList<Zone>, name: &Name) -> Option<&'a
     ensures { option_map (λ z. z.now) result ≡ closest zones.now name.now }
 {
     match zones.closest(name) {
+        Some(zone) => Some(zone.get()),
+        None => None,
+    }
+}
+
+/// The longest zone at or above a name on the other side of a change of the zones.
+pub(crate) fn closest_over<'a>(
+    zones: &'a NamedList<Zone>,
+    turn: &'a Turn<Zone>,
+    name: &Name,
+) -> Option<&'a Zone>
+    requires fits { HasPlace (λ z. z.name) turn.now zones.now }
+    requires sound { AreNamed (λ z. z.name) (other_of turn.now zones.now) }
+    ensures { option_map (λ z. z.now) result ≡ closest (other_of turn.now zones.now) name.now }
+{
+    match zones.closest_over(turn, name) {
         Some(zone) => Some(zone.get()),
         None => None,
     }

@@ -16,10 +16,14 @@ use Rattle.indexmap.proofs.CallerLemmas.{insert_entry-new}
 use Rattle.indexmap.proofs.MoveLemmas.{push_moved}
 use Rattle.dns_name.specs.Labels.{Labels, octets_of, with_length}
 use Rattle.dns_name.specs.Octets.{octets_of-child}
-use Rattle.dns_name.specs.Order.{name_eq, name_eq_itself}
-use Rattle.named_list.specs.Named.{names_of, has_named, put_over, list_with, list_without}
-use Rattle.named_list.specs.Closest.{find_named, closest_of}
+use Rattle.dns_name.specs.Order.{name_eq, name_eq_exact, name_eq_itself}
+use Rattle.dns_name.specs.Closest.{closest_with}
+use Rattle.named_list.specs.Named.{AreNamed, names_of, has_named, put_over, list_with, list_without}
+use Rattle.named_list.specs.Closest.{find_named, found_over, closest_of}
 use Rattle.named_list.specs.Keyed.{AreKeyed}
+use Rattle.named_list.specs.Turn.{other_of, HasPlace}
+use Rattle.named_list.specs.declared.turn.Turn.{Turn}
+use Rattle.named_list.specs.declared.turn.Turn.TheVariants.{Other, Without, With}
 use Rattle.named_list.specs.ClosestLaws.{name_eq-swap, name_of_find, has_named-found}
 
 -- ---- look-ups
@@ -291,3 +295,113 @@ octets_above octets label name e =
 pub either : {X E A B C : Type 0} (r : Result X E) → OnOk r A → OnErr r B → (A → C) → (B → C) → C
 either (Ok x) a b f g = f a
 either (Err e) a b f g = g b
+
+-- ---- the other side of a change
+
+swap_found : {X : Type 0} (a b : Bool) (x y r : X) → (a ≡ true → b ≡ true → ⊥) → cond a x (cond b y r) ≡ cond b y (cond a x r)
+swap_found true true x y r apart = absurd (apart refl refl)
+swap_found true false x y r apart = refl
+swap_found false true x y r apart = refl
+swap_found false false x y r apart = refl
+
+both_named : (a b name : Labels) → name_eq a b ≡ false → name_eq a name ≡ true → name_eq name b ≡ true → ⊥
+both_named a b name apart first second =
+    false≢true (sym apart ∙ ap (λ (n : Labels). name_eq n b) (name_eq_exact a name first) ∙ second)
+
+twice : {X : Type 0} (b : Bool) (x y r : X) → cond b x r ≡ cond b x (cond b y r)
+twice true x y r = refl
+twice false x y r = refl
+
+module _ {T : Type 0} (name_of : T → Labels) where
+  found-set : (things : List T) (i : ℕ) (old new : T) (name : Labels) → slice_get things i ≡ Some old → (name_of new) ≡ (name_of old) → IsDistinct name_eq (names_of name_of things)
+      → find_named name_of (slice_set things i new) name ≡ found_over name_of things (name_of new) (Some new) name
+  unfolding IsDistinct
+  found-set [] i old new name at same h = absurd cc
+  found-set (s ∷ things) zero old new name at same h =
+      let is : s ≡ old = cc in
+      let named : name_eq (name_of s) name ≡ name_eq name (name_of new) = ap (λ (x : T). name_eq (name_of x) name) is ∙ ap (λ (n : Labels). name_eq n name) (sym same) ∙ name_eq-swap (name_of new) name in
+      let rest : Option T = find_named name_of things name in
+      ap (λ b. cond b (Some new) rest) (name_eq-swap (name_of new) name)
+      ∙ twice (name_eq name (name_of new)) (Some new) (Some s) rest
+      ∙ ap (λ b. cond (name_eq name (name_of new)) (Some new) (cond b (Some s) rest)) (sym named)
+  found-set (s ∷ things) (suc i) old new name at same h =
+      let apart : name_eq (name_of s) (name_of new) ≡ false = ap (name_eq (name_of s)) same ∙ apart_at name_of (name_of s) things i old h.0 at in
+      ap (λ (r : Option T). cond (name_eq (name_of s) name) (Some s) r) (found-set things i old new name at same h.1)
+      ∙ swap_found (name_eq (name_of s) name) (name_eq name (name_of new)) (Some s) (Some new) (find_named name_of things name) (both_named (name_of s) (name_of new) name apart)
+
+  found-remove : (things : List T) (i : ℕ) (old : T) (name : Labels) → slice_get things i ≡ Some old → IsDistinct name_eq (names_of name_of things)
+      → find_named name_of (remove things i) name ≡ found_over name_of things (name_of old) None name
+  unfolding IsDistinct
+  found-remove [] i old name at h = absurd cc
+  found-remove (s ∷ things) zero old name at h =
+      let is : s ≡ old = cc in
+      let named : name_eq (name_of s) name ≡ name_eq name (name_of old) = name_eq-swap (name_of s) name ∙ ap (λ (x : T). name_eq name (name_of x)) is in
+      by (name_eq (name_of s) name) refl ∙ ap (λ b. cond b None (cond (name_eq (name_of s) name) (Some s) (find_named name_of things name))) named
+    where
+      by : (b : Bool) → name_eq (name_of s) name ≡ b → find_named name_of things name ≡ cond b None (cond b (Some s) (find_named name_of things name))
+      by true e = subst (λ (n : Labels). find_named name_of things n ≡ None) (name_eq_exact (name_of s) name e) (all_apart name_of (name_of s) things h.0)
+      by false e = refl
+  found-remove (s ∷ things) (suc i) old name at h =
+      ap (λ (r : Option T). cond (name_eq (name_of s) name) (Some s) r) (found-remove things i old name at h.1)
+      ∙ swap_found (name_eq (name_of s) name) (name_eq name (name_of old)) (Some s) None (find_named name_of things name) (both_named (name_of s) (name_of old) name (apart_at name_of (name_of s) things i old h.0 at))
+
+  found-insert : (things : List T) (i : ℕ) (new : T) (name : Labels) → IsDistinct name_eq (names_of name_of (insert things i new))
+      → find_named name_of (insert things i new) name ≡ found_over name_of things (name_of new) (Some new) name
+  unfolding IsDistinct
+  found-insert [] zero new name h = ap (λ b. cond b (Some new) None) (name_eq-swap (name_of new) name)
+  found-insert [] (suc i) new name h = ap (λ b. cond b (Some new) None) (name_eq-swap (name_of new) name)
+  found-insert (s ∷ things) zero new name h = ap (λ b. cond b (Some new) (find_named name_of (s ∷ things) name)) (name_eq-swap (name_of new) name)
+  found-insert (s ∷ things) (suc i) new name h =
+      ap (λ (r : Option T). cond (name_eq (name_of s) name) (Some s) r) (found-insert things i new name h.1)
+      ∙ swap_found (name_eq (name_of s) name) (name_eq name (name_of new)) (Some s) (Some new) (find_named name_of things name)
+      (both_named (name_of s) (name_of new) name (inserted name_of (λ other. name_eq (name_of s) other ≡ false) things i new h.0))
+
+-- what is closest depends on what each name has
+closest_same : {T : Type 0} (has other : Labels → Option T) → ((name : Labels) → has name ≡ other name) → (name : Labels) → closest_with has name ≡ closest_with other name
+closest_same has other same [] = same []
+closest_same has other same (l ∷ name) = λ i. option_or (same (l ∷ name) i) (closest_same has other same name i)
+
+-- the steps of the walk
+pub with-here : {T : Type 0} (has : Labels → Option T) (name : Labels) (thing : T) → has name ≡ Some thing → closest_with has name ≡ Some thing
+with-here has [] thing e = e
+with-here has (l ∷ name) thing e = ap (λ (r : Option _). option_or r (closest_with has name)) e
+
+pub with-up : {T : Type 0} (has : Labels → Option T) (name : Labels) (label : List ℕ) (parent : Labels) → name ≡ label ∷ parent → has name ≡ None → closest_with has name ≡ closest_with has parent
+with-up has name label parent is none =
+    ap (λ (n : Labels). closest_with has n) is ∙ ap (λ (r : Option _). option_or r (closest_with has parent)) (ap has (sym is) ∙ none)
+
+pub with-root : {T : Type 0} (has : Labels → Option T) (name : Labels) → name ≡ [] → has name ≡ closest_with has name
+with-root has [] e = refl
+with-root has (l ∷ name) e = absurd cc
+
+module _ {T : Type 0} (name_of : T → Labels) where
+  one_at : (things : List T) (i : ℕ) → i < length things → (x : T) × (slice_get things i ≡ Some x)
+  one_at [] i inside = absurd (omega arith)
+  one_at (x ∷ things) zero inside = (x, refl)
+  one_at (x ∷ things) (suc i) inside = one_at things i (omega arith)
+
+  -- the closest thing on the other side of each change
+  module _ (turn : Turn T) (things : List T) (place : ℕ) (thing : T) (other name : Labels) (is_other : other ≡ name_of thing) where
+    abbrev over : Option T → Option T
+    over instead = closest_with (found_over name_of things other instead) name
+
+    named_so : (instead : Option T) (list : List T) → ((n : Labels) → find_named name_of list n ≡ found_over name_of things (name_of thing) instead n)
+        → over instead ≡ closest_of name_of list name
+    named_so instead list h =
+        closest_same (found_over name_of things other instead) (find_named name_of list) (λ n. ap (λ (o : Labels). found_over name_of things o instead n) is_other ∙ sym (h n)) name
+
+    pub closest-other : turn ≡ Other place thing → HasPlace name_of turn things → AreNamed name_of things → over (Some thing) ≡ closest_of name_of (other_of turn things) name
+    closest-other is fits h =
+        let there : HasPlace name_of (Other place thing) things = subst (λ (t : Turn T). HasPlace name_of t things) is fits in
+        let old = one_at things place there.0 in
+        named_so (Some thing) (slice_set things place thing) (λ n. found-set name_of things place old.0 thing n old.1 (names_at name_of things place old.0 thing old.1 there.1) h)
+        ∙ ap (λ (t : Turn T). closest_of name_of (other_of t things) name) (sym is)
+
+    pub closest-without : turn ≡ Without place → slice_get things place ≡ Some thing → AreNamed name_of things → over None ≡ closest_of name_of (other_of turn things) name
+    closest-without is at h =
+        named_so None (remove things place) (λ n. found-remove name_of things place thing n at h) ∙ ap (λ (t : Turn T). closest_of name_of (other_of t things) name) (sym is)
+
+    pub closest-within : turn ≡ With place thing → AreNamed name_of (other_of turn things) → over (Some thing) ≡ closest_of name_of (other_of turn things) name
+    closest-within is h =
+        named_so (Some thing) (insert things place thing) (λ n. found-insert name_of things place thing n (subst (λ (t : Turn T). AreNamed name_of (other_of t things)) is h))
+        ∙ ap (λ (t : Turn T). closest_of name_of (other_of t things) name) (sym is)

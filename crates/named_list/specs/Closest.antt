@@ -1,5 +1,5 @@
 -- The thing that is closest to a name: the one with the longest name at or above it.
-use Rattle.std.specs.Prelude.{List, Option}
+use Rattle.std.specs.Prelude.{List, Option, if◌then◌else◌}
 use Rattle.std.specs.List.{find, Contains}
 use Rattle.dns_name.specs.Labels.{Labels, IsAtOrBelow}
 use Rattle.dns_name.specs.Order.{name_eq}
@@ -12,6 +12,10 @@ find_named named things name = find (λ x. name_eq (named x) name) things
 -- the thing of this very name, else the one that is closest to its parent
 abbrev pub closest_of : {T : Type 0} → (T → Labels) → List T → Labels → Option T
 closest_of named things name = closest_with (find_named named things) name
+
+-- what has a name, if another thing, or none, has one name
+abbrev pub found_over : {T : Type 0} → (T → Labels) → List T → Labels → Option T → Labels → Option T
+found_over named things other instead name = if name_eq name other then instead else find_named named things name
 
 -- A thing of the list is at or above the name, and at or below each other one that is.
 pub record IsClosestOf {T : Type 0} (named : T → Labels) (things : List T) (name : Labels) (thing : T) : Type 0 where

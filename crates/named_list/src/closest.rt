@@ -3,12 +3,16 @@
 ghost use Rattle.std.specs.Prelude.{◌≡◌};
 ghost use Rattle.std.specs.Option.{option_map};
 ghost use Rattle.indexmap.specs.IndexMap.{values};
-ghost use Rattle.dns_name.specs.Labels.{octets_of};
-ghost use Rattle.named_list.specs.Closest.{closest_of};
+ghost use Rattle.dns_name.specs.Closest.{closest_with};
+ghost use Rattle.dns_name.specs.Labels.{Labels, octets_of};
+ghost use Rattle.named_list.specs.Closest.{closest_of, found_over};
 ghost use Rattle.named_list.specs.Keyed.{AreAsLong, AreKeyed};
+ghost use Rattle.named_list.specs.Named.{AreNamed};
+ghost use Rattle.named_list.specs.Turn.{other_of, LeadsOn};
 
 use crate::named::Named;
 use crate::spelled::Spelled;
+use crate::turn::Turn;
 use dns_name::Name;
 use dns_text::Shared;
 use indexmap::IndexMap;
@@ -40,5 +44,69 @@ pub(crate) fn closest<'a, T: Named>(
             return None;
         }
         octets = &octets[..end];
+    }
+}
+
+/// What has a name, if another thing, or none, has one name.
+fn found_over<'a, T: Named>(
+    things: &'a IndexMap<Name, Shared<T>>,
+    octets: &[u8],
+    other: &Name,
+    instead: Option<&'a Shared<T>>,
+) -> Option<&'a Shared<T>>
+    requires keyed { AreKeyed T.named (λ k. octets_of k) things.now.entries }
+    ensures { (name : Labels) → octets.now ≡ octets_of name → option_map (λ x. x.now) result
+        ≡ found_over T.named (values things.now) other.now (option_map (λ x. x.now) instead.entry) name }
+{
+    if octets == other.octets() {
+        return instead;
+    }
+    things.get(Spelled { octets })
+}
+
+/// The thing that is closest to a name, if another thing, or none, has one name. No bound on the octets ends the walk early.
+fn closest_but<'a, T: Named>(
+    things: &'a IndexMap<Name, Shared<T>>,
+    name: &Name,
+    other: &Name,
+    instead: Option<&'a Shared<T>>,
+) -> Option<&'a Shared<T>>
+    requires keyed { AreKeyed T.named (λ k. octets_of k) things.now.entries }
+    ensures { option_map (λ x. x.now) result
+        ≡ closest_with (found_over T.named (values things.now) other.now (option_map (λ x. x.now) instead.entry)) name.now }
+{
+    let mut octets = name.octets();
+    let mut labels = name.labels();
+    loop {
+        if let Some(thing) = found_over(things, octets, other, instead) {
+            return Some(thing);
+        }
+        let label = labels.next()?;
+        let end = octets.len() - label.len() - 1;
+        octets = &octets[..end];
+    }
+}
+
+/// The thing that is closest to a name on the other side of a change: one name has another thing there, or none.
+pub(crate) fn closest_over<'a, T: Named>(
+    things: &'a IndexMap<Name, Shared<T>>,
+    least: usize,
+    turn: &'a Turn<T>,
+    name: &Name,
+) -> Option<&'a Shared<T>>
+    requires keyed { AreKeyed T.named (λ k. octets_of k) things.now.entries }
+    requires long { AreAsLong T.named least (values things.now) }
+    requires named { AreNamed T.named (values things.now) }
+    requires leads { LeadsOn T.named turn.now (values things.now) }
+    ensures { option_map (λ x. x.now) result ≡ closest_of T.named (other_of turn.now (values things.now)) name.now }
+{
+    match turn {
+        Turn::Nothing => closest(things, least, name),
+        Turn::Other { thing, .. } => closest_but(things, name, thing.get().name(), Some(thing)),
+        Turn::Without { place } => {
+            let gone = &things[*place];
+            closest_but(things, name, gone.get().name(), None)
+        }
+        Turn::With { thing, .. } => closest_but(things, name, thing.name(), Some(&thing.thing)),
     }
 }

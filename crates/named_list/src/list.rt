@@ -7,7 +7,7 @@ ghost use Rattle.named_list.specs.Named.{AreNamed, has_named, list_with, list_wi
 ghost use Rattle.named_list.specs.Turn.{other_of, puts_in, with_at, HasPlace, IsWayBack};
 ghost use Rattle.named_list.specs.declared.turn.Turn.TheVariants as Turn;
 
-use crate::closest::closest;
+use crate::closest::{closest, closest_over};
 use crate::entry::{has, put, take};
 use crate::named::Named;
 use crate::turn::Turn;
@@ -68,6 +68,15 @@ impl<T: Named> NamedList<T> {
         ensures { option_map (λ x. x.now) result ≡ closest_of T.named self.now name.now }
     {
         closest(&self.things, self.least, name)
+    }
+
+    /// The thing that `closest` would give on the other side of a change. It takes no memory.
+    pub fn closest_over<'a>(&'a self, turn: &'a Turn<T>, name: &Name) -> Option<&'a Shared<T>>
+        requires fits { HasPlace T.named turn.now self.now }
+        requires sound { AreNamed T.named (other_of turn.now self.now) }
+        ensures { option_map (λ x. x.now) result ≡ closest_of T.named (other_of turn.now self.now) name.now }
+    {
+        closest_over(&self.things, self.least, turn, name)
     }
 
     /// Whether a thing has this name.

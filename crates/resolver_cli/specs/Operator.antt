@@ -5,7 +5,7 @@ use Rattle.streams.specs.declared.held_line.TheConstants.{LONGEST_LINE}
 use Rattle.dns_name.specs.Options.{◌>>=◌}
 use Rattle.dns_text.specs.Word.{next_word}
 use Rattle.resolver_cli.specs.declared.own_lines.OwnLine.{OwnLine}
-use Rattle.resolver_cli.specs.declared.own_lines.OwnLine.TheVariants.{Status, Stats, ExtraWord}
+use Rattle.resolver_cli.specs.declared.own_lines.OwnLine.TheVariants.{Status, Stats, WhatUndo, ExtraWord}
 
 -- A line may begin with this octet: a small letter, as every command does, `#` as comments do, a blank, or an end of line.
 abbrev pub BeginsLine : ℕ → Type 0
@@ -18,7 +18,11 @@ BeginsAsLine (octet ∷ _) = BeginsLine octet
 
 -- The line of the service's own that begins with this word.
 abbrev pub own_word : List ℕ → Option OwnLine
-own_word word = if bytes_eq word (codes "status") then Some Status else if bytes_eq word (codes "stats") then Some Stats else None
+own_word word =
+    if bytes_eq word (codes "status") then Some Status
+    else if bytes_eq word (codes "stats") then Some Stats
+    else if bytes_eq word (codes "what_undo") then Some WhatUndo
+    else None
 
 -- The line of the service's own that has these words: its first word, and the text after it, which is to have none.
 abbrev pub own_words : List ℕ × List ℕ → Option OwnLine

@@ -5,7 +5,7 @@ ghost use Rattle.std.specs.Prelude.{◌≡◌};
 use command_text::push_command;
 use dns_name::{Name, NoMemory};
 use dns_text::{Question, Shared};
-use history::{Ask, Book, Command, Event, Look, Reply, Seen, Servers, Settings, StepFault};
+use history::{Ask, Book, Command, Event, Hidden, Look, Reply, Seen, Servers, Settings, StepFault};
 use itoa::Buffer;
 use local_zone::ZoneTable;
 use sha2::{Digest, Sha256};
@@ -270,6 +270,10 @@ impl<B: Book> Book for WatchedBook<B> {
 
     fn servers(&self, name: &Name, moment: u64) -> Result<Servers, NoMemory> {
         self.book.servers(name, moment)
+    }
+
+    fn hidden_some(&self, ticket: u64, from: u64, moment: u64) -> Hidden {
+        self.book.hidden_some(ticket, from, moment)
     }
 
     fn stored(&self) -> usize {

@@ -40,15 +40,7 @@ fn obey_first_fifo<L: CallLedger, R: Threads + Wait + Clock + Log>(
         (Err(fault), None) => Err(fault),
         (Err(_), Some(operator)) => {
             let mut clock = MonotonicClock::new(rt, lent.terms.start);
-            let _ = obey_operator(
-                rt,
-                alloc,
-                lent.gauges,
-                &mut desk,
-                &mut clock,
-                &operator,
-                queue,
-            );
+            let _ = obey_operator(rt, alloc, lent, &mut desk, &mut clock, &operator, queue);
             Ok(None)
         }
     }

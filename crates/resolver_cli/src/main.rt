@@ -34,6 +34,8 @@ mod operator_queue;
 mod operator_turn;
 // The lines that a service answers by itself.
 mod own_lines;
+// The reply to `what_undo`, with how much a flush hides.
+mod what_undo;
 // The control socket of a service.
 mod operators;
 // Sweeps of a service's cache.

@@ -1,10 +1,10 @@
 //! The control socket, which serves one operator at a time.
 
-use crate::gauges::Gauges;
 use crate::operator::Operator;
 use crate::operator_queue::OperatorQueue;
 use crate::operator_turn::{Turn, TurnEnd};
 use crate::own_lines::{OwnLine, OwnLines};
+use crate::what_undo::what_undo;
 use crate::worker::{Lent, ServiceBook};
 use command_text::{Clock, serve_control};
 use dns_sockets::{MonotonicClock, REST_SECONDS};
@@ -29,10 +29,18 @@ fn text_of(made: Result<String, AllocError>) -> Text {
 }
 
 /// The reply to a line of the service's own, so many seconds after the start.
-fn reply_to(alloc: Global, gauges: &Gauges, own: OwnLine, seconds: u64) -> Text {
+fn reply_to<L: CallLedger, R: Wait + std::rt::Clock>(
+    rt: &R,
+    alloc: Global,
+    lent: &Lent<'_, L>,
+    desk: &mut Seat<'_, ServiceBook, L, R>,
+    own: OwnLine,
+    seconds: u64,
+) -> Text {
     match own {
-        OwnLine::Status => text_of(gauges.status(alloc, seconds)),
-        OwnLine::Stats => text_of(gauges.stats(alloc, seconds)),
+        OwnLine::Status => text_of(lent.gauges.status(alloc, seconds)),
+        OwnLine::Stats => text_of(lent.gauges.stats(alloc, seconds)),
+        OwnLine::WhatUndo => what_undo(rt, alloc, lent, desk, seconds),
         OwnLine::ExtraWord => Text::Fixed(b"error bad_data\n"),
     }
 }
@@ -54,7 +62,7 @@ fn obey_input<D: Desk, C: Clock, I: Read + Drop, O: Write + Drop>(
 pub(crate) fn obey_operator<'a, 'q, L: CallLedger, R: Wait + std::rt::Clock + Log>(
     rt: &'a R,
     alloc: Global,
-    gauges: &Gauges,
+    lent: &Lent<'_, L>,
     desk: &mut Seat<'_, ServiceBook, L, R>,
     clock: &mut MonotonicClock<'_, R>,
     operator: &'a Operator,
@@ -64,7 +72,7 @@ pub(crate) fn obey_operator<'a, 'q, L: CallLedger, R: Wait + std::rt::Clock + Lo
         warn!(rt; "{DEVICE_FAULT}: no operator is served");
         return TurnEnd::Over;
     };
-    let mut lines = OwnLines::new(&turn, &gauges.lines);
+    let mut lines = OwnLines::new(&turn, &lent.gauges.lines);
     for _ in rt.forever() {
         match obey_input(alloc, desk, clock, &mut lines, &turn) {
             Ok(Ended::EndOfInput) => {}
@@ -77,7 +85,7 @@ pub(crate) fn obey_operator<'a, 'q, L: CallLedger, R: Wait + std::rt::Clock + Lo
         let Some(own) = lines.take_own() else {
             return turn.end();
         };
-        let reply = reply_to(alloc, gauges, own, clock.now());
+        let reply = reply_to(rt, alloc, lent, desk, own, clock.now());
         let mut writer = CountedWriter::new(&turn);
         if send(&mut writer, reply.as_slice()).is_err() {
             return TurnEnd::Over;
@@ -99,9 +107,8 @@ pub(crate) fn obey_operators<L: CallLedger, R: Wait + std::rt::Clock + Log>(
     for _ in rt.forever() {
         match queue.next() {
             Ok(operator) => {
-                let gauges = lent.gauges;
                 let (desk, clock, queue) = (&mut desk, &mut clock, &mut queue);
-                match obey_operator(rt, alloc, gauges, desk, clock, &operator, queue) {
+                match obey_operator(rt, alloc, lent, desk, clock, &operator, queue) {
                     TurnEnd::Stop => return,
                     TurnEnd::Over => {}
                     TurnEnd::Yields => queue.put_back(operator),

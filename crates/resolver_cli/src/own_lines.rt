@@ -1,4 +1,4 @@
-//! The lines that a service answers by itself, without its book: `status` and `stats`.
+//! The lines that a service answers by itself: `status` and `stats`, without its book, and `what_undo`, which counts in turns.
 
 ghost use Rattle.std.specs.Prelude.{◌≡◌, ◌≤◌, length, IfOk};
 ghost use Rattle.resolver_cli.specs.declared.own_lines.TheConstants.{ROOM};
@@ -19,6 +19,7 @@ const ROOM: usize = 4096;
 pub(crate) enum OwnLine {
     Status,
     Stats,
+    WhatUndo,
     /// One of them, and a word too many.
     ExtraWord,
 }
@@ -32,6 +33,9 @@ fn own_word(word: &[u8]) -> Option<OwnLine>
     }
     if word == b"stats".as_slice() {
         return Some(OwnLine::Stats);
+    }
+    if word == b"what_undo".as_slice() {
+        return Some(OwnLine::WhatUndo);
     }
     None
 }

@@ -9,7 +9,7 @@ use crate::fault::{CallFault, SplitFault};
 use crate::kept::Kept;
 use crate::ledger::CallLedger;
 use crate::pass::Pass;
-use history::{Book, Event, Reply};
+use history::{Book, Event, Hidden, Reply};
 use std::sync::{Mutex, MutexGuard, Wait};
 
 /// What lies under the lock. Only this module reaches it without a `Held`.
@@ -82,6 +82,11 @@ impl<'a, B: Book, L: CallLedger> Held<'a, B, L> {
     {
         let Held { mut kept } = self;
         kept.sweep_some()
+    }
+
+    /// Counts of how many cached names a flush hides a cell, some names from a place on.
+    pub fn hidden_some(self, ticket: u64, from: u64, moment: u64) -> Hidden {
+        self.kept.book().hidden_some(ticket, from, moment)
     }
 
     /// A turn of a sweep if one is wanted: of both books if `whole` is set, else of the book until it has room.

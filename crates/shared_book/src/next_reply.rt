@@ -32,10 +32,13 @@ fn see_ahead<B: Book>(alloc: Global, book: &B, ask: &Ask, moment: u64) -> Result
         });
     }
     let seen = book.seen(ask, moment)?;
-    Ok(Ahead {
-        seen,
-        kept: book.seen(ask, moment)?,
-    })
+    match seen.share(alloc)? {
+        Some(kept) => Ok(Ahead { seen, kept }),
+        None => {
+            let kept = book.seen(ask, moment)?;
+            Ok(Ahead { seen, kept })
+        }
+    }
 }
 
 /// What an event is about to see, if it is a lookup.

@@ -18,7 +18,7 @@ use crate::lock::{Held, Lock};
 use crate::pass::Pass;
 use crate::receipt::Receipt;
 use dns_text::Shared;
-use history::{Ask, Book, Event, MakeFault, Reply, StepFault};
+use history::{Ask, Book, Event, Hidden, MakeFault, Reply, StepFault};
 use std::alloc::Global;
 use std::sync::Wait;
 use std::thread::yield_now;
@@ -125,6 +125,12 @@ impl<B: Book, L: CallLedger> SharedBook<B, L> {
         ensures { IsTurnThere B.stands_for B.settings B.stored B.unswept L.settings result }
     {
         self.kept.hold(rt).sweep_some()
+    }
+
+    /// Counts of how many cached names the flush of a ticket hides a cell, some names from a place on, and holds the lock briefly. It is no
+    /// call, and no clause says what is counted.
+    pub fn hidden_some<R: Wait>(&self, rt: &R, ticket: u64, from: u64, moment: u64) -> Hidden {
+        self.kept.hold(rt).hidden_some(ticket, from, moment)
     }
 
     /// Frees what a sweep may, a turn at a time, and others get the lock between two turns. It ends as soon as the book has room, or, if

@@ -4,7 +4,7 @@ use crate::callers::Stop;
 use command_text::{push_command, reply_text};
 use dns_name::{Name, NoMemory};
 use dns_text::{Question, push_type};
-use history::{Ask, Event, Reply, Seen, StepFault};
+use history::{Ask, Event, Move, Reply, Seen, StepFault};
 use ranked::{SharedFind, Shown};
 use shared_book::Receipt;
 use std::alloc::Global;
@@ -50,7 +50,7 @@ fn push_forget(name: &Name, out: &mut Vec<u8>) -> Result<(), NoMemory> {
 }
 
 /// Writes what a look asks, in the words of its line.
-fn push_ask(ask: &Ask, out: &mut Vec<u8>) -> Result<(), NoMemory> {
+fn push_ask(alloc: Global, ask: &Ask, out: &mut Vec<u8>) -> Result<(), NoMemory> {
     match ask {
         Ask::Answer(question) => push_question(question, out),
         Ask::Servers(name) => push_servers(name, out),
@@ -60,7 +60,27 @@ fn push_ask(ask: &Ask, out: &mut Vec<u8>) -> Result<(), NoMemory> {
         Ask::Commands => out.extend_from_slice(b"list_commands"),
         Ask::Buried => out.extend_from_slice(b"list_buried"),
         Ask::Oldest => out.extend_from_slice(b"oldest"),
+        Ask::After { step, question } => push_after(alloc, *step, question, out),
+        Ask::NextUndo => out.extend_from_slice(b"what_undo"),
     }
+}
+
+/// Writes the lookup of a question right after an undo or a redo.
+fn push_after(
+    alloc: Global,
+    step: Move,
+    question: &Question,
+    out: &mut Vec<u8>,
+) -> Result<(), NoMemory> {
+    match step {
+        Move::Undo => out.extend_from_slice(b"look_undo")?,
+        Move::Redo => out.extend_from_slice(b"look_redo")?,
+        Move::UndoOf { ticket } => push_numbered(alloc, "look_without", ticket, out)?,
+    }
+    out.push(b' ')?;
+    question.owner.push_text(out)?;
+    out.push(b' ')?;
+    push_type(question.kind, out)
 }
 
 fn push_numbered(
@@ -81,7 +101,7 @@ fn push_event(alloc: Global, event: &Event, out: &mut Vec<u8>) -> Result<(), NoM
             out.extend_from_slice(b"admit ")?;
             push_find(alloc, find, out)
         }
-        Event::Look { ask, .. } => push_ask(ask, out),
+        Event::Look { ask, .. } => push_ask(alloc, ask, out),
         Event::Sweep { .. } => out.extend_from_slice(b"sweep"),
         Event::Forget { owner, .. } => push_forget(owner, out),
         Event::Do { command, .. } => push_command(command, out),

@@ -2,3 +2,4 @@ pub mod CommandLaws
 pub mod PairLaws
 pub mod OldestLaws
 pub mod VersionLaws
+pub mod OverLaws

@@ -48,7 +48,7 @@ way_of_cells : (w : WayBack) (s : SavedFlush) → flush_way w ≡ Some s → tab
 way_of_cells (way.Table saved) s e = absurd cc
 way_of_cells (way.Flush saved) s e = refl
 
-tables_agree : (saved : SavedChange) (s : SavedTable) → of_tables saved ≡ Some s → store_table saved ≡ saved_table s
+pub tables_agree : (saved : SavedChange) (s : SavedTable) → of_tables saved ≡ Some s → store_table saved ≡ saved_table s
 tables_agree saved s e = way_of_tables saved.way s e
 
 pub cells_agree : (saved : SavedChange) (s : SavedFlush) → of_cells saved ≡ Some s → store_table saved ≡ no_table s

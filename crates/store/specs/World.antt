@@ -26,6 +26,9 @@ use Rattle.shelf.specs.declared.shelf.Shelf.{Shelf}
 use Rattle.shelf.specs.declared.settling.Settling.{Settling}
 use Rattle.shelf.specs.Settling.{settled_version}
 use Rattle.shelf.specs.Sweep.{unswept}
+use Rattle.ranked.specs.declared.cell.Shown.{Shown}
+use Rattle.ranked.specs.Cell.{shown_at}
+use Rattle.shelf.specs.Kept.{turned_over}
 use Rattle.shelf.specs.Told.{chosen_version, shown_version}
 use Rattle.store.specs.declared.world.SavedFlush.{SavedFlush}
 
@@ -82,6 +85,14 @@ face_by shelf kept chosen = record { tables = tt; cell = cell_by shelf chosen }
 -- what it shows: of each question, the cell of the last flush that is in force and covers it, or of none
 abbrev pub shown_face : Shelved → Face (Unit {0})
 shown_face shelf = record { tables = tt; cell = λ q. cell_at shelf q (shown_version shelf.flushes q) }
+
+-- the kept flushes, if that of this number were undone, or redone
+abbrev pub flushes_over : ℕ → Shelved → List KeptFlush
+flushes_over number shelf = map (turned_over number) shelf.flushes
+
+-- what it would show of a question at a moment, if a flush were undone, or redone
+abbrev pub shows_over : Shelved → SavedFlush → ℕ → Question → Option (Shown Find)
+shows_over shelf saved moment q = shown_at (cell_at shelf q (shown_version (flushes_over saved.number shelf) q)) moment
 
 -- a face with no cell
 abbrev pub empty_cells : Face (Unit {0})

@@ -1,6 +1,6 @@
 -- Lemmas of the flushes that a shelf keeps.
 use Rattle.std.proofs.Common.{◌≡◌, ◌≢◌, ◌<◌, ◌∙◌, ◌++◌, ◌∷◌, [], ℕ, Bool, true, false, Option, Some, None, List, map, fold, refl, sym, ap, subst, arith}
-use Rattle.std.specs.Prelude.{◌==◌, ◌&&◌, if◌then◌else◌}
+use Rattle.std.specs.Prelude.{◌==◌, ◌&&◌, not, if◌then◌else◌}
 use Rattle.std.specs.List.{AllByRecursion}
 use Rattle.dns_name.specs.Labels.{Labels}
 use Rattle.dns_name.specs.Order.{name_eq}
@@ -26,9 +26,9 @@ use Rattle.ranked.specs.declared.find.Scope.{Scope}
 use Rattle.ranked.specs.declared.find.Scope.TheVariants.{One, Whole}
 use Rattle.shelf.specs.declared.shelf.Shelf.{Shelf}
 use Rattle.shelf.specs.Room.{fate_of}
-use Rattle.shelf.specs.Kept.{with_shown, stands_first}
+use Rattle.shelf.specs.Kept.{with_shown, stands_first, turned_over}
 use Rattle.ranked.specs.Flush.{covers}
-use Rattle.shelf.specs.Told.{IsShelfOf, is_version, later_shown, later_chosen, chosen_version, IsAscending, without}
+use Rattle.shelf.specs.Told.{IsShelfOf, is_version, later_shown, later_chosen, chosen_version, shown_version, IsAscending, without}
 use Rattle.store.specs.declared.world.SavedFlush.{SavedFlush}
 use Rattle.store.specs.World.{Shelved, shelved, cell_at, cell_by, mark_of, mark, KeepsFlushes, face_by, shown_face, fault_told, empty_cells}
 
@@ -185,6 +185,53 @@ turned from to number saved (e ∷ earlier) later up =
     let differs : (e.ticket == number) ≡ false = other_number e.ticket number (λ same. absurd (omega (arith, same, low))) in
     ap (λ (b : Bool). (e.ticket, if b then is_done to else is_done e.standing) ∷ map (with_mark number (is_done to)) (map mark_of (earlier ++ kept_as from number saved ∷ later))) differs
     ∙ ap (λ l. mark_of e ∷ l) (turned from to number saved earlier later up.1)
+
+-- ---- a flag that stands the other way
+
+abbrev flip_mark : ℕ → ℕ × Bool → ℕ × Bool
+flip_mark number m = (m.0, if m.0 == number then not m.1 else m.1)
+
+marks_flipped : (number : ℕ) (items : List KeptFlush) → map mark (map (turned_over number) items) ≡ map (flip_mark number) (map mark items)
+marks_flipped number [] = refl
+marks_flipped number (own ∷ items) = ap (λ l. flip_mark number (mark own) ∷ l) (marks_flipped number items)
+
+unflipped : (number : ℕ) (ms : List (ℕ × Bool)) → AllByRecursion (λ m. number < m.0) ms → map (flip_mark number) ms ≡ ms
+unflipped number [] h = refl
+unflipped number (m ∷ ms) h =
+    let differs : (m.0 == number) ≡ false = other_number m.0 number (λ e. absurd (omega (arith, e, h.0))) in
+    ap (λ (b : Bool). (m.0, if b then not m.1 else m.1) ∷ map (flip_mark number) ms) differs
+    ∙ ap (λ l. m ∷ l) (unflipped number ms h.1)
+
+flipped : (from to : Standing) (number : ℕ) (saved : SavedFlush) (earlier later : List (KeptChange SavedFlush)) → not (is_done from) ≡ is_done to →
+    AreAscending (map mark_of (earlier ++ kept_as from number saved ∷ later)) →
+    map (flip_mark number) (map mark_of (earlier ++ kept_as from number saved ∷ later)) ≡ map mark_of (earlier ++ kept_as to number saved ∷ later)
+flipped from to number saved [] later other up =
+    ap (λ (b : Bool). (number, if b then not (is_done from) else is_done from) ∷ map (flip_mark number) (map mark_of later)) (same_number number)
+    ∙ (ap (λ (b : Bool). (number, b) ∷ map (flip_mark number) (map mark_of later)) other
+    ∙ ap (λ l. (number, is_done to) ∷ l) (unflipped number (map mark_of later) up.0))
+flipped from to number saved (e ∷ earlier) later other up =
+    let low = mark_here e.ticket earlier (kept_as from number saved) later up.0 in
+    let differs : (e.ticket == number) ≡ false = other_number e.ticket number (λ same. absurd (omega (arith, same, low))) in
+    ap (λ (b : Bool). (e.ticket, if b then not (is_done e.standing) else is_done e.standing) ∷ map (flip_mark number) (map mark_of (earlier ++ kept_as from number saved ∷ later))) differs
+    ∙ ap (λ l. mark_of e ∷ l) (flipped from to number saved earlier later other up.1)
+
+-- a choice does not read the flags
+chosen_flipped : (q : Question) (chosen : ℕ → Bool) (number v : ℕ) (items : List KeptFlush) → fold (later_chosen q chosen) v items ≡ fold (later_chosen q chosen) v (map (turned_over number) items)
+chosen_flipped q chosen number v [] = refl
+chosen_flipped q chosen number v (own ∷ items) = chosen_flipped q chosen number (later_chosen q chosen v own) items
+
+-- The choice in which one flush alone stands the other way gives the version that is in force if its flag is turned over.
+pub version_over : (from to : Standing) (shelf : Shelved) (earlier : List (KeptChange SavedFlush)) (ticket : ℕ) (saved : SavedFlush) (later : List (KeptChange SavedFlush)) (chosen : ℕ → Bool) (q : Question) →
+    not (is_done from) ≡ is_done to → IsAscending shelf.flushes → KeepsFlushes shelf (earlier ++ kept_as from ticket saved ∷ later) → IsPresent (earlier ++ kept_as to ticket saved ∷ later) chosen →
+    shown_version (map (turned_over saved.number) shelf.flushes) q ≡ chosen_version shelf.flushes q chosen
+version_over from to shelf earlier ticket saved later chosen q other up h present =
+    let number : saved.number ≡ ticket = all_here (λ k. k.saved.number ≡ k.ticket) earlier (kept_as from ticket saved) later h.numbers in
+    let turned_is : map mark_of (earlier ++ kept_as to ticket saved ∷ later) ≡ map mark (map (turned_over ticket) shelf.flushes)
+    = sym (flipped from to ticket saved earlier later other (ascending_kept shelf (earlier ++ kept_as from ticket saved ∷ later) h up))
+    ∙ (ap (map (flip_mark ticket)) h.agree ∙ sym (marks_flipped ticket shelf.flushes)) in
+    ap (λ n. shown_version (map (turned_over n) shelf.flushes) q) number
+    ∙ (sym (shown_fold q chosen 0 (earlier ++ kept_as to ticket saved ∷ later) (map (turned_over ticket) shelf.flushes) turned_is present)
+    ∙ sym (chosen_flipped q chosen ticket 0 shelf.flushes))
 
 -- One flush is done or undone: a flag of the shelf is set.
 pub row_turned : (from to : Standing) (before after : Shelved) (earlier : List (KeptChange SavedFlush)) (ticket : ℕ) (saved : SavedFlush) (later : List (KeptChange SavedFlush)) →

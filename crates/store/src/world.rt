@@ -8,6 +8,7 @@ use cell_store::NameSeed;
 use change_law::{Change, ChangeFault, World, WorldFault};
 use dns_name::{Name, NoMemory};
 use dns_text::Question;
+use history::Hidden;
 use ranked::{Fate, Flush, Held, SharedFind};
 use shelf::{Shelf, StoreFault, admitted_law};
 use std::alloc::Global;
@@ -61,16 +62,19 @@ impl ShelfWorld {
     ghost use Rattle.std.specs.Prelude.{◌≤◌, ◌+◌, ◌^◌, ℕ, List, length, map};
     ghost use Rattle.std.specs.List.{AllByRecursion};
     ghost use Rattle.dns_name.specs.Labels.{Labels};
+    ghost use Rattle.dns_text.specs.declared.record.Question.{Question};
     ghost use Rattle.ranked.specs.declared.find.Find.{Find};
     ghost use Rattle.ranked.specs.declared.find.Scope.{Scope};
     ghost use Rattle.ranked.specs.Cell.{shown_at};
     ghost use Rattle.change_law.specs.declared.kept.KeptChange.{KeptChange};
     ghost use Rattle.change_law.specs.Pairs.{CountsAmong, IsAliveIn, count_pairs, pair_of};
+    ghost use Rattle.change_law.specs.Turn.{HoldsOver};
     ghost use Rattle.store.specs.declared.world.SavedFlush.{SavedFlush};
     ghost use Rattle.cell_store.specs.Owner.{held_now};
-    ghost use Rattle.store.specs.World.{empty_cells};
+    ghost use Rattle.store.specs.World.{empty_cells, shows_over};
     ghost use Rattle.world_book.specs.Book.{IsUntouched};
     ghost use Rattle.store.specs.Kept.{kept_in};
+    ghost use Rattle.store.specs.Sweep.{most_reaching};
 
     /// An empty cache that may store so many cells. It keeps no flushes, and its index hashes with the fixed seed.
     pub fn new(alloc: Global, limit: u64) -> ShelfWorld
@@ -116,6 +120,42 @@ impl ShelfWorld {
         self.shelf.show_both(owner, first, second, moment)
     }
 
+    /// What would be shown of a question, if a flush that is kept were undone, or redone. It takes no memory.
+    pub fn show_over(
+        &self,
+        saved: &SavedFlush,
+        owner: &Name,
+        kind: u16,
+        moment: u64,
+    ) -> Option<Held<'_>>
+        ensures { held_now result ≡ shows_over self.now saved.now moment (record { owner = owner.now; kind = kind }) }
+    {
+        self.shelf.show_over(saved.number, owner, kind, moment)
+    }
+
+    /// That is what the face shows of the choice in which the flush alone stands the other way.
+    pub(crate) fn over_law(&self, saved: &SavedFlush)
+        ensures { (moment : ℕ) (q : Question) →
+            HoldsOver ⟦<ShelfWorld as World>⟧.table ⟦<ShelfWorld as World>⟧.keeps ⟦<ShelfWorld as World>⟧.face self.now saved.now
+            (λ face. shows_over self.now saved.now moment q ≡ shown_at (face.cell q) moment) }
+    {
+        // It is read for its invariant: the numbers of the kept flushes ascend.
+        let _shelf = &self.shelf;
+    }
+
+    /// Counts of how many names a flush hides a cell, some names from a place on. No clause says what is counted.
+    pub fn hidden_some(&self, saved: &SavedFlush, from: u64, moment: u64) -> Hidden {
+        let (names, visited, next) = self.shelf.hidden_some(saved.number, from as usize, moment);
+        Hidden {
+            names,
+            visited,
+            next: match next {
+                Some(next) => Some(next as u64),
+                None => None,
+            },
+        }
+    }
+
     /// How many places count. They are never more than the limit, nor more than the different pairs that count. They are never
     /// fewer than the different pairs of the finds that are alive at a moment, whatever choice of the kept flushes is in force.
     pub fn stored(&self) -> u64
@@ -136,6 +176,14 @@ impl ShelfWorld {
         ensures few { result ≤ ⟦<ShelfWorld as World>⟧.stored self.now }
     {
         self.shelf.names()
+    }
+
+    /// How many permanent flushes of zones have names left to reach. Each lookup reads their list.
+    pub fn reaching(&self) -> usize
+        ensures reaching { result ≡ length self.now.settlings }
+        ensures few { result ≤ most_reaching }
+    {
+        self.shelf.reaching()
     }
 
     /// How many versions a place may have: one for each flush that can be undone or redone, and one without them.

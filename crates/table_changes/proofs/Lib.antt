@@ -1,3 +1,4 @@
 pub mod PartRows
 pub mod BothRows
 pub mod EndLaws
+pub mod OverLaws

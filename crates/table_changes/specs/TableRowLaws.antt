@@ -467,18 +467,55 @@ module _ {S V : Type 0} (other : S → V → V) (Leads : S → V → V → Type 
 
 -- ---- what is in effect
 
+module _ {S V : Type 0} (other : S → V → V) (chosen : ℕ → Bool) where
+  back_present : (s : Standing) (k : KeptChange S) → chosen k.ticket ≡ is_done s → (x : V) → back_over other (chosen k.ticket) s k.saved x ≡ x
+  back_present Done k e x = back_chosen other (chosen k.ticket) Done k.saved x e
+  back_present Undone k e x = back_not_done other (chosen k.ticket) Undone k.saved x Undone≢Done
+  back_present Cleared k e x = back_not_done other (chosen k.ticket) Cleared k.saved x Cleared≢Done
+
+  again_present : (s : Standing) (k : KeptChange S) → chosen k.ticket ≡ is_done s → (x : V) → again_over other (chosen k.ticket) s k.saved x ≡ x
+  again_present Done k e x = again_not_undone other (chosen k.ticket) Done k.saved x Done≢Undone
+  again_present Undone k e x = again_left other (chosen k.ticket) Undone k.saved x e
+  again_present Cleared k e x = again_left other (chosen k.ticket) Cleared k.saved x e
+
+  none_back : (kept : List (KeptChange S)) → IsPresent kept chosen → AllByRecursion (λ k. (x : V) → back_over other (chosen k.ticket) k.standing k.saved x ≡ x) kept
+  none_back kept h = all_weaker _ _ (λ k e x. back_present k.standing k e x) kept h
+
+  none_again : (kept : List (KeptChange S)) → IsPresent kept chosen → AllByRecursion (λ k. (x : V) → again_over other (chosen k.ticket) k.standing k.saved x ≡ x) kept
+  none_again kept h = all_weaker _ _ (λ k e x. again_present k.standing k e x) kept h
+
 -- a choice of what is in effect gives the table as it is
 pub table_present : {S V : Type 0} (other : S → V → V) (v : V) (kept : List (KeptChange S)) (chosen : ℕ → Bool) → IsPresent kept chosen → table_by other v kept chosen ≡ v
 table_present {S} {V} other v kept chosen h =
-    ap (λ (x : V). made_again other chosen x kept) (taken_same other chosen v kept (all_weaker _ _ (λ k e x. back_is k.standing k e x) kept h))
-    ∙ made_same other chosen v kept (all_weaker _ _ (λ k e x. again_is k.standing k e x) kept h)
-  where
-    back_is : (s : Standing) (k : KeptChange S) → chosen k.ticket ≡ is_done s → (x : V) → back_over other (chosen k.ticket) s k.saved x ≡ x
-    back_is Done k e x = back_chosen other (chosen k.ticket) Done k.saved x e
-    back_is Undone k e x = back_not_done other (chosen k.ticket) Undone k.saved x Undone≢Done
-    back_is Cleared k e x = back_not_done other (chosen k.ticket) Cleared k.saved x Cleared≢Done
+    ap (λ (x : V). made_again other chosen x kept) (taken_same other chosen v kept (none_back other chosen kept h)) ∙ made_same other chosen v kept (none_again other chosen kept h)
 
-    again_is : (s : Standing) (k : KeptChange S) → chosen k.ticket ≡ is_done s → (x : V) → again_over other (chosen k.ticket) s k.saved x ≡ x
-    again_is Done k e x = again_not_undone other (chosen k.ticket) Done k.saved x Done≢Undone
-    again_is Undone k e x = again_left other (chosen k.ticket) Undone k.saved x e
-    again_is Cleared k e x = again_left other (chosen k.ticket) Cleared k.saved x e
+module _ {S V : Type 0} (other : S → V → V) (v : V) (earlier : List (KeptChange S)) (ticket : ℕ) (saved : S) (later : List (KeptChange S)) (chosen : ℕ → Bool) where
+  -- a choice of what is in effect but this change gives the other side of it
+  pub table_without : IsPresent (earlier ++ kept_as Undone ticket saved ∷ later) chosen → table_by other v (earlier ++ kept_as Done ticket saved ∷ later) chosen ≡ other saved v
+  table_without present =
+      let k = kept_as Done ticket saved in
+      let parts = all_split (λ e. chosen e.ticket ≡ is_done e.standing) earlier (kept_as Undone ticket saved ∷ later) present in
+      let taken : taken_back other chosen v (earlier ++ k ∷ later) ≡ other saved v
+      = taken_append other chosen v earlier (k ∷ later)
+      ∙ ap (λ (x : V). taken_back other chosen (back_over other (chosen ticket) Done saved x) earlier) (taken_same other chosen v later (none_back other chosen later parts.1.1))
+      ∙ ap (λ (b : Bool). taken_back other chosen (back_over other b Done saved v) earlier) parts.1.0
+      ∙ taken_same other chosen (other saved v) earlier (none_back other chosen earlier parts.0) in
+      ap (λ (x : V). made_again other chosen x (earlier ++ k ∷ later)) taken
+      ∙ made_same other chosen (other saved v) (earlier ++ k ∷ later)
+      (all-append (λ e. (x : V) → again_over other (chosen e.ticket) e.standing e.saved x ≡ x) earlier (k ∷ later) (none_again other chosen earlier parts.0)
+      ((λ x. again_not_undone other (chosen ticket) Done saved x Done≢Undone), none_again other chosen later parts.1.1))
+
+  -- the same with it, if it is undone
+  pub table_added : IsPresent (earlier ++ kept_as Done ticket saved ∷ later) chosen → table_by other v (earlier ++ kept_as Undone ticket saved ∷ later) chosen ≡ other saved v
+  table_added present =
+      let k = kept_as Undone ticket saved in
+      let parts = all_split (λ e. chosen e.ticket ≡ is_done e.standing) earlier (kept_as Done ticket saved ∷ later) present in
+      let taken : taken_back other chosen v (earlier ++ k ∷ later) ≡ v
+      = taken_same other chosen v (earlier ++ k ∷ later)
+      (all-append (λ e. (x : V) → back_over other (chosen e.ticket) e.standing e.saved x ≡ x) earlier (k ∷ later) (none_back other chosen earlier parts.0)
+      ((λ x. back_not_done other (chosen ticket) Undone saved x Undone≢Done), none_back other chosen later parts.1.1)) in
+      ap (λ (x : V). made_again other chosen x (earlier ++ k ∷ later)) taken
+      ∙ made_append other chosen v earlier (k ∷ later)
+      ∙ ap (λ (x : V). made_again other chosen (again_over other (chosen ticket) Undone saved x) later) (made_same other chosen v earlier (none_again other chosen earlier parts.0))
+      ∙ ap (λ (b : Bool). made_again other chosen (again_over other b Undone saved v) later) parts.1.0
+      ∙ made_same other chosen (other saved v) later (none_again other chosen later parts.1.1)

@@ -6,8 +6,9 @@ use crate::stubs::{StubChange, make_stub_change};
 use crate::zones::{ZoneChange, make_zone_change};
 use change_law::{Change, ChangeFault, World, WorldFault};
 use dns_name::{Name, NoMemory};
-use history::{Command, Tables};
-use local_zone::SavedTables;
+use dns_text::{Items, Question};
+use history::{Command, Tables, share_answer};
+use local_zone::{Local, LocalRecord, SavedTables, SeenRecord};
 use ranked::{Fate, SharedFind};
 use std::alloc::Global;
 use stub_table::SavedStubs;
@@ -68,6 +69,8 @@ impl TableWorld {
     ghost use Rattle.std.specs.Prelude.{ℕ, Bool, []};
     ghost use Rattle.change_law.specs.Face.{IsSame};
     ghost use Rattle.history.specs.Changes.{no_tables};
+    ghost use Rattle.change_law.specs.Turn.{CanTurn, HoldsOver};
+    ghost use Rattle.local_zone.specs.Answer.{local_of};
 
     /// Empty tables, which keep no changes. They take no memory.
     pub fn new(alloc: Global) -> TableWorld
@@ -78,6 +81,25 @@ impl TableWorld {
     {
         TableWorld {
             tables: Tables::new(alloc),
+        }
+    }
+
+    /// The answer to a question on the other side of a change: after its undo if it is in effect, else after its redo. Nothing changes. A
+    /// change of stubs has no part in it.
+    pub fn answer_over(
+        &self,
+        alloc: Global,
+        saved: &SavedTable,
+        question: &Question,
+    ) -> Result<Local<Items<SeenRecord>, LocalRecord>, NoMemory>
+        requires { CanTurn ⟦<TableWorld as World>⟧.table ⟦<TableWorld as World>⟧.keeps self.now saved.now }
+        ensures { IfOk result (λ answer.
+            HoldsOver ⟦<TableWorld as World>⟧.table ⟦<TableWorld as World>⟧.keeps ⟦<TableWorld as World>⟧.face self.now saved.now
+            (λ face. answer ≡ local_of face.tables.local question.now)) }
+    {
+        match saved {
+            SavedTable::Zones(saved) => self.tables.local.answer_over(saved, question),
+            SavedTable::Stubs(_) => share_answer(alloc, &self.tables.local.answer(question)),
         }
     }
 

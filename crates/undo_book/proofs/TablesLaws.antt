@@ -40,7 +40,7 @@ flag_first ticket flag [] t = refl
 flag_first ticket flag (l ∷ log) t = flag_first ticket flag log (tables_after_flagged ticket flag t l)
 
 -- where the flags, one of them changed, tell what these marks have struck
-replayed : (marks : Marks) (ticket : ℕ) (flag : Bool) (log : List Logged) → AreFlagged marks.struck (map (with_flag ticket flag) log)
+pub replayed : (marks : Marks) (ticket : ℕ) (flag : Bool) (log : List Logged) → AreFlagged marks.struck (map (with_flag ticket flag) log)
     → fold (tables_after_flagged ticket flag) no_tables log ≡ tables_by (standing_with (is_unstruck marks) (entries_in log))
 replayed marks ticket flag log h =
     flag_first ticket flag log no_tables

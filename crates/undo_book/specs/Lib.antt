@@ -27,5 +27,6 @@ pub mod Ends
 pub mod Stored
 pub mod Replayed
 pub mod PlainPast
+pub mod Preview
 pub mod PlainBook
 pub mod ShelfBook

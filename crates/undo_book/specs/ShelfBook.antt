@@ -15,6 +15,10 @@ seed_of book = book.book.world.cells.seed
 abbrev pub names_of : ShelfBook → ℕ
 names_of book = length book.book.world.cells.names
 
+-- how many permanent flushes of zones have names of its cache left to reach
+abbrev pub reaching_of : ShelfBook → ℕ
+reaching_of book = length book.book.world.cells.settlings
+
 -- how many commands its journal keeps
 abbrev pub commands_of : ShelfBook → ℕ
 commands_of book = length book.book.changes.kept

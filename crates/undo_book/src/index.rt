@@ -73,7 +73,7 @@ impl Indexed {
             return cell;
         }
         match log.get(self.at) {
-            Some(logged) => replay_entry(owner, kind, cell, logged),
+            Some(logged) => replay_entry(owner, kind, logged.struck, cell, &logged.entry),
             None => cell,
         }
     }

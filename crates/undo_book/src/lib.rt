@@ -21,6 +21,8 @@ mod listing;
 mod scope_replay;
 // The name to forget first.
 mod oldest;
+// What a lookup would see right after an undo or a redo.
+mod preview;
 // What a lookup sees.
 mod lookup_result;
 // The reply to an event, and the tables after it.
@@ -32,10 +34,11 @@ mod shelf_book;
 
 pub use history::{
     Ask, Book, BuriedCommand, Command, Desk, DeskFault, Entry, Event, Journalled, Look, MOMENT_END,
-    MOST_CELLS, MOST_COMMANDS, MOST_EVENTS, MOST_HINTS, MakeFault, Origin, Reason, Reply, RunFault,
-    Seen, Servers, Settings, StepFault, clock_is_greatest, done_is_in_order, equality_law,
-    flush_forgets, journal_law, oldest_law, redo_puts_back, refusal_changes_only_the_clock, run,
-    servers_law, sweep_changes_only_the_clock, undo_takes_back,
+    MOST_CELLS, MOST_COMMANDS, MOST_EVENTS, MOST_HINTS, MakeFault, Move, Origin, Reason, Refusal,
+    Reply, RunFault, Seen, Servers, Settings, StepFault, clock_is_greatest, done_is_in_order,
+    equality_law, flush_forgets, journal_law, oldest_law, preview_law, redo_puts_back,
+    refusal_changes_only_the_clock, run, servers_law, sweep_changes_only_the_clock,
+    undo_takes_back,
 };
 pub use plain::PlainBook;
 pub use shelf_book::ShelfBook;

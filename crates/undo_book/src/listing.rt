@@ -2,7 +2,7 @@
 
 ghost use Rattle.std.specs.Prelude.{◌≡◌, ◌++◌, [], IfOk, OnOk};
 ghost use Rattle.std.specs.List.{cons_option};
-ghost use Rattle.history.specs.Journal.{buried_in, commands_of, held_as, held_with};
+ghost use Rattle.history.specs.Journal.{buried_in, command_at, commands_of, held_as, held_with};
 ghost use Rattle.undo_book.specs.Plain.{marks_in, held_of};
 ghost use Rattle.undo_book.specs.PlainPast.{past_in};
 
@@ -32,6 +32,25 @@ pub(crate) fn buried_commands(
 {
     let commands = commands(alloc, past)?;
     buried(alloc, commands.as_slice())
+}
+
+/// A copy of the command of a ticket, if it is one of these.
+pub(crate) fn command_at(
+    commands: &[Journalled],
+    ticket: u64,
+) -> Result<Option<Journalled>, NoMemory>
+    ensures { IfOk result (λ o. o ≡ command_at commands.now ticket) }
+{
+    for held in commands {
+        if held.ticket == ticket {
+            return Ok(Some(Journalled {
+                ticket,
+                done: held.done,
+                command: held.command.copy()?,
+            }));
+        }
+    }
+    Ok(None)
 }
 
 /// Adds what the journal holds of an entry.

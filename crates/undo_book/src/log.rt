@@ -13,6 +13,17 @@ pub struct Logged {
 }
 
 impl Logged {
+    /// Its flag, if the command of a ticket had this one.
+    pub fn flag_with(&self, ticket: u64, struck: bool) -> bool
+        ensures { result ≡ (with_flag ticket struck self.now).struck }
+    {
+        if self.entry.ticket == Some(ticket) {
+            struck
+        } else {
+            self.struck
+        }
+    }
+
     /// Sets the flag, if the entry took this ticket.
     fn set_flag(&mut self, ticket: u64, struck: bool)
         ensures { self.new ≡ with_flag ticket struck self.old }

@@ -9,6 +9,7 @@ ghost use Rattle.undo_book.specs.PlainPast.{past_in};
 use crate::listing::{buried_commands, commands};
 use crate::oldest::oldest;
 use crate::plain_history::PlainPast;
+use crate::preview::{answer_after, next_undo};
 use dns_name::{Name, NoMemory};
 use dns_text::{Items, Shared};
 use history::{
@@ -42,6 +43,8 @@ pub(crate) fn seen(
         Ask::Buried => Ok(Seen::Buried(Items::new(buried_commands(alloc, past)?))),
         Ask::Servers(name) => seen_servers(alloc, past, &tables.stubs, name, moment),
         Ask::Oldest => Ok(Seen::Oldest(oldest(alloc, past, past.moment.max(moment))?)),
+        Ask::After { step, question } => answer_after(alloc, past, *step, question, moment),
+        Ask::NextUndo => next_undo(alloc, past),
     }
 }
 

@@ -3,13 +3,15 @@
 ghost use Rattle.std.specs.Prelude.{◌≡◌, ◌≤◌, ◌+◌, ◌^◌, ◌↔◌, [], List, length, IfOk, IsErr, IsErrOf};
 ghost use Rattle.history.specs.Event.{AreSettings, lagging_of};
 ghost use Rattle.history.specs.declared.event.Event.{Event};
-ghost use Rattle.undo_book.specs.ShelfBook.{cells_of, commands_of, names_of, seed_of, versions_of};
+ghost use Rattle.store.specs.Sweep.{most_reaching};
+ghost use Rattle.undo_book.specs.ShelfBook.{cells_of, commands_of, names_of, reaching_of, seed_of, versions_of};
 
 use cell_store::NameSeed;
 use dns_name::{Name, NoMemory};
 use dns_text::Question;
 use history::{
-    Ask, Book, Event, Look, MakeFault, Reply, Seen, Servers, Settings, StepFault, are_settings,
+    Ask, Book, Event, Hidden, Look, MakeFault, Reply, Seen, Servers, Settings, StepFault,
+    are_settings,
 };
 use local_zone::ZoneTable;
 use std::alloc::Global;
@@ -85,6 +87,14 @@ impl ShelfBook {
         ensures few { names_of self.now ≤ ⟦<ShelfBook as Book>⟧.stored self.now }
     {
         self.book.world().cells.names()
+    }
+
+    /// How many permanent flushes of zones have names of its cache left to reach. Each lookup reads their list.
+    pub fn reaching(&self) -> usize
+        ensures reaching { result ≡ reaching_of self.now }
+        ensures few { reaching_of self.now ≤ most_reaching }
+    {
+        self.book.world().cells.reaching()
     }
 
     /// How many commands its journal keeps: those that can be undone or redone.
@@ -265,6 +275,10 @@ impl Book for ShelfBook {
     fn servers(&self, name: &Name, moment: u64) -> Result<Servers, NoMemory> {
         let servers = self.book.servers(name, moment)?;
         Ok(servers)
+    }
+
+    fn hidden_some(&self, ticket: u64, from: u64, moment: u64) -> Hidden {
+        self.book.hidden_some(ticket, from, moment)
     }
 
     fn stored(&self) -> usize

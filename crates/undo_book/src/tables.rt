@@ -51,14 +51,5 @@ fn replay_command(
 fn stands(logged: &Logged, ticket: u64, struck: bool) -> bool
     ensures { result ≡ (is_some logged.now.entry.ticket && not (with_flag ticket struck logged.now).struck) }
 {
-    match logged.entry.ticket {
-        Some(own) => {
-            if own == ticket {
-                !struck
-            } else {
-                !logged.struck
-            }
-        }
-        None => false,
-    }
+    logged.entry.ticket.is_some() && !logged.flag_with(ticket, struck)
 }

@@ -1,22 +1,22 @@
 -- What an undo or a redo reaches, and what is in its way.
-use Rattle.std.proofs.Common.{◌≡◌, ◌≢◌, ◌⊎◌, inl, inr, ℕ, zero, suc, ◌+◌, ◌-◌, ◌<◌, ◌≤◌, Bool, true, false, cond, Option, Some, None, List, [], ◌∷◌, ◌++◌, length, take, drop, map, refl, sym, ap, subst, ◌∙◌, arith, rules, length-append}
+use Rattle.std.proofs.Common.{◌≡◌, ◌≢◌, inl, inr, ℕ, zero, suc, ◌+◌, ◌-◌, ◌<◌, ◌≤◌, Bool, true, false, cond, Option, Some, None, List, [], ◌∷◌, ◌++◌, length, take, drop, map, refl, sym, ap, subst, ◌∙◌, arith, rules, length-append}
 use Rattle.std.specs.Prelude.{IfSome, slice_get, filter, nat_lt, not, ◌==◌, ◌&&◌, ◌||◌, if◌then◌else◌}
 use Rattle.std.specs.List.{AllByRecursion}
 use Rattle.std.specs.Option.{option_map}
-use Rattle.std.proofs.lemmas.Bool.{cases_Bool, eq-eqb, eqb-true, false≢true}
+use Rattle.std.proofs.lemmas.Bool.{cases_Bool, eq-eqb, false≢true}
 use Rattle.std.proofs.lemmas.Bool.Decides.{nat_tests}
 use Rattle.std.proofs.lemmas.List.{append-nil, take-append-drop}
 use Rattle.std.proofs.lemmas.List.Elements.{filter-append}
 use Rattle.dns_name.specs.ListLaws.{all_split, all_weaker}
 use Rattle.change_law.specs.declared.kept.KeptChange.{KeptChange}
 use Rattle.change_law.specs.declared.kept.Standing.{Standing}
-use Rattle.change_law.specs.declared.kept.Standing.TheVariants.{Done, Undone, Cleared}
+use Rattle.change_law.specs.declared.kept.Standing.TheVariants.{Done, Undone}
 use Rattle.change_law.specs.Choice.{IsFounded, IsOneTable, IsUncovered, is_done}
 use Rattle.change_law.specs.ChoiceLaws.{same_number, other_number}
-use Rattle.undo_journal.specs.Journal.{AreAscending, AreChanges, AreInTurn, CanBeRedone, CanBeUndone, Changes, IsLastDone, IsPlaceOf, NeedsNone, done_of, first_of, in_effect, is_among, is_one_table, last_of, lies_on, lies_under, standing_in, table_at, tickets_of}
+use Rattle.undo_journal.specs.Journal.{AreAscending, AreChanges, AreInTurn, CanBeRedone, CanBeUndone, Changes, IsPlaceOf, NeedsNone, first_of, in_effect, is_among, is_one_table, last_of, lies_on, lies_under, standing_in, table_at, tickets_of}
 use Rattle.undo_journal.specs.Needs.{UndoNeedsNone}
-use Rattle.undo_journal.proofs.RingLaws.{IsAt, Done≢Undone, Undone≢Done, all_among, all_both, among_push_here, among_push_other, and_true, at_place, drop_past, map_append, never_past, or_none, take_past, take_there}
-use Rattle.undo_journal.proofs.MoveLaws.{asc_after, asc_before, done_here, done_standing, last_founded, standing_done, standing_undone}
+use Rattle.undo_journal.proofs.RingLaws.{all_among, all_both, among_push_here, among_push_other, and_true, at_place, drop_past, map_append, never_past, or_none, take_there}
+use Rattle.undo_journal.proofs.MoveLaws.{asc_after, asc_before, done_here, done_standing, last_founded}
 
 -- ---- lists
 
@@ -338,6 +338,13 @@ absent_passed {S} kept ticket place k there n absent =
     ∙ absent
 
 -- ---- from the end
+
+-- The newest change in effect is at this place.
+pub record IsLastDone {S : Type 0} (kept : List (KeptChange S)) (place : ℕ) : Type 0 where
+  pub here : KeptChange S
+  pub there : slice_get kept place ≡ Some here
+  pub done : here.standing ≡ Done
+  pub none : AllByRecursion (λ k. is_done k.standing ≡ false) (drop (place + 1) kept)
 
 module _ {S : Type 0} (kept : List (KeptChange S)) (len back : ℕ) (size : len ≡ length kept) where
   at_back : back < len → (k : KeptChange S) × (slice_get kept (len - 1 - back) ≡ Some k)

@@ -4,10 +4,12 @@ use Rattle.std.specs.List.{AllByRecursion, list_any}
 use Rattle.std.specs.Coded.{Coded, code_by, coded×, coded_list, coded_ℕ}
 use Rattle.change_law.specs.declared.kept.KeptChange.{KeptChange}
 use Rattle.change_law.specs.declared.kept.Standing.{Standing}
-use Rattle.change_law.specs.declared.kept.Standing.TheVariants.{Done, Undone, Cleared}
+use Rattle.change_law.specs.declared.kept.Standing.TheVariants.{Done, Undone}
 use Rattle.change_law.specs.Choice.{IsChoice, IsFounded, IsOneTable, IsUncovered, is_done}
 use Rattle.undo_journal.specs.declared.outcome.Outcome.{Outcome}
 use Rattle.undo_journal.specs.declared.outcome.Outcome.TheVariants.{Moved, NotKept, Buried}
+use Rattle.undo_journal.specs.declared.outcome.Reach.{Reach}
+use Rattle.undo_journal.specs.declared.outcome.Reach.TheVariants as reach
 
 -- the kept changes, the oldest first, the tickets of the undone ones, the one that was undone last at the end, the greatest ticket so far, and the most changes that are kept
 pub record Changes (S : Type 0) : Type 0 where
@@ -218,13 +220,6 @@ pub record IsForgotten {S : Type 0} (before after : Changes S) : Type 0 where
 
 -- ---- places
 
--- The newest change in effect is at this place.
-pub record IsLastDone {S : Type 0} (kept : List (KeptChange S)) (place : ℕ) : Type 0 where
-  pub here : KeptChange S
-  pub there : slice_get kept place ≡ Some here
-  pub done : here.standing ≡ Done
-  pub none : AllByRecursion (λ k. is_done k.standing ≡ false) (drop (place + 1) kept)
-
 -- The kept change of a ticket is at this place.
 pub record IsPlaceOf {S : Type 0} (table : S → Option ℕ) (kept : List (KeptChange S)) (ticket place : ℕ) : Type 0 where
   pub here : KeptChange S
@@ -245,6 +240,13 @@ pub record CanBeRedone {S : Type 0} (table : S → Option ℕ) (kept : List (Kep
   pub there : slice_get kept place ≡ Some here
   pub undone : here.standing ≡ Undone
   pub founded : IsFounded table here.saved (take place kept)
+
+-- What an undo of a ticket would do. The change of the ticket is at the place, is in effect, and no later one of its table is.
+abbrev pub IsReach : {S : Type 0} → (S → Option ℕ) → Changes S → ℕ → Reach → Type 0
+IsReach table changes ticket (reach.At place) =
+    (is_among (done_of changes) ticket ≡ true) × (over table changes.kept ticket ≡ None) × IsPlaceOf table changes.kept ticket place × CanBeUndone table changes.kept place
+IsReach table changes ticket reach.NotKept = is_among (done_of changes) ticket ≡ false
+IsReach table changes ticket (reach.Buried other) = (is_among (done_of changes) ticket ≡ true) × (over table changes.kept ticket ≡ Some other)
 
 -- the code of a journal's changes, as that of a tuple
 abbrev pub changes_code : {S : Type 0} → Coded (KeptChange S) → Coded (Changes S)

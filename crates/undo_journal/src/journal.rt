@@ -8,7 +8,7 @@ ghost use Rattle.change_law.specs.Effect.{effect, IsFaultFor};
 ghost use Rattle.change_law.specs.Pairs.{AddsPairs};
 ghost use Rattle.change_law.specs.Row.{IsRowAfter, any, same_face, where_chosen, kept_as, IsNoMore, IsRefused};
 
-use crate::outcome::Outcome;
+use crate::outcome::{Outcome, Reach};
 use crate::reach::{is_done, leave_out, lies_on, lies_under};
 use crate::settling::settle_undone;
 use change_law::{Change, ChangeFault, KeptChange, Standing, World};
@@ -45,7 +45,7 @@ impl<C: Change> Model for Journal<C> {
 }
 
 impl<C: Change> Journal<C> {
-    ghost use Rattle.undo_journal.specs.Journal.{AreChanges, AreChoicesBefore, CanBeRedone, CanBeUndone, IsChange, IsForgotten, IsLastDone, IsPlaceOf, IsPutBack, IsRedo, IsRedoOf, IsTakenBack, IsToldAfter, IsUndo, IsUndoOf, NeedsNone};
+    ghost use Rattle.undo_journal.specs.Journal.{AreChanges, AreChoicesBefore, CanBeRedone, CanBeUndone, IsChange, IsForgotten, IsPlaceOf, IsPutBack, IsReach, IsRedo, IsRedoOf, IsTakenBack, IsToldAfter, IsUndo, IsUndoOf, NeedsNone};
     ghost use Rattle.undo_journal.specs.Journal.{done_of, first_of, in_effect, is_among, last_of, lies_on, lies_under, out_of_effect, settled_by, tickets_of, told_of};
     ghost use Rattle.undo_journal.specs.Needs.{HaveNeeds, IsNeededAfter, UndoNeedsNone};
 
@@ -126,20 +126,13 @@ impl<C: Change> Journal<C> {
             world.old world.new × (self.new ≡ self.old)) }
         ensures counts { IsNoMore C.World.newest C.World.stored C.World.limit C.World.counts world.old world.new }
     {
-        match self.place_of(ticket) {
-            Some(place) => {
-                if self.undone.contains(&ticket) {
-                    return Ok(Outcome::NotKept);
-                }
-                match self.over(ticket, self.table_at(place)) {
-                    Some(other) => Ok(Outcome::Buried { ticket: other }),
-                    None => {
-                        self.take_back(world, place)?;
-                        Ok(Outcome::Moved)
-                    }
-                }
+        match self.reach(ticket) {
+            Reach::At { place } => {
+                self.take_back(world, place)?;
+                Ok(Outcome::Moved)
             }
-            None => Ok(Outcome::NotKept),
+            Reach::Buried { ticket: other } => Ok(Outcome::Buried { ticket: other }),
+            Reach::NotKept => Ok(Outcome::NotKept),
         }
     }
 
@@ -228,6 +221,24 @@ impl<C: Change> Journal<C> {
         self.ring.get(place)
     }
 
+    /// What an undo of a ticket would do. Nothing changes.
+    pub fn reach(&self, ticket: u64) -> Reach
+        ensures { IsReach C.World.table self.now ticket result }
+    {
+        match self.place_of(ticket) {
+            Some(place) => {
+                if self.undone.contains(&ticket) {
+                    return Reach::NotKept;
+                }
+                match self.over(ticket, self.table_at(place)) {
+                    Some(other) => Reach::Buried { ticket: other },
+                    None => Reach::At { place },
+                }
+            }
+            None => Reach::NotKept,
+        }
+    }
+
     // Undoes the change at a place, and returns its ticket.
     fn take_back(&mut self, world: &mut C::World, place: usize) -> Result<u64, NoMemory>
         requires keeps { C.World.keeps world.old self.old.kept }
@@ -284,10 +295,11 @@ impl<C: Change> Journal<C> {
         }
     }
 
-    // The place of the newest change in effect.
-    fn last_done(&self) -> Option<usize>
+    /// The place of the newest change in effect: the one that `undo` takes back.
+    pub fn last_done(&self) -> Option<usize>
         ensures none { IfNone result (done_of self.now ≡ []) }
-        ensures some { IfSome result (λ place. IsLastDone self.now.kept place) }
+        ensures some { IfSome result (λ place. CanBeUndone C.World.table self.now.kept place
+            × (option_map (λ k. k.ticket) (slice_get self.now.kept place) ≡ last_of (done_of self.now))) }
     {
         let len = self.ring.len();
         for back in 0..len {
@@ -299,8 +311,8 @@ impl<C: Change> Journal<C> {
         None
     }
 
-    // The place of the change that was undone last.
-    fn last_undone(&self) -> Option<usize>
+    /// The place of the change that was undone last: the one that `redo` puts back.
+    pub fn last_undone(&self) -> Option<usize>
         ensures none { IfNone result (self.now.undone ≡ []) }
         ensures some { IfSome result (λ place. CanBeRedone C.World.table self.now.kept place
             × (option_map (λ k. k.ticket) (slice_get self.now.kept place) ≡ last_of self.now.undone)) }

@@ -1,4 +1,15 @@
-//! What an undo or a redo of a ticket did.
+//! What an undo or a redo of a ticket did, or would do.
+
+/// What an undo of a ticket would do.
+#[derive(Clone, Copy, PartialEq, Eq, Drop)]
+pub enum Reach {
+    /// It would take back the change at this place.
+    At { place: usize },
+    /// It could not: the journal does not hold the change so.
+    NotKept,
+    /// Another change of its table would have to be undone first: the farthest of those in the way.
+    Buried { ticket: u64 },
+}
 
 /// What an undo or a redo of a ticket did.
 #[derive(Clone, Copy, PartialEq, Eq, Drop)]

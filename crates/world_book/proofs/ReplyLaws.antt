@@ -71,15 +71,15 @@ fate_tells past face find moment clock (One kind) is same =
     both false b e = subst (λ (x : Bool). Taken ≡ (if x then Outranked else Taken)) e refl
 fate_tells past face find moment clock Whole is same = refl
 
+-- Content that is the same where it is alive is shown alike from then on.
+pub shown_same : (t m : ℕ) (a b : Option (Admitted Find)) → t ≤ m → alive_at t a ≡ alive_at t b → shown_at a m ≡ shown_at b m
+shown_same t m a b less e = shown_alive m a ∙ ap (λ (x : Option (Admitted Find)). shown_at x m) (same_later t m a b less e) ∙ sym (shown_alive m b)
+
 -- what a face shows at the clock of a look is what the past does
 pub face_shows : (past : Past) (face : Face Tables) (moment clock : ℕ) (q : Question) → clock ≡ max past.now moment →
     IsSameAt past.now face (face_of (is_unstruck past.marks) past.log) → shown_at (face.cell q) clock ≡ shows past q moment
 face_shows past face moment clock q is same =
-    let now = max past.now moment in
-    ap (λ (m : ℕ). shown_at (face.cell q) m) is
-    ∙ shown_alive now (face.cell q)
-    ∙ ap (λ (x : Option (Admitted Find)). shown_at x now) (same_later past.now now (face.cell q) (cell_of past q) (omega arith) (same.cell q))
-    ∙ sym (shown_alive now (cell_of past q))
+    ap (λ (m : ℕ). shown_at (face.cell q) m) is ∙ shown_same past.now (max past.now moment) (face.cell q) (cell_of past q) (omega arith) (same.cell q)
 
 -- ---- what a change tells of its refusal
 

@@ -81,16 +81,17 @@ module _ {W S : Type 0} (by : Ghosts W Tables S Command) (w : W) (changes : Chan
   pub tables_kept : AllByRecursion (HasTable by.table by.told) changes.kept
   tables_kept = have_tables by.table by.told changes.kept tied.tables
 
-  -- a face shows of a question what a replay of the log does
-  pub face_shows : (t : ℕ) (chosen : ℕ → Bool) → past.now ≤ t → IsChoice by.table changes.kept chosen → IsFair changes (is_struck past.marks) chosen →
-      (q : Question) → alive_at t ((by.face w changes.kept chosen).cell q) ≡ alive_at t ((face_of chosen past.log).cell q)
-  face_shows t chosen less choice fair q =
-      let face = by.face w changes.kept chosen in
+  -- a face is what a replay of the log gives
+  pub face_is : (chosen : ℕ → Bool) → IsChoice by.table changes.kept chosen → IsFair changes (is_struck past.marks) chosen → IsSameAt past.now (by.face w changes.kept chosen) (face_of chosen past.log)
+  face_is chosen choice fair =
       let shown : IsSame (face_by by.has_cells chosen empty_face (deeds_of past.log)) (face_of chosen past.log)
       = subst (λ (b : Bool). IsSame (face_by b chosen empty_face (deeds_of past.log)) (face_of chosen past.log)) (sym tied.cells) (deeds_show chosen past.log) in
-      let now : IsSameAt past.now face (face_of chosen past.log)
-      = same_at_then (tied.stands.faces chosen choice fair) (same_at past.now (face_by by.has_cells chosen empty_face (deeds_of past.log)) (face_of chosen past.log) shown) in
-      (same_at_later past.now t face (face_of chosen past.log) less now).cell q
+      same_at_then (tied.stands.faces chosen choice fair) (same_at past.now (face_by by.has_cells chosen empty_face (deeds_of past.log)) (face_of chosen past.log) shown)
+
+  -- so it shows of a question what the replay does
+  pub face_shows : (t : ℕ) (chosen : ℕ → Bool) → past.now ≤ t → IsChoice by.table changes.kept chosen → IsFair changes (is_struck past.marks) chosen →
+      (q : Question) → alive_at t ((by.face w changes.kept chosen).cell q) ≡ alive_at t ((face_of chosen past.log).cell q)
+  face_shows t chosen less choice fair q = (same_at_later past.now t (by.face w changes.kept chosen) (face_of chosen past.log) less (face_is chosen choice fair)).cell q
 
   -- ---- what is alive in a version is alive in a face
 

@@ -69,10 +69,15 @@ module _ {S : Type 0} (table : S → Option ℕ) (told : S → Command) where
 
   -- ---- what an undo or a redo of a ticket does, by the past
 
+  pub over_in_past : (changes : Changes S) (past : Past) (t : ℕ) → AreChanges table changes → done_of changes ≡ past.marks.done → changes.undone ≡ past.marks.undone → AreGiven told changes past →
+      told_of table changes.kept ≡ tables_told (told_of told changes.kept) → over table changes.kept t ≡ over_command (commands_of past) t
+  over_in_past changes past t are done undone given tables =
+      over_held changes.kept t (have_tables changes.kept tables) ∙ ap (λ (l : List Journalled). over_command l t) (held_commands table told changes past are done undone given)
+
   module _ (changes after : Changes S) (past : Past) (t : ℕ) (outcome : Outcome) (are : AreChanges table changes) (done : done_of changes ≡ past.marks.done) (undone : changes.undone ≡ past.marks.undone)
       (given : AreGiven told changes past) (tables : told_of table changes.kept ≡ tables_told (told_of told changes.kept)) where
     over_past : over table changes.kept t ≡ over_command (commands_of past) t
-    over_past = over_held changes.kept t (have_tables changes.kept tables) ∙ ap (λ (l : List Journalled). over_command l t) (held_commands table told changes past are done undone given)
+    over_past = over_in_past changes past t are done undone given tables
 
     under_past : under table changes.kept t ≡ under_command (commands_of past) t
     under_past = under_held changes.kept t (have_tables changes.kept tables) ∙ ap (λ (l : List Journalled). under_command l t) (held_commands table told changes past are done undone given)

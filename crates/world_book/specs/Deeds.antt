@@ -6,10 +6,15 @@ use Rattle.history.specs.declared.event.Command.{Command}
 use Rattle.history.specs.declared.event.Event.{Event}
 use Rattle.history.specs.declared.event.Event.TheVariants.{Admit, Forget, Do}
 use Rattle.history.specs.declared.event.Entry.{Entry}
+use Rattle.dns_text.specs.declared.record.Question.{Question}
+use Rattle.ranked.specs.Cell.{shown_at}
+use Rattle.local_zone.specs.Answer.{local_of}
+use Rattle.history.specs.declared.event.Seen.{Seen}
 use Rattle.history.specs.declared.tables.Tables.{Tables}
 use Rattle.history.specs.Event.{covers}
 use Rattle.history.specs.Changes.{no_tables, tables_by, after_command_on}
 use Rattle.history.specs.Cells.{cell_by}
+use Rattle.history.specs.Reply.{seen_by, seen_first}
 use Rattle.history.specs.History.{standing_with}
 
 -- A find came; a name was forgotten; a command that took a ticket was made; nothing else does anything.
@@ -33,6 +38,10 @@ given_in log = filter_map (λ entry. given_of entry.event entry.ticket) log
 
 abbrev pub given_tickets : List Entry → List ℕ
 given_tickets log = map (λ given. given.0) (given_in log)
+
+-- the answer to a question at a moment, by a face
+abbrev pub answer_in : Face Tables → Question → ℕ → Seen
+answer_in face question moment = seen_first (local_of face.tables.local question) (seen_by (shown_at (face.cell question) moment))
 
 abbrev pub empty_face : Face Tables
 empty_face = record { tables = no_tables; cell = λ q. None }

@@ -7,13 +7,14 @@ ghost use Rattle.world_book.specs.Deeds.{empty_face};
 
 use crate::finds::{sweep_some, sweep_unread};
 use crate::obey::obey;
+use crate::preview::hidden_some;
 use crate::seen::seen;
 use crate::world::{BookChange, BookWorld};
 use dns_name::{Name, NoMemory};
 use dns_text::Question;
 use history::{
-    Ask, Book, Event, Look, MOMENT_END, MOST_EVENTS, Reply, Seen, Servers, Settings, StepFault,
-    closest_servers, question_sight,
+    Ask, Book, Event, Hidden, Look, MOMENT_END, MOST_EVENTS, Reply, Seen, Servers, Settings,
+    StepFault, closest_servers, question_sight,
 };
 use local_zone::ZoneTable;
 use std::alloc::Global;
@@ -291,6 +292,16 @@ impl<C: BookChange> Book for WorldBook<C> {
             clock,
         )?;
         Ok(found)
+    }
+
+    fn hidden_some(&self, ticket: u64, from: u64, moment: u64) -> Hidden {
+        hidden_some(
+            &self.journal,
+            &self.world,
+            ticket,
+            from,
+            self.moment.max(moment),
+        )
     }
 
     fn stored(&self) -> usize

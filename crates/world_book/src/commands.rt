@@ -54,7 +54,7 @@ fn push_held<C: BookChange>(
 }
 
 /// The command of a kept change.
-fn held_one<C: BookChange>(
+pub(crate) fn held_one<C: BookChange>(
     kept: &KeptChange<<<C as Change>::World as World>::Saved>,
 ) -> Result<Journalled, NoMemory>
     ensures { IfOk result (λ held. held ≡ held_one C.World.told kept.now) }

@@ -4,9 +4,11 @@ ghost use Rattle.std.specs.Prelude.{◌≡◌, ◌≤◌, max, ℕ, IfOk};
 ghost use Rattle.history.specs.History.{Past};
 ghost use Rattle.history.specs.Oldest.{IsOldest};
 ghost use Rattle.history.specs.Reply.{seen_of};
+ghost use Rattle.world_book.specs.Step.{IsSound};
 ghost use Rattle.world_book.specs.Tied.{IsTied};
 
 use crate::commands::{buried_commands, commands};
+use crate::preview::{answer_after, next_undo};
 use crate::world::{BookChange, BookWorld};
 use change_law::World;
 use dns_name::{Name, NoMemory};
@@ -42,6 +44,7 @@ pub(crate) fn seen<C: BookChange>(
     ask: &Ask,
     clock: u64,
 ) -> Result<Seen, NoMemory>
+    requires { IsSound C.World.World world.now journal.now }
     ensures { IfOk result (λ s. (bound moment : ℕ) (past : Past) → clock ≡ max past.now moment →
         IsTied C.World.World world.now journal.now bound past → s ≡ seen_of settings.now past ask.now moment) }
 {
@@ -65,5 +68,9 @@ pub(crate) fn seen<C: BookChange>(
             Ok(Seen::Servers(Shared::new(alloc, found)?))
         }
         Ask::Oldest => Ok(Seen::Oldest(oldest(journal, world, clock)?)),
+        Ask::After { step, question } => {
+            answer_after(alloc, journal, world, *step, question, clock)
+        }
+        Ask::NextUndo => next_undo(journal),
     }
 }

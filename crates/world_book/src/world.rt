@@ -13,13 +13,17 @@ ghost use Rattle.history.specs.Changes.{after_command_on, reason_on};
 ghost use Rattle.history.specs.Event.{covers};
 ghost use Rattle.change_law.specs.declared.kept.KeptChange.{KeptChange};
 ghost use Rattle.change_law.specs.Pairs.{CountsAmong, IsAliveIn, count_pairs, pair_of};
+ghost use Rattle.change_law.specs.Turn.{CanTurn, HoldsOver};
+ghost use Rattle.world_book.specs.Deeds.{answer_in};
 ghost use Rattle.world_book.specs.Removals.{removes};
 ghost use Rattle.world_book.specs.Step.{code_of};
 ghost use Rattle.world_book.specs.Versions.{table_of};
 
 use change_law::{Change, World};
 use dns_name::NoMemory;
-use history::{CellSource, Command, Tables};
+use dns_text::Question;
+use history::{CellSource, Command, Hidden, Seen, Tables};
+use std::alloc::Global;
 
 /// A world of tables and cells.
 pub trait BookWorld: World<Tables = Tables, Told = Command> + CellSource {
@@ -40,6 +44,21 @@ pub trait BookWorld: World<Tables = Tables, Told = Command> + CellSource {
     /// The command of a change that is kept.
     fn command(saved: &Self::Saved) -> &Command
         ensures { result.now ≡ Self.told saved.now };
+
+    /// The reply to a lookup of a question, if this kept change were undone, or redone. Nothing changes. It takes memory only for the reply.
+    fn answer_over(
+        &self,
+        alloc: Global,
+        saved: &Self::Saved,
+        question: &Question,
+        moment: u64,
+    ) -> Result<Seen, NoMemory>
+        requires { CanTurn Self.table Self.keeps self.now saved.now }
+        ensures { IfOk result (λ seen. HoldsOver Self.table Self.keeps Self.face self.now saved.now
+            (λ face. seen ≡ answer_in face question.now moment)) };
+
+    /// Counts of how many names a kept change hides a cell, some names from a place on. No clause says what is counted.
+    fn hidden_some(&self, saved: &Self::Saved, from: u64, moment: u64) -> Hidden;
 
     /// A change of no table takes no memory to undo or redo.
     ghost needs_none: { (saved : Self.Saved) → Self.table saved ≡ None → Self.needs_memory saved ≡ false };

@@ -98,6 +98,7 @@ fn seen(alloc: Global, tables: &Tables, ask: &Ask) -> Result<Seen, Stop> {
         Ask::Records => Ok(records(alloc, tables)?),
         Ask::Stubs => Ok(stubs(alloc, tables)?),
         Ask::Commands | Ask::Buried | Ask::Servers(_) | Ask::Oldest => Err(Stop::Device),
+        Ask::After { .. } | Ask::NextUndo => Err(Stop::Device),
     }
 }
 

@@ -36,6 +36,6 @@ loop-t-preserved c =
       only = λ other none absent.
           let parts = owner_push other (take i xs) t (ap (λ (ys : List Taken). of_owner other (records_of ys)) (sym next) ∙ none) in
           c.move_group.ensures.only other (ap (λ (o : Labels). name_eq o other) owner ∙ parts.1) (c.loop-t.invariant.only other parts.0 absent);
-      room = omega (arith, c.loop-t.invariant.room, c.move_group.ensures.more);
-      capacity = c.move_group.ensures.capacity ∙ c.loop-t.invariant.capacity;
+      room = omega (arith, c.loop-t.invariant.room, c.move_group.ensures.spare);
+      apart = c.move_group.ensures.apart;
     }

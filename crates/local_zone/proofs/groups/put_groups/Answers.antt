@@ -1,4 +1,6 @@
-use Rattle.std.proofs.Common.{◌≡◌, ◌<◌, ℕ, List, [], ◌∷◌, ◌++◌, length, refl, subst, arith}
+use Rattle.std.proofs.Common.{◌≡◌, ◌<◌, ℕ, zero, suc, true, List, [], ◌∷◌, ◌++◌, None, length, refl, subst, arith}
+use Rattle.std.specs.Prelude.{is_some}
+use Rattle.std.proofs.lemmas.Bool.{false≢true}
 use Rattle.indexmap.specs.IndexMap.{spare}
 use Rattle.dns_text.specs.declared.record.Record.{Record}
 use Rattle.dns_name.specs.Labels.{Labels, octets_of}
@@ -20,8 +22,8 @@ loop-key-preserved-in-Some c =
     let updates = is_ok_of c.insert.result (c.insert.ensures.succeeds room) c.insert.ensures.updates in
     record {
       index = λ records h.
-          grouped_put octets items c.pop.new.self.items c.loop-key.owners.entries c.insert.new.self.entries c.in-Some.key c.in-Some.records updates.1 updates.3 records
-          (subst (λ gs. IsGrouped octets items records (gs ++ c.loop-key.owners.entries)) c.in-Some.ensures.items (c.loop-key.invariant.index records h));
+          grouped_put octets items c.pop.new.self.entries c.loop-key.owners.entries c.insert.new.self.entries c.in-Some.key c.in-Some.records updates.1 updates.3 records
+          (subst (λ gs. IsGrouped octets items records (gs ++ c.loop-key.owners.entries)) c.in-Some.ensures.entries (c.loop-key.invariant.index records h));
       room = omega (arith, c.loop-key.invariant.room, c.in-Some.ensures.len, c.insert.ensures.spare);
     }
 
@@ -31,8 +33,8 @@ loop-key-preserved-in-Some-2 c =
     let updates = is_ok_of c.insert.result (c.insert.ensures.succeeds room) c.insert.ensures.updates in
     record {
       index = λ records h.
-          grouped_put octets items c.pop.new.self.items c.loop-key.owners.entries c.insert.new.self.entries c.in-Some.key c.in-Some.records updates.1 updates.3 records
-          (subst (λ gs. IsGrouped octets items records (gs ++ c.loop-key.owners.entries)) c.in-Some.ensures.items (c.loop-key.invariant.index records h));
+          grouped_put octets items c.pop.new.self.entries c.loop-key.owners.entries c.insert.new.self.entries c.in-Some.key c.in-Some.records updates.1 updates.3 records
+          (subst (λ gs. IsGrouped octets items records (gs ++ c.loop-key.owners.entries)) c.in-Some.ensures.entries (c.loop-key.invariant.index records h));
       room = omega (arith, c.loop-key.invariant.room, c.in-Some.ensures.len, c.insert.ensures.spare);
     }
 
@@ -42,8 +44,8 @@ loop-key-preserved-in-Some-3 c =
     let updates = is_ok_of c.insert.result (c.insert.ensures.succeeds room) c.insert.ensures.updates in
     record {
       index = λ records h.
-          grouped_put octets items c.pop.new.self.items c.loop-key.owners.entries c.insert.new.self.entries c.in-Some.key c.in-Some.records updates.1 updates.3 records
-          (subst (λ gs. IsGrouped octets items records (gs ++ c.loop-key.owners.entries)) c.in-Some.ensures.items (c.loop-key.invariant.index records h));
+          grouped_put octets items c.pop.new.self.entries c.loop-key.owners.entries c.insert.new.self.entries c.in-Some.key c.in-Some.records updates.1 updates.3 records
+          (subst (λ gs. IsGrouped octets items records (gs ++ c.loop-key.owners.entries)) c.in-Some.ensures.entries (c.loop-key.invariant.index records h));
       room = omega (arith, c.loop-key.invariant.room, c.in-Some.ensures.len, c.insert.ensures.spare);
     }
 
@@ -53,8 +55,8 @@ loop-key-preserved-in-Some-4 c =
     let updates = is_ok_of c.insert.result (c.insert.ensures.succeeds room) c.insert.ensures.updates in
     record {
       index = λ records h.
-          grouped_put octets items c.pop.new.self.items c.loop-key.owners.entries c.insert.new.self.entries c.in-Some.key c.in-Some.records updates.1 updates.3 records
-          (subst (λ gs. IsGrouped octets items records (gs ++ c.loop-key.owners.entries)) c.in-Some.ensures.items (c.loop-key.invariant.index records h));
+          grouped_put octets items c.pop.new.self.entries c.loop-key.owners.entries c.insert.new.self.entries c.in-Some.key c.in-Some.records updates.1 updates.3 records
+          (subst (λ gs. IsGrouped octets items records (gs ++ c.loop-key.owners.entries)) c.in-Some.ensures.entries (c.loop-key.invariant.index records h));
       room = omega (arith, c.loop-key.invariant.room, c.in-Some.ensures.len, c.insert.ensures.spare);
     }
 
@@ -62,7 +64,11 @@ nothing : {X : Type 0} (xs : List X) → length xs ≡ 0 → xs ≡ []
 nothing [] e = refl
 nothing (x ∷ xs) e = absurd (omega (arith, e))
 
+none_found : (n : ℕ) → (0 < n → is_some {T = ℕ} None ≡ true) → n ≡ 0
+none_found zero h = refl
+none_found (suc n) h = absurd (false≢true (h (omega arith)))
+
 pub returns : goal.returns
 returns c records h =
-    let none : c.loop-key.groups.items ≡ [] = nothing c.loop-key.groups.items (omega (arith, c.in_default.ensures.cases.0, c.loop-key.groups.ok.0)) in
+    let none : c.loop-key.groups.entries ≡ [] = nothing c.loop-key.groups.entries (none_found (length c.loop-key.groups.entries) c.in_default.ensures.found.1) in
     subst (λ gs. IsGrouped octets items records (gs ++ c.loop-key.owners.entries)) none (c.loop-key.invariant.index records h)

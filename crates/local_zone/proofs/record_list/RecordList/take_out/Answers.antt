@@ -1,4 +1,4 @@
-use Rattle.std.proofs.Common.{◌≡◌, ℕ, List, ◌-◌, ◌++◌, length, None, ap, sym, subst, ◌∙◌, arith}
+use Rattle.std.proofs.Common.{◌≡◌, ℕ, List, [], ◌∷◌, ◌-◌, ◌++◌, length, None, refl, ap, sym, subst, ◌∙◌, inl, arith}
 use Rattle.std.specs.List.{AllByRecursion}
 use Rattle.dns_name.specs.Labels.{octets_of, Labels}
 use Rattle.dns_text.specs.declared.record.Record.{Record}
@@ -19,10 +19,18 @@ octets k = octets_of k
 abbrev items : Group → List Record
 items g = records_held g
 
-pub move_groups-requires : goal.move_groups-requires
-move_groups-requires c =
+pub move_groups-requires-clause-room : goal.move_groups-requires-clause-room
+move_groups-requires-clause-room c =
     let taken_is : c.cut_out.new.taken.items ≡ at_gaps c.args.gaps.now c.self.inside.list.items = c.in_ok-cut_out.ensures.taken ∙ ap (λ (x : List Taken). x ++ at_gaps c.args.gaps.now c.self.inside.list.items) c.in_ok-taken.ensures.items in
-    omega (arith, c.in_ok-groups.ensures.len, c.in_ok-groups.ensures.capacity, ap (λ (x : List Taken). length x) (c.deref.ensures.value ∙ taken_is), length_at c.args.gaps.now c.self.inside.list.items)
+    omega (arith, c.in_ok-groups.ensures.spare, ap (λ (x : List Taken). length x) (c.deref.ensures.value ∙ taken_is), length_at c.args.gaps.now c.self.inside.list.items)
+
+empty : {X : Type 0} (xs : List X) → length xs ≡ 0 → xs ≡ []
+empty [] e = refl
+empty (x ∷ xs) e = absurd (omega (arith, e))
+
+pub move_groups-requires-clause-apart : goal.move_groups-requires-clause-apart
+move_groups-requires-clause-apart c name =
+    inl (ap (λ gs. under octets (octets_of name) gs) (empty c.in_ok-groups.groups.entries c.in_ok-groups.ensures.len))
 
 pub invariant_of-self : goal.invariant_of-self
 invariant_of-self c =
@@ -37,13 +45,17 @@ invariant_of-result c =
     let gaps : List ℕ = c.args.gaps.now in
     let taken_is : c.cut_out.new.taken.items ≡ at_gaps gaps before = c.in_ok-cut_out.ensures.taken ∙ ap (λ (x : List Taken). x ++ at_gaps c.args.gaps.now c.self.inside.list.items) c.in_ok-taken.ensures.items in
     let left_is : c.cut_out.new.list.items ≡ rest_of gaps before = c.in_ok-cut_out.ensures.list in
-    (parts octets items before gaps c.cut_out.new.taken.items c.cut_out.new.list.items c.move_groups.new.groups.items c.move_groups.new.owners.entries c.self.inside.owners.entries
-    (subst (λ (x : List Record). AreWithin gaps x) (sym c.self.view_is) c.requires.within)
-    (subst (λ (x : List Record). AreApart (at_gaps gaps x) (rest_of gaps x)) (sym c.self.view_is) c.requires.apart)
-    taken_is left_is c.self.invariant.0
-    (λ records h. c.move_groups.ensures.index records (subst (λ gs. IsGrouped octets items records (gs ++ c.self.inside.owners.entries)) (sym c.in_ok-groups.ensures.items) h))
-    (subst (λ (ts : List Taken). AllByRecursion (λ (t : Taken). under octets (octets_of t.item.owner) c.move_groups.new.owners.entries ≡ None) ts) c.deref.ensures.value c.move_groups.ensures.gone)
-    (λ owner none. c.move_groups.ensures.only owner (ap (λ (ts : List Taken). of_owner owner (records_of ts)) c.deref.ensures.value ∙ none) (ap (λ gs. under octets (octets_of owner) gs) c.in_ok-groups.ensures.items))).0
+    let counted : AreCounted (records_of c.cut_out.new.taken.items) c.in_ok-below.below
+    = subst (λ (ts : List Taken). AreCounted (records_of ts) c.in_ok-below.below) (ap (λ (rs : List Record). at_gaps gaps rs) c.as_slice.ensures.value ∙ sym taken_is) c.in_ok-below.ensures in (
+      (parts octets items before gaps c.cut_out.new.taken.items c.cut_out.new.list.items c.move_groups.new.groups.entries c.move_groups.new.owners.entries c.self.inside.owners.entries
+          (subst (λ (x : List Record). AreWithin gaps x) (sym c.self.view_is) c.requires.within)
+          (subst (λ (x : List Record). AreApart (at_gaps gaps x) (rest_of gaps x)) (sym c.self.view_is) c.requires.apart)
+          taken_is left_is c.self.invariant.0
+          (λ records h. c.move_groups.ensures.index records (subst (λ gs. IsGrouped octets items records (gs ++ c.self.inside.owners.entries)) (sym (empty c.in_ok-groups.groups.entries c.in_ok-groups.ensures.len)) h))
+          (subst (λ (ts : List Taken). AllByRecursion (λ (t : Taken). under octets (octets_of t.item.owner) c.move_groups.new.owners.entries ≡ None) ts) c.deref.ensures.value c.move_groups.ensures.gone)
+          (λ owner none. c.move_groups.ensures.only owner (ap (λ (ts : List Taken). of_owner owner (records_of ts)) c.deref.ensures.value ∙ none) (ap (λ gs. under octets (octets_of owner) gs) (empty c.in_ok-groups.groups.entries c.in_ok-groups.ensures.len)))).0,
+      counted,
+    )
 
 pub invariant_of-self-2 : goal.invariant_of-self-2
 invariant_of-self-2 c =
@@ -53,13 +65,13 @@ invariant_of-self-2 c =
     let left_is : c.cut_out.new.list.items ≡ rest_of gaps before = c.in_ok-cut_out.ensures.list in
     let within : AreWithin gaps before = subst (λ (x : List Record). AreWithin gaps x) (sym c.self.view_is) c.requires.within in
     let grouped =
-    (parts octets items before gaps c.cut_out.new.taken.items c.cut_out.new.list.items c.move_groups.new.groups.items c.move_groups.new.owners.entries c.self.inside.owners.entries
+    (parts octets items before gaps c.cut_out.new.taken.items c.cut_out.new.list.items c.move_groups.new.groups.entries c.move_groups.new.owners.entries c.self.inside.owners.entries
     (subst (λ (x : List Record). AreWithin gaps x) (sym c.self.view_is) c.requires.within)
     (subst (λ (x : List Record). AreApart (at_gaps gaps x) (rest_of gaps x)) (sym c.self.view_is) c.requires.apart)
     taken_is left_is c.self.invariant.0
-    (λ records h. c.move_groups.ensures.index records (subst (λ gs. IsGrouped octets items records (gs ++ c.self.inside.owners.entries)) (sym c.in_ok-groups.ensures.items) h))
+    (λ records h. c.move_groups.ensures.index records (subst (λ gs. IsGrouped octets items records (gs ++ c.self.inside.owners.entries)) (sym (empty c.in_ok-groups.groups.entries c.in_ok-groups.ensures.len)) h))
     (subst (λ (ts : List Taken). AllByRecursion (λ (t : Taken). under octets (octets_of t.item.owner) c.move_groups.new.owners.entries ≡ None) ts) c.deref.ensures.value c.move_groups.ensures.gone)
-    (λ owner none. c.move_groups.ensures.only owner (ap (λ (ts : List Taken). of_owner owner (records_of ts)) c.deref.ensures.value ∙ none) (ap (λ gs. under octets (octets_of owner) gs) c.in_ok-groups.ensures.items))).1 in (
+    (λ owner none. c.move_groups.ensures.only owner (ap (λ (ts : List Taken). of_owner owner (records_of ts)) c.deref.ensures.value ∙ none) (ap (λ gs. under octets (octets_of owner) gs) (empty c.in_ok-groups.groups.entries c.in_ok-groups.ensures.len)))).1 in (
       grouped,
       counted_left lies_below before gaps c.cut_out.new.taken.items c.cut_out.new.list.items c.self.inside.below c.remove_all.new.self within taken_is left_is c.self.invariant.1
           (λ name. c.remove_all.ensures name ∙ ap (λ (ts : List Taken). counted name c.self.inside.below - count_below name (records_of ts)) c.deref-2.ensures.value),

@@ -1,4 +1,5 @@
-use Rattle.std.proofs.Common.{◌≡◌, ◌||◌, Bool, false, List, length, ap, sym, ◌∙◌, None, arith}
+use Rattle.std.proofs.Common.{◌≡◌, ◌||◌, Bool, false, List, length, ap, sym, ◌∙◌, rules, None, arith}
+use Rattle.std.proofs.lemmas.Bool.{false≢true}
 use Rattle.named_list.specs.TurnLaws.{puts_nothing}
 use Rattle.local_zone.specs.declared.zone.Zone.{Zone}
 use Rattle.local_zone.proofs.FreeLaws.{longer_for}
@@ -20,3 +21,13 @@ pub returns-in-Ok-clause-frees : goal.returns-in-Ok-clause-frees
 returns-in-Ok-clause-frees c =
     let before : List Zone = c.self.inside.zones in
     ap (λ (b : Bool). b || false) (puts_nothing (λ (z : Zone). z.name) c.in-Ok.zones c.put_implied.new.zones before c.in-Ok.ensures.saved (omega (arith, ap length c.in-Ok.ensures.ok, longer_for c.get-2.result.now.owner before)))
+
+pub returns-in-Ok-clause-saved : goal.returns-in-Ok-clause-saved
+returns-in-Ok-clause-saved c = record {
+  gives = search rules;
+  fits = search rules;
+  goes = search rules;
+  sound = search rules;
+  brings = λ back. absurd (false≢true back);
+  takes = λ away. absurd (false≢true away);
+}

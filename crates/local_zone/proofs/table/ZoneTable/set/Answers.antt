@@ -1,4 +1,5 @@
-use Rattle.std.proofs.Common.{◌≡◌, ◌||◌, Bool, false, None, ap, sym, ◌∙◌}
+use Rattle.std.proofs.Common.{◌≡◌, ◌||◌, Bool, false, None, ap, sym, ◌∙◌, rules}
+use Rattle.std.proofs.lemmas.Bool.{false≢true}
 use Rattle.named_list.specs.TurnLaws.{puts_none_with}
 use Rattle.local_zone.specs.declared.zone.Zone.{Zone}
 use Rattle.local_zone.specs.Tables.{Tables}
@@ -16,3 +17,13 @@ invariant_of-self-2 c =
 pub returns-clause-frees : goal.returns-clause-frees
 returns-clause-frees c =
     ap (λ (b : Bool). b || false) (puts_none_with (λ (z : Zone). z.name) c.in_ok-new.new c.in_ok-zones.zones c.put_zone.new.zones c.self.inside.zones c.in_ok-zones.ensures.ok c.in_ok-zones.ensures.saved)
+
+pub returns-clause-saved : goal.returns-clause-saved
+returns-clause-saved c = record {
+  gives = search rules;
+  fits = search rules;
+  goes = search rules;
+  sound = search rules;
+  brings = λ back. absurd (false≢true back);
+  takes = λ away. absurd (false≢true away);
+}

@@ -1,8 +1,8 @@
-use Rattle.std.proofs.Common.{◌≡◌, ◌||◌, ℕ, List, Some, ap, sym, subst, ◌∙◌, insert, slice_get}
+use Rattle.std.proofs.Common.{◌≡◌, ◌||◌, ℕ, List, Some, ap, sym, subst, ◌∙◌, insert, slice_get, rules}
 use Rattle.named_list.specs.declared.turn.Turn.{Turn}
 use Rattle.named_list.specs.declared.turn.Turn.TheVariants.{With, Without}
 use Rattle.local_zone.specs.declared.zone.Zone.{Zone}
-use Rattle.local_zone.specs.Saved.{before_of}
+use Rattle.local_zone.specs.Saved.{before_of, IsRemoval}
 use Rattle.local_zone.specs.Tables.{AreTables, Tables}
 use Rattle.named_list.specs.Turn.{other_of, puts_in, takes_out, with_at, HasPlace}
 use Rattle.local_zone.specs.Added.{records_need, records_need_after}
@@ -50,6 +50,22 @@ returns-in-Ok-clause-turned c =
     let now : c.put_zone_in.new.turn ≡ Without way.0 = way.1.1.1 in
     let first = c.args.saved.now.records in
     let then' = c.turn_over.new.turn in (
-      ap (λ (t : Turn Zone). puts_in t || records_need then') now ∙ c.in-Ok.ensures.turned.0 ∙ sym (ap (λ (t : Turn Zone). takes_out t || records_need_after first) was),
+      ap (λ (t : Turn Zone). puts_in t || records_need then') now ∙ c.in-Ok.ensures.turned.need ∙ sym (ap (λ (t : Turn Zone). takes_out t || records_need_after first) was),
       ap (λ (t : Turn Zone). takes_out t || records_need_after then') now ∙ sym (ap (λ (t : Turn Zone). puts_in t || records_need first) was),
     )
+
+pub returns-in-Ok-clause-again : goal.returns-in-Ok-clause-again
+returns-in-Ok-clause-again c =
+    let way = c.requires.takes.1 in
+    let turned = c.in-Ok.ensures.turned in
+    let now : Tables = record { zones = c.put_zone_in.new.zones; records = c.turn_over.new.records } in
+    let is : now ≡ c.requires.takes.0
+    = (λ i. record { zones = c.in_ok-put_zone_in.ensures.ok i; records = c.in-Ok.ensures.ok i }) ∙ ap (λ (t : Tables). before_of c.args.saved.now t) c.self.view_is ∙ way.gives in
+    record {
+      gives = search rules;
+      fits = search rules;
+      goes = search rules;
+      sound = search rules;
+      brings = λ back. subst (λ (t : Tables). IsRemoval c.args.self.now t) (sym is) (way.takes (sym turned.brings ∙ back));
+      takes = λ away. subst (λ (t : Tables). IsRemoval t c.args.self.now) (sym is) (way.brings (sym turned.takes ∙ away));
+    }

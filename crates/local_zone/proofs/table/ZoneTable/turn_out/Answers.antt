@@ -1,4 +1,5 @@
-use Rattle.std.proofs.Common.{◌≡◌, ◌||◌, List, refl, sym, subst}
+use Rattle.std.proofs.Common.{◌≡◌, ◌||◌, List, refl, ap, sym, subst, ◌∙◌, rules}
+use Rattle.local_zone.specs.Saved.{before_of, IsRemoval}
 use Rattle.std.proofs.lemmas.Bool.{false≢true}
 use Rattle.named_list.specs.Turn.{other_of, puts_in, HasPlace, IsWayBack}
 use Rattle.named_list.specs.TurnLaws.{puts_taken, takes_put}
@@ -19,8 +20,24 @@ returns-clause-turned c =
     let puts = puts_taken (λ (z : Zone). z.name) first then' zones (other_of first zones) (fits, refl) there in
     let takes = takes_put (λ (z : Zone). z.name) first then' zones (other_of first zones) (fits, refl) there in
     let records = c.in_ok-turn_over.ensures.turned in
-    (λ i. puts i || records.0 i, λ i. takes i || records.1 i)
+    (λ i. puts i || records.need i, λ i. takes i || records.need_after i)
 
 pub returns-in_err-turn_over-clause-free : goal.returns-in_err-turn_over-clause-free
 returns-in_err-turn_over-clause-free c none =
     absurd (false≢true (c.in_err-turn_over.ensures.free (second_fails (puts_in c.args.saved.now.zones) (records_need c.args.saved.now.records) none)))
+
+pub returns-clause-again : goal.returns-clause-again
+returns-clause-again c =
+    let way = c.requires.takes.1 in
+    let turned = c.in_ok-turn_over.ensures.turned in
+    let now : Tables = record { zones = c.turn_zone_out.new.zones; records = c.turn_over.new.records } in
+    let is : now ≡ c.requires.takes.0
+    = (λ i. record { zones = c.turn_zone_out.ensures.list i; records = c.in_ok-turn_over.ensures.ok i }) ∙ ap (λ (t : Tables). before_of c.args.saved.now t) c.self.view_is ∙ way.gives in
+    record {
+      gives = search rules;
+      fits = search rules;
+      goes = search rules;
+      sound = search rules;
+      brings = λ back. subst (λ (t : Tables). IsRemoval c.args.self.now t) (sym is) (way.takes (sym turned.brings ∙ back));
+      takes = λ away. subst (λ (t : Tables). IsRemoval t c.args.self.now) (sym is) (way.brings (sym turned.takes ∙ away));
+    }

@@ -1,0 +1,18 @@
+-- The other side of a change, read through the table and the way there.
+use Rattle.std.specs.Prelude.{ℕ, List}
+use Rattle.dns_text.specs.declared.record.Record.{Record}
+use Rattle.local_zone.specs.declared.saved.SavedTables.{SavedTables}
+use Rattle.local_zone.specs.declared.zone.Zone.{Zone}
+use Rattle.local_zone.specs.CountsBelow.{AreZoned}
+use Rattle.local_zone.specs.Saved.{before_of, TakesBack}
+use Rattle.local_zone.specs.Tables.{Tables, AreTables}
+
+-- the tables on the other side
+abbrev pub other_tables : SavedTables → List Zone → List Record → Tables
+other_tables saved zones records = before_of saved (record { zones = zones; records = records })
+
+-- These are the parts of a table, with its counts, and the saved value leads from it to the other side.
+pub record IsSide (saved : SavedTables) (zones : List Zone) (records : List Record) (zoned : List (List ℕ × ℕ)) : Type 0 where
+  pub back : TakesBack saved (record { zones = zones; records = records }) (other_tables saved zones records)
+  pub sound : AreTables (record { zones = zones; records = records })
+  pub counts : AreZoned zones records zoned

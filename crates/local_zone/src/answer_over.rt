@@ -1,0 +1,161 @@
+//! The answer to a question on the other side of a change. It shares the records, since some have another TTL there.
+
+ghost use Rattle.std.specs.Prelude.{◌≡◌, IfOk, Some};
+ghost use Rattle.local_zone.specs.Answer.{answer_in, data_or, in_redirect, in_static, in_transparent, local_of, soa_of};
+ghost use Rattle.local_zone.specs.Closest.{closest};
+ghost use Rattle.local_zone.specs.Show.{data_shown};
+
+use crate::answer;
+use crate::local_answer::Local;
+use crate::other_side::OtherSide;
+use crate::record::LocalRecord;
+use crate::shared_answer::SeenRecord;
+use crate::zone::Zone;
+use crate::zone_type::ZoneType;
+use dns_name::{Name, NoMemory};
+use dns_text::{Items, Question};
+use std::alloc::Global;
+
+/// An answer that shares records.
+type Shares = Local<Items<SeenRecord>, LocalRecord>;
+
+/// The CNAME of an owner, else its set of the type, shown with the QNAME as owner. None if there is neither.
+fn data(
+    alloc: Global,
+    side: &OtherSide<'_>,
+    asked: &Question,
+    owner: &Name,
+) -> Result<Option<Items<SeenRecord>>, NoMemory>
+    ensures { IfOk result (λ set. set ≡ data_shown asked.now.owner owner.now asked.now.kind side.now.records) }
+{
+    let own = side.of(alloc, owner)?;
+    match answer::data(&own, &asked.owner, owner, asked.kind) {
+        Some(set) => Ok(Some(set.to_items(alloc)?)),
+        None => Ok(None),
+    }
+}
+
+/// The first SOA record at a zone's name.
+fn first_soa(
+    alloc: Global,
+    side: &OtherSide<'_>,
+    zone: &Zone,
+) -> Result<Option<LocalRecord>, NoMemory>
+    ensures { IfOk result (λ soa. soa ≡ soa_of zone.now.name side.now.records) }
+{
+    let own = side.of(alloc, &zone.name)?;
+    match answer::soa_of(&own, &zone.name) {
+        Some(first) => Ok(Some(first.share()?)),
+        None => Ok(None),
+    }
+}
+
+/// The data at the name, or another answer if there is none.
+fn data_or(
+    alloc: Global,
+    side: &OtherSide<'_>,
+    asked: &Question,
+    otherwise: Shares,
+) -> Result<Shares, NoMemory>
+    ensures { IfOk result (λ answer. answer
+        ≡ data_or otherwise (data_shown asked.now.owner asked.now.owner asked.now.kind side.now.records)) }
+{
+    match data(alloc, side, asked, &asked.owner)? {
+        Some(set) => Ok(Local::Data(set)),
+        None => Ok(otherwise),
+    }
+}
+
+/// The answer of a static zone.
+fn in_static(
+    alloc: Global,
+    side: &OtherSide<'_>,
+    asked: &Question,
+    zone: &Zone,
+) -> Result<Shares, NoMemory>
+    requires { closest side.now.zones asked.now.owner ≡ Some zone.now }
+    ensures { IfOk result (λ answer. answer ≡ in_static side.now asked.now zone.now) }
+{
+    if let Some(set) = data(alloc, side, asked, &asked.owner)? {
+        return Ok(Local::Data(set));
+    }
+    let soa = first_soa(alloc, side, zone)?;
+    if side.count_of(&asked.owner) > 0 {
+        Ok(Local::NoData(soa))
+    } else {
+        Ok(Local::NoName(soa))
+    }
+}
+
+/// The answer of a transparent zone.
+fn in_transparent(
+    alloc: Global,
+    side: &OtherSide<'_>,
+    asked: &Question,
+    zone: &Zone,
+) -> Result<Shares, NoMemory>
+    ensures { IfOk result (λ answer. answer ≡ in_transparent side.now.records asked.now zone.now) }
+{
+    if let Some(set) = data(alloc, side, asked, &asked.owner)? {
+        return Ok(Local::Data(set));
+    }
+    let own = side.of(alloc, &asked.owner)?;
+    if answer::has_record(&own, &asked.owner) {
+        Ok(Local::NoData(first_soa(alloc, side, zone)?))
+    } else {
+        Ok(Local::Pass)
+    }
+}
+
+/// The answer of a redirect zone.
+fn in_redirect(
+    alloc: Global,
+    side: &OtherSide<'_>,
+    asked: &Question,
+    zone: &Zone,
+) -> Result<Shares, NoMemory>
+    ensures { IfOk result (λ answer. answer ≡ in_redirect side.now.records asked.now zone.now) }
+{
+    match data(alloc, side, asked, &zone.name)? {
+        Some(set) => Ok(Local::Data(set)),
+        None => Ok(Local::NoData(first_soa(alloc, side, zone)?)),
+    }
+}
+
+/// The answer of a zone, by its type.
+fn answer_in(
+    alloc: Global,
+    side: &OtherSide<'_>,
+    asked: &Question,
+    zone: &Zone,
+) -> Result<Shares, NoMemory>
+    requires { closest side.now.zones asked.now.owner ≡ Some zone.now }
+    ensures { IfOk result (λ answer. answer ≡ answer_in side.now asked.now zone.now zone.now.kind) }
+{
+    match zone.kind {
+        ZoneType::Deny => data_or(alloc, side, asked, Local::Drop),
+        ZoneType::Refuse => data_or(alloc, side, asked, Local::Refuse),
+        ZoneType::Static => in_static(alloc, side, asked, zone),
+        ZoneType::Transparent => in_transparent(alloc, side, asked, zone),
+        ZoneType::TypeTransparent => data_or(alloc, side, asked, Local::Pass),
+        ZoneType::Redirect => in_redirect(alloc, side, asked, zone),
+        ZoneType::AlwaysTransparent => Ok(Local::Pass),
+        ZoneType::AlwaysRefuse => Ok(Local::Refuse),
+        ZoneType::AlwaysNxDomain => Ok(Local::NoName(None)),
+        ZoneType::AlwaysNoData => Ok(Local::NoData(None)),
+    }
+}
+
+/// The answer to a question on the other side of a change.
+pub(crate) fn answer_over(
+    alloc: Global,
+    side: &OtherSide<'_>,
+    asked: &Question,
+) -> Result<Shares, NoMemory>
+    ensures { IfOk result (λ answer. answer ≡ local_of side.now asked.now) }
+{
+    match side.closest(&asked.owner) {
+        Some(zone) => answer_in(alloc, side, asked, zone),
+        None => Ok(Local::Pass),
+    }
+}
