@@ -20,12 +20,7 @@ pub fn empty_book(alloc: Global) -> Result<PlainBook, MakeFault>
 }
 
 fn small_settings(alloc: Global) -> Settings {
-    Settings {
-        journal: 64,
-        cells: 100,
-        hints: Items::new(Vec::new(alloc)),
-        server_port: 53,
-    }
+    settings_with(alloc, 64, 100)
 }
 
 /// The same, and an opening book to it.
@@ -53,14 +48,27 @@ pub fn shelf_of(alloc: Global, cells: usize) -> Result<ShelfBook, MakeFault> {
     shelf_with(alloc, 1, cells)
 }
 
+/// The same, and an opening book to it.
+pub fn shelves_of(alloc: Global, cells: usize) -> Result<(ShelfBook, ShelfBook), MakeFault>
+    ensures lags { IfOk result (λ b. ⟦<ShelfBook as Book>⟧.settings b.1 ≡ lagging_of (⟦<ShelfBook as Book>⟧.settings b.0)) }
+    ensures fresh { IfOk result (λ b. ⟦<ShelfBook as Book>⟧.stands_for b.0 [] × ⟦<ShelfBook as Book>⟧.stands_for b.1 []) }
+{
+    let settings = settings_with(alloc, 1, cells);
+    let opening = ShelfBook::lagging(alloc, &settings)?;
+    Ok((ShelfBook::new(alloc, settings)?, opening))
+}
+
 fn shelf_with(alloc: Global, journal: usize, cells: usize) -> Result<ShelfBook, MakeFault> {
-    let settings = Settings {
+    ShelfBook::new(alloc, settings_with(alloc, journal, cells))
+}
+
+fn settings_with(alloc: Global, journal: usize, cells: usize) -> Settings {
+    Settings {
         journal,
         cells,
         hints: Items::new(Vec::new(alloc)),
         server_port: 53,
-    };
-    ShelfBook::new(alloc, settings)
+    }
 }
 
 /// A record's text as a find of the highest rank.

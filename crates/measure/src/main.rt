@@ -13,6 +13,7 @@
 //! | `cells` | a number of names | looks names up in a cache of so many, each with one address |
 //! | | `undo-N`; `oldest-N`, `middle-N`, `newest-N` | undoes and redoes one of 256 flushes of so many names; by its ticket |
 //! | `room` | a number of names | gives new names to a full cache with room for so many |
+//! | | `clock-N`, `end-N` | fills a shared cache with N names, and asks for the name to forget first once half of them have ended unswept |
 //! | `tables` | a number of records | asks for names of so many local records, in a sixteenth as many zones |
 //! | | `KIND-undo-N`; `KIND-last-N`, `KIND-first-N` | undoes and redoes the last command; by its ticket, before 255 others too |
 //! | `fill` | a number of records | makes a table of so many local records, by a call for each zone and each record |
@@ -28,6 +29,7 @@ mod lookups; // lookups of many names
 mod moves; // undos and redos of one command
 mod cells; // lookups in a cache of many names, undos of flushes
 mod room; // new names for a full cache
+mod between; // a clock that moves between a sweep and the look for the name to forget first
 mod tables; // answers from many local records, undos of commands about them
 mod fill; // tables filled by their own calls
 

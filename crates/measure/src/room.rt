@@ -1,5 +1,6 @@
 //! New names for a full cache: for each, the name that ends first is forgotten.
 
+use crate::between::{At, ask_many};
 use crate::books::{find_in, give, shelf_of};
 use crate::calls::run_calls;
 use crate::lookups::questions;
@@ -9,6 +10,7 @@ use dns_text::Question;
 use history::{Ask, Book, Event, Look, Reply, Seen, StepFault};
 use ranked::SharedFind;
 use std::alloc::Global;
+use std::sync::Wait;
 
 /// The TTL of each name, in seconds.
 const TTL: u32 = 3_600;
@@ -99,15 +101,31 @@ fn take_new(alloc: Global, room: &str, count: u32) -> anyhow::Result<u32> {
 }
 
 /// Every number of names for which there is room.
-const ROOMS: [&str; 1] = ["1000"];
+const ROOMS: [&str; 3] = ["1000", "clock-16", "end-16"];
 
-/// Gives new names to a cache that has room for as many as the first word says, and prints how many were new.
-pub fn measure_room<R: Print>(rt: &R, alloc: Global, words: &[String]) -> anyhow::Result<()> {
+/// Makes one call so many times.
+fn make_calls<R: Wait>(rt: &R, alloc: Global, call: &str, count: u32) -> anyhow::Result<u32> {
+    if let Some(names) = call.strip_prefix("clock-") {
+        return ask_many(rt, alloc, names.parse()?, At::Clock, count);
+    }
+    if let Some(names) = call.strip_prefix("end-") {
+        return ask_many(rt, alloc, names.parse()?, At::End, count);
+    }
+    take_new(alloc, call, count)
+}
+
+/// Gives new names to a cache that has room for as many as the first word says, and prints how many were new; or asks a shared book for
+/// the name to forget first, and prints how often there was one.
+pub fn measure_room<R: Print + Wait>(
+    rt: &R,
+    alloc: Global,
+    words: &[String],
+) -> anyhow::Result<()> {
     run_calls(
         rt,
         words,
         &ROOMS,
         64,
-        |room, count| take_new(alloc, room, count),
+        |call, count| make_calls(rt, alloc, call, count),
     )
 }
