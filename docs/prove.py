@@ -57,12 +57,13 @@ class Proving:
             self.waiting.remove(crate)
             with open(os.path.join(self.folder, crate + ".log"), "w", encoding="utf-8") as log:
                 process = subprocess.Popen(["rt", "ci", crate], cwd=copy, stdin=subprocess.DEVNULL, stdout=log, stderr=subprocess.STDOUT)
-            self.running[process.pid] = crate, time.monotonic()
+            # The process is kept: `subprocess` waits by itself for one that nobody keeps.
+            self.running[process.pid] = crate, time.monotonic(), process
 
     def end(self):
         """Waits until a crate ends."""
         process, status, used = os.wait3(0)
-        crate, began = self.running.pop(process)
+        crate, began, _ = self.running.pop(process)
         with open(os.path.join(self.folder, crate + ".log"), encoding="utf-8") as log:
             last = (log.read().strip().splitlines() or ["no line"])[-1]
         (self.failed if status else self.proved).add(crate)
@@ -88,7 +89,7 @@ def main():
     parser.add_argument("folder")
     parser.add_argument("--slots", type=int, default=3, help="how many crates are proved side by side; each takes 1 to 6 GB")
     parser.add_argument("crates", nargs="*", metavar="CRATE")
-    given = parser.parse_args()
+    given = parser.parse_intermixed_args()
     os.makedirs(given.folder, exist_ok=True)
     sys.exit(Proving(given.folder, given.slots, given.crates).run())
 
