@@ -29,7 +29,8 @@ pub fn words_are()
 
 /// The control socket does not know the lines that only scripts have, and scripts do not know `stop`, whatever follows the word.
 pub fn channels_are_apart()
-    ensures control { AllByRecursion (IsUnknown Control) (codes "at" ∷ codes "admit" ∷ codes "nodata" ∷ codes "noname" ∷ codes "forget" ∷ []) }
+    ensures control { AllByRecursion (IsUnknown Control)
+        (codes "at" ∷ codes "admit" ∷ codes "nodata" ∷ codes "noname" ∷ codes "forget" ∷ codes "oldest" ∷ []) }
     ensures script { IsUnknown Script (codes "stop") }
 {}
 

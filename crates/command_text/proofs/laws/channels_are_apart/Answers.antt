@@ -11,7 +11,7 @@ unknown channel word none line rest short loud first = rw (le-ltb LONGEST_LINE (
 
 pub returns-clause-control : goal.returns-clause-control
 unfolding by_word
-returns-clause-control c = (unknown Control _ refl, (unknown Control _ refl, (unknown Control _ refl, (unknown Control _ refl, (unknown Control _ refl, tt)))))
+returns-clause-control c = (unknown Control _ refl, (unknown Control _ refl, (unknown Control _ refl, (unknown Control _ refl, (unknown Control _ refl, (unknown Control _ refl, tt))))))
 
 pub returns-clause-script : goal.returns-clause-script
 unfolding by_word
