@@ -36,7 +36,8 @@ impl<D: Numbered, L: InFlight, C: Clock, G: Rng, K: Client> Flight<D, L, C, G, K
         job: Job<D, L, C, G, K>,
     )
         ensures port { O.server_port outside.new ≡ O.server_port outside.old }
-        ensures ends { Ends K.sent O.posts 0 (outstanding self.old + 1) (O.outbox outside.old) (outstanding self.new) (O.outbox outside.new) }
+        ensures ends { Ends K.sent O.posts 0 (outstanding self.old + 1) (O.outbox outside.old)
+            (outstanding self.new) (O.outbox outside.new) }
         ensures accounted { IsAccounted 0 (outstanding self.old + 1) (O.counts outside.old) (outstanding self.new) (O.counts outside.new) }
         ensures heard { Rises (O.counts outside.old).listened (O.counts outside.new).listened }
         ensures waits { WaitsFrom now (λ origin. origin ≡ job.origin) self.old self.new }

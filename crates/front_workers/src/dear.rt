@@ -118,7 +118,8 @@ fn pointer_at(octets: &[u8], at: usize, octet: usize) -> Result<usize, Stop>
     requires octet { slice_get octets.now at ≡ Some octet }
     ensures within { OnOk result (at + 2 ≤ length octets.now) }
     ensures ok { IfOk result (λ to. next_at octets.now at ≡ Pointer to) }
-    ensures err { IfErr result (λ stop. (stop ≡ Stop.Faulty) × ((next_at octets.now at ≡ Cut) ⊎ (next_at octets.now at ≡ Reserved))) }
+    ensures err { IfErr result (λ stop. (stop ≡ Stop.Faulty)
+        × ((next_at octets.now at ≡ Cut) ⊎ (next_at octets.now at ≡ Reserved))) }
 {
     if octet < POINTER_MARK {
         return Err(Stop::Faulty);

@@ -149,8 +149,8 @@ pub trait Book: Drop {
         ensures { (h : List Event) → stands_for self.now h →
             IfOk result (λ s. s ≡ servers_of (settings self.now) (past_of (settings self.now).journal h) name.now moment) };
 
-    /// Counts of how many cached names with data alive the flush of a ticket hides a cell: of some names from a place on, so that no call is
-    /// long. It is for an operator's eyes, and no clause says what is counted.
+    /// Counts of how many cached names with data alive the flush of a ticket hides a cell: of some names from a place on, so that no call
+    /// is long. It is for an operator's eyes, and no clause says what is counted.
     fn hidden_some(&self, ticket: u64, from: u64, moment: u64) -> Hidden {
         let _ = (ticket, from, moment);
         Hidden::none()

@@ -146,8 +146,8 @@ fn pass<R: Rng>(
 ) -> Result<Advance, NoMemory>
     ensures hands { (find : Find) → lawful ≡ true → IsHanded heard.value.harvest.chosen allowed (next + 1) find
         → IfOk result (λ told. told.want ≡ Book (Admit moment find)) }
-    ensures goes { (question : Question) (log : List Exchange) (attempt : Attempt) → IsHearing port question log search.value heard.value allowed
-        → next < MOST_FINDS → ¬ (MadeRoom log)
+    ensures goes { (question : Question) (log : List Exchange) (attempt : Attempt)
+        → IsHearing port question log search.value heard.value allowed → next < MOST_FINDS → ¬ (MadeRoom log)
         → (lawful ≡ false → Fails port log search.value.path.last (length search.value.path.sets.items))
         → IfOk result (Advances port question log moment (drawing (R.stream ids.old) (R.stream ids.new))
         (left_of_finds search.value.path next attempt)) }

@@ -138,7 +138,8 @@ fn follow_alias(
     ensures looks { length path.sets.items < MOST_ALIASES → IfOk result (LooksAt path to moment) }
     ensures goes { (port : ℕ) (ids : Stream) (left : ℕ) (question : Question) (log : List Exchange) → left_of_path path 4 ≤ left
         → IsHarvestOf port log harvest.value → IsAskable port question log path
-        → IsToldBy harvest.value (alias_question path.last.owner) told → IsTarget told to → HasCome port question log to → IfOk result (Advances port question log moment (idle ids) left) }
+        → IsToldBy harvest.value (alias_question path.last.owner) told → IsTarget told to → HasCome port question log to
+        → IfOk result (Advances port question log moment (idle ids) left) }
 {
     match follow(path, told, to)? {
         Some(next) => look_behind(next, harvest, moment),

@@ -88,7 +88,8 @@ fn settle_reach(
     requires room { length settlings.old.items < vec_capacity settlings.old }
     requires counted { (stored.old ≡ stored_in owners.old) × HaveTop owners.old }
     requires settles { CanSettleFlush owners.old number flush }
-    ensures moved { (top : ℕ) → number ≤ top → AreUpTo top owners.old → AllByRecursion (IsSettling top owners.old) settlings.old.items →
+    ensures moved { (top : ℕ) → number ≤ top → AreUpTo top owners.old →
+        AllByRecursion (IsSettling top owners.old) settlings.old.items →
         IsMoved (λ q v. after_settle (covers flush q) number v) top settlings.old.items settlings.new.items owners.old owners.new }
     ensures settles { (kept : List KeptFlush) →
         AllByRecursion (CanSettleKept owners.old) kept → AllByRecursion (CanSettleKept owners.new) kept }
@@ -129,7 +130,8 @@ pub(crate) fn settle_flush(
     requires room { length settlings.old.items < vec_capacity settlings.old }
     requires counted { (stored.old ≡ stored_in owners.old) × HaveTop owners.old }
     requires settles { CanSettleFlush owners.old number flush }
-    ensures moved { (top : ℕ) → number ≤ top → AreUpTo top owners.old → AllByRecursion (IsSettling top owners.old) settlings.old.items →
+    ensures moved { (top : ℕ) → number ≤ top → AreUpTo top owners.old →
+        AllByRecursion (IsSettling top owners.old) settlings.old.items →
         IsMoved (λ q v. after_settle (covers flush q) number v) top settlings.old.items settlings.new.items owners.old owners.new }
     ensures settles { (kept : List KeptFlush) →
         AllByRecursion (CanSettleKept owners.old) kept → AllByRecursion (CanSettleKept owners.new) kept }

@@ -19,7 +19,8 @@ impl Shelf {
         self.owners.len()
     }
 
-    /// The number of permanent flushes of zones that have names left to reach. Each lookup reads their list.
+    /// How many entries the list of permanent flushes has: the flushes of zones that have names left to reach, and at most one of number 0.
+    /// After a flush has gone, that one ends the names whose moments are in doubt, a few at a time. Each lookup reads the list.
     pub fn reaching(&self) -> usize
         ensures value { result ≡ length self.now.settlings.items }
         ensures few { IsShelf self.now → result ≤ most_settling }

@@ -23,7 +23,7 @@ use std::alloc::Global;
 /// The names that a permanent flush reaches at one call, so that no call is long.
 pub(crate) const REACHED_AT_ONCE: usize = 256;
 
-/// The most permanent flushes of zones that have names left to reach: each lookup reads their list.
+/// The most entries of the list of permanent flushes: each lookup reads it.
 pub(crate) const MOST_SETTLING: usize = 256;
 
 /// A permanent flush of every type at or below a name. One of number 0 changes no version: after a flush has gone, it ends the names whose
@@ -47,7 +47,7 @@ pub(crate) fn reserve_settlings(settlings: &mut Vec<Settling>, count: usize) -> 
     Ok(())
 }
 
-// Whether no permanent flush has names to reach.
+// Whether no permanent flush has names to reach, and no names in doubt are to be ended.
 pub(crate) fn none_left(settlings: &[Settling]) -> bool
     ensures { result ≡ true → settlings.now ≡ [] }
 {
@@ -213,7 +213,8 @@ pub(crate) fn reach_some(
     ensures ends { (kept : List KeptFlush) → AreEnds kept owners.old.entries ends.old → AreEnds kept owners.new.entries ends.new }
     ensures size { HaveEnds owners.new.entries ends.new }
     ensures room { (length settlings.new.items ≤ length settlings.old.items)
-        × (vec_capacity settlings.new ≡ vec_capacity settlings.old) × (AreUseful settlings.old.items → AreUseful settlings.new.items) }
+        × (vec_capacity settlings.new ≡ vec_capacity settlings.old)
+        × (AreUseful settlings.old.items → AreUseful settlings.new.items) }
     ensures left { HaveStepped most settlings.old.items settlings.new.items
         × EndNear ends.old.moments ends.new.moments (steps_left settlings.old.items) (steps_left settlings.new.items)
         × (ends.old.left ≤ most_left settlings.old.items → ends.new.left ≤ most_left settlings.new.items) }
@@ -283,8 +284,8 @@ pub(crate) fn settle_zone(owners: &Owners, settlings: &mut Vec<Settling>, zone: 
     ensures moved { (top : ℕ) → number ≤ top → AreUpTo top owners.now → AllByRecursion (IsSettling top owners.now) settlings.old.items →
         IsMoved (λ q v. after_settle (is_at_or_below q.owner zone) number v) top
         settlings.old.items settlings.new.items owners.now owners.now }
-    ensures items { settlings.new.items ≡
-        without_outdone zone number settlings.old.items ++ record { zone = zone; number = number; left = length owners.now.entries } ∷ [] }
+    ensures items { settlings.new.items ≡ without_outdone zone number settlings.old.items
+        ++ record { zone = zone; number = number; left = length owners.now.entries } ∷ [] }
     ensures room { (length settlings.new.items ≤ length settlings.old.items + 1)
         × (vec_capacity settlings.new ≡ vec_capacity settlings.old) }
 {
@@ -307,9 +308,11 @@ pub(crate) fn doubt_later(
     ensures ends { (kept more : List KeptFlush) → AreEnds kept owners.now.entries ends.old → AreEnds more owners.now.entries ends.new }
     ensures moved { (top : ℕ) → AreUpTo top owners.now → AllByRecursion (IsSettling top owners.now) settlings.old.items →
         IsMoved unmoved top settlings.old.items settlings.new.items owners.now owners.now }
-    ensures versions { (name : Labels) (v : ℕ) → settled_version settlings.new.items name v ≡ settled_version settlings.old.items name v }
+    ensures versions { (name : Labels) (v : ℕ) →
+        settled_version settlings.new.items name v ≡ settled_version settlings.old.items name v }
     ensures room { (length settlings.new.items ≤ length settlings.old.items + 1)
-        × (vec_capacity settlings.new ≡ vec_capacity settlings.old) × (AreUseful settlings.old.items → AreUseful settlings.new.items)
+        × (vec_capacity settlings.new ≡ vec_capacity settlings.old)
+        × (AreUseful settlings.old.items → AreUseful settlings.new.items)
         × (length settlings.old.items ≤ most_settling → length settlings.new.items ≤ most_settling) }
     ensures items { length settlings.old.items < vec_capacity settlings.old →
         settlings.new.items ≡ doubted (length owners.now.entries) settlings.old.items }
@@ -362,7 +365,7 @@ impl Shelf {
         settled_version(&self.settlings, owner, version)
     }
 
-    // Whether a permanent flush of a zone has names to reach.
+    // Whether a permanent flush of a zone has names to reach, or names in doubt are to be ended.
     pub(crate) fn is_reaching(&self) -> bool
         ensures some { result ≡ true → 0 < length self.now.settlings.items }
         ensures none { result ≡ false → self.now.settlings.items ≡ [] }

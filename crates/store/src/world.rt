@@ -136,8 +136,8 @@ impl ShelfWorld {
     /// That is what the face shows of the choice in which the flush alone stands the other way.
     pub(crate) fn over_law(&self, saved: &SavedFlush)
         ensures { (moment : ℕ) (q : Question) →
-            HoldsOver ⟦<ShelfWorld as World>⟧.table ⟦<ShelfWorld as World>⟧.keeps ⟦<ShelfWorld as World>⟧.face self.now saved.now
-            (λ face. shows_over self.now saved.now moment q ≡ shown_at (face.cell q) moment) }
+            HoldsOver ⟦<ShelfWorld as World>⟧.table ⟦<ShelfWorld as World>⟧.keeps ⟦<ShelfWorld as World>⟧.face
+            self.now saved.now (λ face. shows_over self.now saved.now moment q ≡ shown_at (face.cell q) moment) }
     {
         // It is read for its invariant: the numbers of the kept flushes ascend.
         let _shelf = &self.shelf;
@@ -178,7 +178,8 @@ impl ShelfWorld {
         self.shelf.names()
     }
 
-    /// How many permanent flushes of zones have names left to reach. Each lookup reads their list.
+    /// How many entries the list of permanent flushes has: the flushes of zones that have names left to reach, and at most one more.
+    /// After a flush has gone, that one ends the names whose moments are in doubt, a few at a time. Each lookup reads the list.
     pub fn reaching(&self) -> usize
         ensures reaching { result ≡ length self.now.settlings }
         ensures few { result ≤ most_reaching }

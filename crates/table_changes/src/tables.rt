@@ -94,8 +94,8 @@ impl TableWorld {
     ) -> Result<Local<Items<SeenRecord>, LocalRecord>, NoMemory>
         requires { CanTurn ⟦<TableWorld as World>⟧.table ⟦<TableWorld as World>⟧.keeps self.now saved.now }
         ensures { IfOk result (λ answer.
-            HoldsOver ⟦<TableWorld as World>⟧.table ⟦<TableWorld as World>⟧.keeps ⟦<TableWorld as World>⟧.face self.now saved.now
-            (λ face. answer ≡ local_of face.tables.local question.now)) }
+            HoldsOver ⟦<TableWorld as World>⟧.table ⟦<TableWorld as World>⟧.keeps ⟦<TableWorld as World>⟧.face
+            self.now saved.now (λ face. answer ≡ local_of face.tables.local question.now)) }
     {
         match saved {
             SavedTable::Zones(saved) => self.tables.local.answer_over(saved, question),

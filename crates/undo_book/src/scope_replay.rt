@@ -72,7 +72,8 @@ impl Replay<'_> {
 
     /// Their cell after an entry, if that is in force.
     fn after<'a>(&self, mut cell: Cell<&'a SharedFind>, logged: &'a Logged) -> Cell<&'a SharedFind>
-        ensures { content_of result.held ≡ scope_after_logged self.now.owner.now self.now.scope (tickets_of self.now.journal.now) self.now.own
+        ensures { content_of result.held ≡
+            scope_after_logged self.now.owner.now self.now.scope (tickets_of self.now.journal.now) self.now.own
             (content_of cell.entry.held) logged.now }
     {
         match &logged.entry.event {
@@ -109,7 +110,8 @@ impl Replay<'_> {
         indexed: &Indexed,
     ) -> Cell<&'a SharedFind>
         requires { tag ≡ tag_of self.now.owner.now }
-        ensures { content_of result.held ≡ scope_after_indexed self.now.owner.now self.now.scope (tickets_of self.now.journal.now) self.now.own
+        ensures { content_of result.held ≡
+            scope_after_indexed self.now.owner.now self.now.scope (tickets_of self.now.journal.now) self.now.own
             log.now (content_of cell.entry.held) indexed.now }
     {
         if !indexed.concerns(tag) {

@@ -89,7 +89,8 @@ impl ShelfBook {
         self.book.world().cells.names()
     }
 
-    /// How many permanent flushes of zones have names of its cache left to reach. Each lookup reads their list.
+    /// How many entries its cache's list of permanent flushes has: the flushes of zones that have names left to reach, and at most one
+    /// more. After a flush has gone, that one ends the names whose moments are in doubt, a few at a time. Each lookup reads the list.
     pub fn reaching(&self) -> usize
         ensures reaching { result ≡ reaching_of self.now }
         ensures few { reaching_of self.now ≤ most_reaching }
@@ -241,7 +242,8 @@ impl Book for ShelfBook {
     fn sweep_some(&mut self) -> bool
         ensures stands { (h : List Event) → ⟦<WorldBook<StoreChange> as Book>⟧.stands_for self.old.book h →
             ⟦<WorldBook<StoreChange> as Book>⟧.stands_for self.new.book h }
-        ensures stored { ⟦<WorldBook<StoreChange> as Book>⟧.stored self.new.book ≤ ⟦<WorldBook<StoreChange> as Book>⟧.stored self.old.book }
+        ensures stored { ⟦<WorldBook<StoreChange> as Book>⟧.stored self.new.book
+            ≤ ⟦<WorldBook<StoreChange> as Book>⟧.stored self.old.book }
         ensures settings { ⟦<WorldBook<StoreChange> as Book>⟧.settings self.new.book
             ≡ ⟦<WorldBook<StoreChange> as Book>⟧.settings self.old.book }
         ensures more { result ≡ true →

@@ -45,7 +45,8 @@ pub trait BookWorld: World<Tables = Tables, Told = Command> + CellSource {
     fn command(saved: &Self::Saved) -> &Command
         ensures { result.now ≡ Self.told saved.now };
 
-    /// The reply to a lookup of a question, if this kept change were undone, or redone. Nothing changes. It takes memory only for the reply.
+    /// The reply to a lookup of a question, if this kept change were undone, or redone. Nothing changes. It takes memory for the reply
+    /// only.
     fn answer_over(
         &self,
         alloc: Global,

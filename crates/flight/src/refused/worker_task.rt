@@ -46,7 +46,8 @@ impl<G: Rng> WorkerTask<G> {
     ) -> Result<WorkerTask<G>, Refused>
         ensures question { IfOk result (λ task. task.question ≡ question.now) }
         ensures port { IfOk result (λ task. task.port ≡ port) }
-        ensures steps { IfOk result (λ task. task.steps.items ≡ record { input = Begin; want = Book (Look moment (Asked question.now)) } ∷ []) }
+        ensures steps { IfOk result (λ task.
+            task.steps.items ≡ record { input = Begin; want = Book (Look moment (Asked question.now)) } ∷ []) }
         ensures phase { IfOk result (λ task. task.phase ≡ First) }
     {
         let copy = match question.clone() {

@@ -8,7 +8,8 @@ use Rattle.cell_store.specs.declared.seed.NameSeed.{NameSeed}
 use Rattle.shelf.specs.declared.settling.Settling.{Settling}
 use Rattle.shelf.specs.Settling.{joining, most_settling, without_outdone}
 use Rattle.shelf.proofs.FaceLaws.{settles_each, settles_flush}
-use Rattle.shelf.proofs.SettlingLaws.{joining_left, moved_then, pushed_left}
+use Rattle.shelf.proofs.SettlingLaws.{moved_then}
+use Rattle.shelf.proofs.LeftLaws.{joining_left, pushed_left}
 use Rattle.shelf.proofs.UsefulLaws.{useful_joined, useful_room}
 use Rattle.shelf.proofs.flushing.settle_flush.Goals as goal
 

@@ -1,7 +1,8 @@
 use Rattle.std.proofs.Common.{◌<◌, length, ◌∙◌, arith}
 use Rattle.shelf.specs.Settling.{doubting, most_settling, without_outdone}
 use Rattle.shelf.proofs.EndLaws.{ends_mixed}
-use Rattle.shelf.proofs.SettlingLaws.{doubt_items, doubt_moved, doubt_versions, doubted_room, pushed_left}
+use Rattle.shelf.proofs.SettlingLaws.{doubt_items, doubt_moved, doubt_versions}
+use Rattle.shelf.proofs.LeftLaws.{doubted_room, pushed_left}
 use Rattle.shelf.proofs.UsefulLaws.{useful_joined}
 use Rattle.shelf.proofs.settling.doubt_later.Goals as goal
 

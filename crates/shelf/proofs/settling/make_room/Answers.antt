@@ -1,6 +1,7 @@
 use Rattle.std.proofs.Common.{◌≡◌, ◌<◌, ◌≤◌, length, refl, sym, ap, ◌∙◌, arith}
 use Rattle.shelf.specs.Settling.{first_at, most_settling}
-use Rattle.shelf.proofs.SettlingLaws.{first_length, has_room, is_full, moved_same, moved_some, room_made}
+use Rattle.shelf.proofs.SettlingLaws.{moved_same, moved_some}
+use Rattle.shelf.proofs.LeftLaws.{first_length, has_room, is_full, room_made}
 use Rattle.shelf.proofs.settling.make_room.Goals as goal
 
 pub reach-left-requires : goal.reach-left-requires

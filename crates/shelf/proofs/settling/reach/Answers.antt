@@ -1,7 +1,8 @@
 use Rattle.std.proofs.Common.{◌≡◌, ◌+◌, ◌-◌, subst, arith}
 use Rattle.shelf.specs.Settling.{IsReaching}
 use Rattle.shelf.specs.Sweep.{EndNear}
-use Rattle.shelf.proofs.SettlingLaws.{near_none, near_then, reach_none, reach_then}
+use Rattle.shelf.proofs.SettlingLaws.{reach_none, reach_then}
+use Rattle.shelf.proofs.LeftLaws.{near_none, near_then}
 use Rattle.shelf.proofs.settling.reach.Goals as goal
 
 pub loop-place-init : goal.loop-place-init

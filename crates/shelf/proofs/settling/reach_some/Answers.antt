@@ -1,6 +1,7 @@
 use Rattle.std.proofs.Common.{length, refl, arith}
 use Rattle.shelf.specs.Settling.{steps_left}
-use Rattle.shelf.proofs.SettlingLaws.{first_length, is_none, is_some, moved_same, moved_some, near_none, near_some, stepped_left, stepped_none, stepped_some}
+use Rattle.shelf.proofs.SettlingLaws.{is_none, is_some, moved_same, moved_some}
+use Rattle.shelf.proofs.LeftLaws.{first_length, near_none, near_some, stepped_left, stepped_none, stepped_some}
 use Rattle.shelf.proofs.UsefulLaws.{useful_stepped}
 use Rattle.shelf.proofs.settling.reach_some.Goals as goal
 

@@ -1,6 +1,7 @@
 use Rattle.std.proofs.Common.{length, ap, ◌∙◌, arith}
 use Rattle.std.proofs.Math.ListN.{set}
-use Rattle.shelf.proofs.SettlingLaws.{first_gone, first_put, is_none, is_some, no_first}
+use Rattle.shelf.proofs.SettlingLaws.{is_none, is_some}
+use Rattle.shelf.proofs.LeftLaws.{first_gone, first_put, no_first}
 use Rattle.shelf.proofs.settling.step_first.Goals as goal
 
 pub returns-then-is_empty-clause-items : goal.returns-then-is_empty-clause-items

@@ -1,5 +1,6 @@
 use Rattle.std.proofs.Common.{◌≡◌, ◌≤◌, ◌∙◌, ℕ, true, None, Some, List, refl, sym, ap, arith}
-use Rattle.std.specs.Prelude.{IfOk, Result, Ok, Err, option_map}
+use Rattle.std.specs.Prelude.{option_map}
+use Rattle.std.proofs.lemmas.Result.{IfOk-weaker}
 use Rattle.history.specs.declared.event.Move.{Move}
 use Rattle.history.specs.History.{is_unstruck}
 use Rattle.history.specs.Journal.{commands_of, is_among, over}
@@ -10,13 +11,9 @@ use Rattle.world_book.proofs.OverLaws.{redo_tells, undo_tells}
 use Rattle.world_book.proofs.WayLaws.{over_in_past}
 use Rattle.world_book.proofs.preview.answer_after.Goals as goal
 
-weaker : {X E : Type 0} (r : Result X E) (P Q : X → Type 0) → ((x : X) → P x → Q x) → IfOk r P → IfOk r Q
-weaker (Ok x) P Q f h = f x h
-weaker (Err e) P Q f h = tt
-
 pub returns-in-Some : goal.returns-in-Some
 returns-in-Some g c =
-    weaker c.answer_at.result _ _ (λ seen holds bound settled moment past is tied.
+    IfOk-weaker c.answer_at.result _ _ (λ seen holds bound settled moment past is tied.
     let q = c.args.question.now in
     let can = c.in-Some.ensures.some.0 in
     let t = can.here.ticket in
@@ -31,7 +28,7 @@ returns-in-Some g c =
 
 pub returns-in-Some-last_undone : goal.returns-in-Some-last_undone
 returns-in-Some-last_undone g c =
-    weaker c.answer_at-in-Some-last_undone.result _ _ (λ seen holds bound settled moment past is tied.
+    IfOk-weaker c.answer_at-in-Some-last_undone.result _ _ (λ seen holds bound settled moment past is tied.
     let q = c.args.question.now in
     let can = c.in-Some-last_undone.ensures.some.0 in
     let t = can.here.ticket in
@@ -46,7 +43,7 @@ returns-in-Some-last_undone g c =
 
 pub returns-in-At : goal.returns-in-At
 returns-in-At g c =
-    weaker c.answer_at-in-At.result _ _ (λ seen holds bound settled moment past is tied.
+    IfOk-weaker c.answer_at-in-At.result _ _ (λ seen holds bound settled moment past is tied.
     let q = c.args.question.now in
     let t = c.in-UndoOf.ticket in
     let reach = c.in-At.ensures in

@@ -1,5 +1,5 @@
 use Rattle.std.proofs.Common.{◌≡◌, ◌≤◌, ◌∙◌, max, ℕ, Option, sym, ap, subst, arith}
-use Rattle.std.specs.Prelude.{IfOk, Result, Ok, Err}
+use Rattle.std.proofs.lemmas.Result.{IfOk-weaker}
 use Rattle.history.specs.declared.event.Ask.{Ask}
 use Rattle.history.specs.declared.event.Seen.TheVariants.{Zones, Records, Stubs, Commands, Buried, Servers, Oldest}
 use Rattle.history.specs.declared.tables.Tables.{Tables}
@@ -68,18 +68,14 @@ returns-in_ok-oldest-in-Oldest g c = λ bound moment past is tied.
     ap Oldest (oldest_only past (max past.now moment) found first)
     ∙ sym (ap (λ (a : Ask). seen_of c.args.settings.now past a moment) c.in-Oldest.is)
 
-weaker : {X E : Type 0} (r : Result X E) (P Q : X → Type 0) → ((x : X) → P x → Q x) → IfOk r P → IfOk r Q
-weaker (Ok x) P Q f h = f x h
-weaker (Err e) P Q f h = tt
-
 pub returns-in-After : goal.returns-in-After
 returns-in-After g c =
-    weaker c.answer_after.result _ _ (λ seen holds bound moment past is tied.
+    IfOk-weaker c.answer_after.result _ _ (λ seen holds bound moment past is tied.
     holds bound c.args.settings.now.journal moment past is tied ∙ sym (ap (λ (a : Ask). seen_of c.args.settings.now past a moment) c.in-After.is))
     c.answer_after.ensures
 
 pub returns-in-NextUndo : goal.returns-in-NextUndo
 returns-in-NextUndo g c =
-    weaker c.next_undo.result _ _ (λ seen holds bound moment past is tied.
+    IfOk-weaker c.next_undo.result _ _ (λ seen holds bound moment past is tied.
     holds c.args.world.now bound past tied ∙ sym (ap (λ (a : Ask). seen_of c.args.settings.now past a moment) c.in-NextUndo.is))
     c.next_undo.ensures

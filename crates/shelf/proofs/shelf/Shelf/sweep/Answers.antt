@@ -10,7 +10,7 @@ use Rattle.shelf.specs.Sweep.{AreAlive, AreLessened}
 use Rattle.shelf.specs.Told.{chosen_version, is_version}
 use Rattle.shelf.proofs.FaceLaws.{settles_each}
 use Rattle.shelf.proofs.RoomLaws.{chosen_is_version}
-use Rattle.shelf.proofs.SettlingLaws.{fewer_steps}
+use Rattle.shelf.proofs.LeftLaws.{fewer_steps}
 use Rattle.shelf.proofs.NeedLaws.{needed}
 use Rattle.shelf.proofs.BoundLaws.{no_doubt}
 use Rattle.shelf.proofs.VisitLaws.{turn_none}

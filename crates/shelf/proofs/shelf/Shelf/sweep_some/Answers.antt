@@ -11,7 +11,7 @@ use Rattle.shelf.specs.Sweep.{AreAlive, AreLessened}
 use Rattle.shelf.specs.Told.{cell_at, chosen_version}
 use Rattle.shelf.proofs.FaceLaws.{settles_each}
 use Rattle.shelf.proofs.RoomLaws.{chosen_is_version}
-use Rattle.shelf.proofs.SettlingLaws.{fewer_steps}
+use Rattle.shelf.proofs.LeftLaws.{fewer_steps}
 use Rattle.shelf.proofs.NeedLaws.{needed}
 use Rattle.shelf.proofs.BoundLaws.{no_doubt}
 use Rattle.shelf.proofs.VisitLaws.{reached_short, turn_more, turn_reached, turn_short, turn_small}
