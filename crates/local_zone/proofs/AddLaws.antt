@@ -10,8 +10,6 @@ use Rattle.local_zone.specs.Added.{ttl_or, ttl_of, records_before}
 use Rattle.local_zone.specs.Change.{retimed_by, is_there, with_record, records_with}
 use Rattle.local_zone.specs.Tables.{is_of_set}
 use Rattle.named_list.specs.ClosestLaws.{in_head, in_tail, in_cases}
-use Rattle.local_zone.specs.Index.{of_owner}
-use Rattle.local_zone.proofs.IndexLaws.{find_of}
 use Rattle.local_zone.proofs.SoundLaws.{there_retimed}
 
 -- ---- a set
@@ -114,7 +112,3 @@ back-with new ttl put rs one is there = by (is_there rs new) refl
         ∙ ap (λ (x : List Record). map (retimed_by (record new { ttl = ttl })) (take (length x - 1) x)) left
         ∙ ap (λ (x : List Record). map (retimed_by (record new { ttl = ttl })) x) (take_front (map (retimed_by new) rs) new)
         ∙ restored new ttl rs (λ r within of. ttl_found new rs one r within of ∙ sym is)
-
-pub ttl_of-owner : (new : Record) (records : List Record) → ttl_of new (of_owner new.owner records) ≡ ttl_of new records
-ttl_of-owner new records =
-    ap (ttl_or new) (find_of (λ (r : Record). is_of_set r new) (λ (r : Record). name_eq r.owner new.owner) (λ r e. (and_parts (name_eq r.owner new.owner) (r.kind == new.kind) e).0) records)

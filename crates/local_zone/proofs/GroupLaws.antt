@@ -8,12 +8,13 @@ use Rattle.std.proofs.lemmas.Bool.{false≢true}
 use Rattle.std.proofs.lemmas.Map.Made.{lookup_key_passes}
 use Rattle.std.proofs.lemmas.Slice.Eq.{bytes_eq-Decides}
 use Rattle.dns_name.specs.Labels.{Labels, octets_of}
-use Rattle.dns_name.specs.Order.{name_eq, name_eq_exact, name_eq_itself}
+use Rattle.dns_name.specs.Order.{name_eq, name_eq_exact}
 use Rattle.dns_text.specs.declared.record.Record.{Record}
 use Rattle.local_zone.specs.declared.taken.Taken.{Taken}
 use Rattle.local_zone.specs.Gaps.{records_of, put_back, at_gaps, rest_of, AreApart, AreWithin}
-use Rattle.local_zone.specs.Index.{of_owner, items_in, under, AreOwned, IsIndexed, IsGrouped}
+use Rattle.local_zone.specs.Index.{of_owner, items_in, under, AreOwned, HoldSame, IsIndexed, IsGrouped}
 use Rattle.local_zone.proofs.GapLaws.{back_at, put_none, put_all}
+use Rattle.local_zone.proofs.HeldLaws.{held_none, same_itself, same_left, same_right}
 
 abbrev pub first_of : {G : Type 0} → Option G → Option G → Option G
 first_of None other = other
@@ -88,7 +89,7 @@ module _ {K G : Type 0} (octets : K → List ℕ) (items : G → List Record) wh
   pub grouped_moved : (owner : Labels) (groups es groups' es' : List (K × G)) → IsMoved owner groups es groups' es' → (records : List Record)
       → IsGrouped octets items records (groups ++ es) → IsGrouped octets items records (groups' ++ es')
   grouped_moved owner groups es groups' es' m records h = (
-    λ other. ap (items_in items) (same_moved owner groups es groups' es' m other) ∙ h.0 other,
+    λ other. same_left (ap (items_in items) (same_moved owner groups es groups' es' m other)) (h.0 other),
     λ other none. same_moved owner groups es groups' es' m other ∙ h.1 other none,
   )
 
@@ -161,7 +162,7 @@ module _ {K G : Type 0} (octets : K → List ℕ) (items : G → List Record) wh
       → KeepsOthers (λ x y. pointwise nat_eq (octets x) (octets y)) (λ q. pointwise nat_eq (octets k) (octets q)) es after → (records : List Record)
       → IsGrouped octets items records ((groups ++ (k, g) ∷ []) ++ es) → IsGrouped octets items records (groups ++ after)
   grouped_put groups es after k g here keeps records h =
-      (λ owner. ap (items_in items) (same_put groups es after k g here keeps owner) ∙ h.0 owner, λ owner none. same_put groups es after k g here keeps owner ∙ h.1 owner none)
+      (λ owner. same_left (ap (items_in items) (same_put groups es after k g here keeps owner)) (h.0 owner), λ owner none. same_put groups es after k g here keeps owner ∙ h.1 owner none)
 
   -- ---- the index of what stayed, and that of what was taken
 
@@ -183,12 +184,12 @@ module _ {K G : Type 0} (octets : K → List ℕ) (items : G → List Record) wh
         → AllByRecursion (λ t. under octets (octets_of t.item.owner) es ≡ None) taken → IsIndexed octets items left es
     split_left h only gone owner = by (owner_gone owner es taken gone)
       where
-        where_none : of_owner owner (records_of taken) ≡ [] → items_in items (under octets (octets_of owner) es) ≡ of_owner owner left
-        where_none none = ap (items_in items) (sym (first_groups owner (only owner none))) ∙ h owner ∙ put_none owner taken left none
+        where_none : of_owner owner (records_of taken) ≡ [] → HoldSame (items_in items (under octets (octets_of owner) es)) (of_owner owner left)
+        where_none none = same_left (ap (items_in items) (sym (first_groups owner (only owner none)))) (same_right (h owner) (put_none owner taken left none))
 
-        by : (of_owner owner (records_of taken) ≡ []) ⊎ (under octets (octets_of owner) es ≡ None) → items_in items (under octets (octets_of owner) es) ≡ of_owner owner left
+        by : (of_owner owner (records_of taken) ≡ []) ⊎ (under octets (octets_of owner) es ≡ None) → HoldSame (items_in items (under octets (octets_of owner) es)) (of_owner owner left)
         by (inl none) = where_none none
-        by (inr out) = elim (apart owner) [ inl none ↦ where_none none | inr stayed ↦ ap (items_in items) out ∙ sym stayed ]
+        by (inr out) = elim (apart owner) [ inl none ↦ where_none none | inr stayed ↦ same_left (ap (items_in items) out) (same_right (same_itself []) (sym stayed)) ]
 
     owned_left : AreOwned octets (put_back taken left) (groups ++ es) → ((owner : Labels) → of_owner owner (records_of taken) ≡ [] → under octets (octets_of owner) groups ≡ None)
         → AllByRecursion (λ t. under octets (octets_of t.item.owner) es ≡ None) taken → AreOwned octets left es
@@ -206,31 +207,32 @@ module _ {K G : Type 0} (octets : K → List ℕ) (items : G → List Record) wh
         → AllByRecursion (λ t. under octets (octets_of t.item.owner) es ≡ None) taken → IsGrouped octets items (records_of taken) groups
     split_taken h only gone = (λ owner. by owner (owner_gone owner es taken gone), only)
       where
-        where_none : (owner : Labels) → of_owner owner (records_of taken) ≡ [] → items_in items (under octets (octets_of owner) groups) ≡ of_owner owner (records_of taken)
-        where_none owner none = ap (items_in items) (only owner none) ∙ sym none
+        where_none : (owner : Labels) → of_owner owner (records_of taken) ≡ [] → HoldSame (items_in items (under octets (octets_of owner) groups)) (of_owner owner (records_of taken))
+        where_none owner none = same_left (ap (items_in items) (only owner none)) (same_right (same_itself []) (sym none))
 
-        by : (owner : Labels) → (of_owner owner (records_of taken) ≡ []) ⊎ (under octets (octets_of owner) es ≡ None) → items_in items (under octets (octets_of owner) groups) ≡ of_owner owner (records_of taken)
+        by : (owner : Labels) → (of_owner owner (records_of taken) ≡ []) ⊎ (under octets (octets_of owner) es ≡ None) → HoldSame (items_in items (under octets (octets_of owner) groups)) (of_owner owner (records_of taken))
         by owner (inl none) = where_none owner none
         by owner (inr out) =
             elim (apart owner) [
               | inl none ↦ where_none owner none
               | inr stayed ↦
-                  ap (items_in items) (sym (under_append (octets_of owner) groups es ∙ ap (first_of (under octets (octets_of owner) groups)) out ∙ first_none (under octets (octets_of owner) groups)))
-                  ∙ h owner ∙ put_all owner taken left stayed
+                  same_left (ap (items_in items) (sym (under_append (octets_of owner) groups es ∙ ap (first_of (under octets (octets_of owner) groups)) out ∙ first_none (under octets (octets_of owner) groups))))
+                  (same_right (h owner) (put_all owner taken left stayed))
             ]
 
     joined : IsGrouped octets items (records_of taken) groups → IsIndexed octets items left es → IsIndexed octets items (put_back taken left) (groups ++ es)
     joined t l owner =
         elim (apart owner) [
-          | inl none ↦ ap (items_in items) (first_groups owner (t.1 owner none)) ∙ l owner ∙ sym (put_none owner taken left none)
+          | inl none ↦ same_left (ap (items_in items) (first_groups owner (t.1 owner none))) (same_right (l owner) (sym (put_none owner taken left none)))
           | inr stayed ↦ by stayed (under octets (octets_of owner) groups) refl
         ]
       where
-        by : of_owner owner left ≡ [] → (x : Option G) → under octets (octets_of owner) groups ≡ x → items_in items (under octets (octets_of owner) (groups ++ es)) ≡ of_owner owner (put_back taken left)
+        by : of_owner owner left ≡ [] → (x : Option G) → under octets (octets_of owner) groups ≡ x → HoldSame (items_in items (under octets (octets_of owner) (groups ++ es))) (of_owner owner (put_back taken left))
         by stayed None is =
-            ap (items_in items) (first_groups owner is) ∙ l owner ∙ stayed ∙ sym (ap (items_in items) is) ∙ t.0 owner ∙ sym (put_all owner taken left stayed)
+            let none : of_owner owner (records_of taken) ≡ [] = held_none (of_owner owner (records_of taken)) (same_left (sym (ap (items_in items) is)) (t.0 owner)) in
+            same_left (ap (items_in items) (first_groups owner is)) (same_right (l owner) (stayed ∙ sym none ∙ sym (put_all owner taken left stayed)))
         by stayed (Some g) is =
-            ap (items_in items) (under_append (octets_of owner) groups es ∙ ap (λ (x : Option G). first_of x (under octets (octets_of owner) es)) is ∙ sym is) ∙ t.0 owner ∙ sym (put_all owner taken left stayed)
+            same_left (ap (items_in items) (under_append (octets_of owner) groups es ∙ ap (λ (x : Option G). first_of x (under octets (octets_of owner) es)) is ∙ sym is)) (same_right (t.0 owner) (sym (put_all owner taken left stayed)))
 
     owned_joined : AreOwned octets (records_of taken) groups → AreOwned octets left es → AreOwned octets (put_back taken left) (groups ++ es)
     owned_joined t l owner none =

@@ -1,24 +1,19 @@
 -- The index of records by their owners: what a look-up in it tells of the list, and what it is after a change.
-use Rattle.std.proofs.Common.{◌≡◌, ℕ, ◌-◌, Bool, true, false, ◌||◌, ◌&&◌, ◌==◌, cond, List, [], ◌∷◌, ◌++◌, map, filter, length, take, length-append, arith, Option, Some, None, refl, ap, sym, subst, ◌∙◌}
+use Rattle.std.proofs.Common.{◌≡◌, ℕ, Bool, true, false, ◌||◌, ◌&&◌, ◌==◌, cond, List, [], ◌∷◌, ◌++◌, filter, length, length-append, arith, Option, Some, None, refl, ap, sym, subst, ◌∙◌}
 use Rattle.std.specs.Prelude.{is_some, nat_eq}
-use Rattle.std.specs.List.{list_any, find}
+use Rattle.std.specs.List.{list_any}
 use Rattle.std.specs.Map.{set_value, KeepsOthers}
 use Rattle.std.specs.Cmp.Lexicographic.{pointwise}
-use Rattle.std.proofs.lemmas.Bool.{and_parts, false≢true}
+use Rattle.std.proofs.lemmas.Bool.{false≢true}
 use Rattle.std.proofs.lemmas.Slice.Eq.{bytes_eq-Decides}
-use Rattle.std.proofs.lemmas.List.{append-nil, take_at}
+use Rattle.std.proofs.lemmas.List.{append-nil}
 use Rattle.dns_name.specs.Labels.{Labels, octets_of}
 use Rattle.dns_name.specs.Order.{name_eq, name_eq_exact, name_eq_itself}
 use Rattle.dns_text.specs.declared.record.Record.{Record}
-use Rattle.dns_text.specs.Equal.{data_eq}
-use Rattle.dns_text.specs.declared.types.TheConstants.{CNAME, SOA}
-use Rattle.local_zone.specs.declared.zone.Zone.{Zone}
-use Rattle.local_zone.specs.Answer.{soa_of, has_record}
-use Rattle.local_zone.specs.Change.{is_there}
-use Rattle.local_zone.specs.Reason.{clashes, differ}
-use Rattle.local_zone.specs.Show.{is_for, set_of, or_list, shown_as, unless_empty, data_shown}
-use Rattle.local_zone.specs.Tables.{is_cname, is_of_set, is_same}
-use Rattle.local_zone.specs.Index.{of_owner, items_in, under, AreOwned, IsGrouped, IsIndexed}
+use Rattle.local_zone.specs.Reason.{differ}
+use Rattle.local_zone.specs.Show.{set_of}
+use Rattle.local_zone.specs.Index.{of_kind, of_owner, items_in, under, AreOwned, HoldSame, IsGrouped, IsIndexed}
+use Rattle.local_zone.proofs.HeldLaws.{held_empty, held_none, same_itself, same_left, same_right}
 
 -- ---- tests of the records of an owner
 
@@ -38,22 +33,6 @@ module _ {X : Type 0} (p q : X → Bool) (only : (x : X) → p x ≡ true → q 
       by : (b : Bool) → q x ≡ b → list_any p (filter q xs) ≡ list_any p xs → list_any p (cond b (x ∷ filter q xs) (filter q xs)) ≡ (p x || list_any p xs)
       by true e more = ap (λ r. p x || r) more
       by false e more = more ∙ sym (ap (λ r. r || list_any p xs) (not_so x e))
-
-  pub find_of : (xs : List X) → find p (filter q xs) ≡ find p xs
-  find_of [] = refl
-  find_of (x ∷ xs) = by (q x) refl (find_of xs)
-    where
-      by : (b : Bool) → q x ≡ b → find p (filter q xs) ≡ find p xs → find p (cond b (x ∷ filter q xs) (filter q xs)) ≡ cond (p x) (Some x) (find p xs)
-      by true e more = ap (λ r. cond (p x) (Some x) r) more
-      by false e more = more ∙ sym (ap (λ r. cond r (Some x) (find p xs)) (not_so x e))
-
-  pub filter_of : (xs : List X) → filter p (filter q xs) ≡ filter p xs
-  filter_of [] = refl
-  filter_of (x ∷ xs) = by (q x) refl (filter_of xs)
-    where
-      by : (b : Bool) → q x ≡ b → filter p (filter q xs) ≡ filter p xs → filter p (cond b (x ∷ filter q xs) (filter q xs)) ≡ cond (p x) (x ∷ filter p xs) (filter p xs)
-      by true e more = ap (λ r. cond (p x) (x ∷ r) r) more
-      by false e more = more ∙ sym (ap (λ r. cond r (x ∷ filter p xs) (filter p xs)) (not_so x e))
 
 -- ---- a record goes last
 
@@ -124,57 +103,59 @@ module _ {K G : Type 0} (octets : K → List ℕ) (items : G → List Record) wh
 
   -- ---- the index after a record goes last
 
-  pub index-set : (records : List Record) (es : List (K × G)) (new : Record) (g w : G) → IsIndexed octets items records es → under octets (octets_of new.owner) es ≡ Some g → items w ≡ items g ++ new ∷ []
+  pub index-set : (records : List Record) (es : List (K × G)) (new : Record) (g w : G) → IsIndexed octets items records es → under octets (octets_of new.owner) es ≡ Some g → ((all : List Record) → HoldSame (items g) all → HoldSame (items w) (all ++ new ∷ []))
       → IsIndexed octets items (records ++ new ∷ []) (set_value (λ k. pointwise nat_eq (octets_of new.owner) (octets k)) es w)
   index-set records es new g w h found is owner = by (name_eq new.owner owner) refl
     where
-      by : (b : Bool) → name_eq new.owner owner ≡ b → items_in items (under octets (octets_of owner) (set_value (λ k. pointwise nat_eq (octets_of new.owner) (octets k)) es w)) ≡ of_owner owner (records ++ new ∷ [])
+      by : (b : Bool) → name_eq new.owner owner ≡ b → HoldSame (items_in items (under octets (octets_of owner) (set_value (λ k. pointwise nat_eq (octets_of new.owner) (octets k)) es w))) (of_owner owner (records ++ new ∷ []))
       by true e =
           let same : new.owner ≡ owner = name_eq_exact new.owner owner e in
-          let here = ap (items_in items) (set_here (octets_of new.owner) es g w found) ∙ is ∙ ap (λ r. r ++ new ∷ []) (sym (ap (items_in items) found) ∙ h new.owner) ∙ sym (own-push new.owner records new (name_eq_itself new.owner)) in
-          subst (λ o. items_in items (under octets (octets_of o) (set_value (λ k. pointwise nat_eq (octets_of new.owner) (octets k)) es w)) ≡ of_owner o (records ++ new ∷ [])) same here
-      by false e = ap (items_in items) (set_there new.owner owner es w e) ∙ h owner ∙ sym (others-push owner records new e)
+          let own : HoldSame (items g) (of_owner new.owner records) = same_left (sym (ap (items_in items) found)) (h new.owner) in
+          let here = same_left (ap (items_in items) (set_here (octets_of new.owner) es g w found)) (same_right (is (of_owner new.owner records) own) (sym (own-push new.owner records new (name_eq_itself new.owner)))) in
+          subst (λ o. HoldSame (items_in items (under octets (octets_of o) (set_value (λ k. pointwise nat_eq (octets_of new.owner) (octets k)) es w))) (of_owner o (records ++ new ∷ []))) same here
+      by false e = same_left (ap (items_in items) (set_there new.owner owner es w e)) (same_right (h owner) (sym (others-push owner records new e)))
 
   pub index-push : (records : List Record) (es : List (K × G)) (new : Record) (k : K) (w : G) → IsIndexed octets items records es → under octets (octets_of new.owner) es ≡ None → octets k ≡ octets_of new.owner → items w ≡ new ∷ []
       → IsIndexed octets items (records ++ new ∷ []) (es ++ (k, w) ∷ [])
   index-push records es new k w h none key is owner = by (name_eq new.owner owner) refl
     where
-      by : (b : Bool) → name_eq new.owner owner ≡ b → items_in items (under octets (octets_of owner) (es ++ (k, w) ∷ [])) ≡ of_owner owner (records ++ new ∷ [])
+      by : (b : Bool) → name_eq new.owner owner ≡ b → HoldSame (items_in items (under octets (octets_of owner) (es ++ (k, w) ∷ []))) (of_owner owner (records ++ new ∷ []))
       by true e =
           let same : new.owner ≡ owner = name_eq_exact new.owner owner e in
-          let here = ap (items_in items) (push_here new.owner es k w key none) ∙ is ∙ ap (λ r. r ++ new ∷ []) (sym (ap (items_in items) none) ∙ h new.owner) ∙ sym (own-push new.owner records new (name_eq_itself new.owner)) in
-          subst (λ o. items_in items (under octets (octets_of o) (es ++ (k, w) ∷ [])) ≡ of_owner o (records ++ new ∷ [])) same here
-      by false e = ap (items_in items) (push_there new.owner owner es k w key e) ∙ h owner ∙ sym (others-push owner records new e)
+          let first : of_owner new.owner records ≡ [] = held_none (of_owner new.owner records) (same_left (sym (ap (items_in items) none)) (h new.owner)) in
+          let own : of_owner new.owner (records ++ new ∷ []) ≡ new ∷ [] = own-push new.owner records new (name_eq_itself new.owner) ∙ ap (λ r. r ++ new ∷ []) first in
+          let here = same_left (ap (items_in items) (push_here new.owner es k w key none) ∙ is) (same_right (same_itself (new ∷ [])) (sym own)) in
+          subst (λ o. HoldSame (items_in items (under octets (octets_of o) (es ++ (k, w) ∷ []))) (of_owner o (records ++ new ∷ []))) same here
+      by false e = same_left (ap (items_in items) (push_there new.owner owner es k w key e)) (same_right (h owner) (sym (others-push owner records new e)))
 
   -- ---- the index after the records of one owner are written anew
 
-  pub index-write : (records after : List Record) (es : List (K × G)) (name : Labels) (g w : G) → IsIndexed octets items records es → under octets (octets_of name) es ≡ Some g → items w ≡ of_owner name after
+  pub index-write : (records after : List Record) (es : List (K × G)) (name : Labels) (g w : G) → IsIndexed octets items records es → under octets (octets_of name) es ≡ Some g → HoldSame (items w) (of_owner name after)
       → ((o : Labels) → name_eq name o ≡ false → of_owner o after ≡ of_owner o records) → IsIndexed octets items after (set_value (λ k. pointwise nat_eq (octets_of name) (octets k)) es w)
   index-write records after es name g w h found is others owner = by (name_eq name owner) refl
     where
-      by : (b : Bool) → name_eq name owner ≡ b → items_in items (under octets (octets_of owner) (set_value (λ k. pointwise nat_eq (octets_of name) (octets k)) es w)) ≡ of_owner owner after
+      by : (b : Bool) → name_eq name owner ≡ b → HoldSame (items_in items (under octets (octets_of owner) (set_value (λ k. pointwise nat_eq (octets_of name) (octets k)) es w))) (of_owner owner after)
       by true e =
-          let here = ap (items_in items) (set_here (octets_of name) es g w found) ∙ is in
-          subst (λ o. items_in items (under octets (octets_of o) (set_value (λ k. pointwise nat_eq (octets_of name) (octets k)) es w)) ≡ of_owner o after) (name_eq_exact name owner e) here
-      by false e = ap (items_in items) (set_there name owner es w e) ∙ h owner ∙ sym (others owner e)
+          let here = same_left (ap (items_in items) (set_here (octets_of name) es g w found)) is in
+          subst (λ o. HoldSame (items_in items (under octets (octets_of o) (set_value (λ k. pointwise nat_eq (octets_of name) (octets k)) es w))) (of_owner o after)) (name_eq_exact name owner e) here
+      by false e = same_left (ap (items_in items) (set_there name owner es w e)) (same_right (h owner) (sym (others owner e)))
 
   pub index-keep : (records : List Record) (es : List (K × G)) (name : Labels) (g w : G) → IsIndexed octets items records es → under octets (octets_of name) es ≡ Some g → items w ≡ items g
       → IsIndexed octets items records (set_value (λ k. pointwise nat_eq (octets_of name) (octets k)) es w)
-  index-keep records es name g w h found is = index-write records records es name g w h found (is ∙ sym (ap (items_in items) found) ∙ h name) (λ o e. refl)
+  index-keep records es name g w h found is = index-write records records es name g w h found (same_left (is ∙ sym (ap (items_in items) found)) (h name)) (λ o e. refl)
 
   -- ---- the index after the last record of its owner goes
 
-  pub index-front : (front : List Record) (last : Record) (es : List (K × G)) (g w : G) (n : ℕ) → IsIndexed octets items (front ++ last ∷ []) es → under octets (octets_of last.owner) es ≡ Some g → n ≡ length (items g) → items w ≡ take (n - 1) (items g)
-      → IsIndexed octets items front (set_value (λ k. pointwise nat_eq (octets_of last.owner) (octets k)) es w)
-  index-front front last es g w n h found long is =
-      let own : items g ≡ of_owner last.owner front ++ last ∷ [] = sym (ap (items_in items) found) ∙ h last.owner ∙ own-push last.owner front last (name_eq_itself last.owner) in
-      let short : length (of_owner last.owner front) ≡ n - 1 = omega (arith, long, ap length own, length-append (of_owner last.owner front) (last ∷ [])) in
-      let rest : items w ≡ of_owner last.owner front = is ∙ ap (take (n - 1)) own ∙ take_at (of_owner last.owner front) (last ∷ []) (n - 1) short in
-      index-write (front ++ last ∷ []) front es last.owner g w h found rest (λ o differ. sym (others-push o front last differ))
+  pub index-front : (front : List Record) (last : Record) (es : List (K × G)) (g w : G) → IsIndexed octets items (front ++ last ∷ []) es → under octets (octets_of last.owner) es ≡ Some g
+      → (HoldSame (items g) (of_owner last.owner front ++ last ∷ []) → HoldSame (items w) (of_owner last.owner front)) → IsIndexed octets items front (set_value (λ k. pointwise nat_eq (octets_of last.owner) (octets k)) es w)
+  index-front front last es g w h found is =
+      let own : HoldSame (items g) (of_owner last.owner front ++ last ∷ []) = same_right (same_left (sym (ap (items_in items) found)) (h last.owner)) (own-push last.owner front last (name_eq_itself last.owner)) in
+      index-write (front ++ last ∷ []) front es last.owner g w h found (is own) (λ o differ. sym (others-push o front last differ))
 
   pub index-some : (front : List Record) (last : Record) (es : List (K × G)) → IsIndexed octets items (front ++ last ∷ []) es → under octets (octets_of last.owner) es ≡ None → ⊥
   index-some front last es h none =
-      let empty : [] ≡ of_owner last.owner front ++ last ∷ [] = sym (ap (items_in items) none) ∙ h last.owner ∙ own-push last.owner front last (name_eq_itself last.owner) in
+      let own : HoldSame [] (of_owner last.owner (front ++ last ∷ [])) = same_left (sym (ap (items_in items) none)) (h last.owner) in
+      let empty : [] ≡ of_owner last.owner front ++ last ∷ [] = sym (held_none (of_owner last.owner (front ++ last ∷ [])) own) ∙ own-push last.owner front last (name_eq_itself last.owner) in
       omega (arith, ap length empty, length-append (of_owner last.owner front) (last ∷ []))
 
   pub index-drop : (records : List Record) (es after : List (K × G)) (name : Labels) → IsIndexed octets items records es → items_in items (under octets (octets_of name) es) ≡ [] → under octets (octets_of name) after ≡ None
@@ -182,15 +163,15 @@ module _ {K G : Type 0} (octets : K → List ℕ) (items : G → List Record) wh
   unfolding KeepsOthers
   index-drop records es after name h empty none others owner = by (name_eq name owner) refl
     where
-      by : (b : Bool) → name_eq name owner ≡ b → items_in items (under octets (octets_of owner) after) ≡ of_owner owner records
+      by : (b : Bool) → name_eq name owner ≡ b → HoldSame (items_in items (under octets (octets_of owner) after)) (of_owner owner records)
       by true e =
-          let here : items_in items (under octets (octets_of name) after) ≡ of_owner name records = ap (items_in items) none ∙ sym empty ∙ h name in
-          subst (λ o. items_in items (under octets (octets_of o) after) ≡ of_owner o records) (name_eq_exact name owner e) here
+          let here : HoldSame (items_in items (under octets (octets_of name) after)) (of_owner name records) = same_left (ap (items_in items) none ∙ sym empty) (h name) in
+          subst (λ o. HoldSame (items_in items (under octets (octets_of o) after)) (of_owner o records)) (name_eq_exact name owner e) here
       by false e =
-          ap (items_in items) (others (λ k. pointwise nat_eq (octets_of owner) (octets k))
+          same_left (ap (items_in items) (others (λ k. pointwise nat_eq (octets_of owner) (octets k))
           (λ x y is. ap (λ s. pointwise nat_eq s (octets y)) ((bytes_eq-Decides (octets_of owner) (octets x)).0 is))
-          (λ k is. apart name owner k e is))
-          ∙ h owner
+          (λ k is. apart name owner k e is)))
+          (h owner)
 
   -- ---- no group but of an owner that has records
 
@@ -211,7 +192,7 @@ module _ {K G : Type 0} (octets : K → List ℕ) (items : G → List Record) wh
       by true e = absurd (some (subst (λ (o : Labels). of_owner o after ≡ []) (sym (name_eq_exact name owner e)) none))
       by false e = set_there name owner es w e ∙ h owner (sym (others owner e) ∙ none)
 
-  pub grouped-set : (records : List Record) (es : List (K × G)) (new : Record) (g w : G) → IsGrouped octets items records es → under octets (octets_of new.owner) es ≡ Some g → items w ≡ items g ++ new ∷ []
+  pub grouped-set : (records : List Record) (es : List (K × G)) (new : Record) (g w : G) → IsGrouped octets items records es → under octets (octets_of new.owner) es ≡ Some g → ((all : List Record) → HoldSame (items g) all → HoldSame (items w) (all ++ new ∷ []))
       → IsGrouped octets items (records ++ new ∷ []) (set_value (λ k. pointwise nat_eq (octets_of new.owner) (octets k)) es w)
   grouped-set records es new g w h found is = (
     index-set records es new g w h.0 found is,
@@ -232,12 +213,12 @@ module _ {K G : Type 0} (octets : K → List ℕ) (items : G → List Record) wh
       (index-keep records es name g w h.0 found is, owned-write records records es name w h.1 (owned-some records es name g h.1 found) (λ o e. refl))
 
   -- the group of the last record's owner is not empty yet
-  pub grouped-front : (front : List Record) (last : Record) (es : List (K × G)) (g w : G) (n : ℕ) → IsGrouped octets items (front ++ last ∷ []) es → under octets (octets_of last.owner) es ≡ Some g → n ≡ length (items g) → items w ≡ take (n - 1) (items g)
-      → (items w ≡ [] → ⊥) → IsGrouped octets items front (set_value (λ k. pointwise nat_eq (octets_of last.owner) (octets k)) es w)
-  grouped-front front last es g w n h found long is some =
-      let index = index-front front last es g w n h.0 found long is in
-      let own : items w ≡ of_owner last.owner front = sym (ap (items_in items) (set_here (octets_of last.owner) es g w found)) ∙ index last.owner in
-      (index, owned-write (front ++ last ∷ []) front es last.owner w h.1 (λ none. some (own ∙ none)) (λ o e. sym (others-push o front last e)))
+  pub grouped-front : (front : List Record) (last : Record) (es : List (K × G)) (g w : G) → IsGrouped octets items (front ++ last ∷ []) es → under octets (octets_of last.owner) es ≡ Some g
+      → (HoldSame (items g) (of_owner last.owner front ++ last ∷ []) → HoldSame (items w) (of_owner last.owner front)) → (items w ≡ [] → ⊥) → IsGrouped octets items front (set_value (λ k. pointwise nat_eq (octets_of last.owner) (octets k)) es w)
+  grouped-front front last es g w h found is some =
+      let index = index-front front last es g w h.0 found is in
+      let own : HoldSame (items w) (of_owner last.owner front) = same_left (sym (ap (items_in items) (set_here (octets_of last.owner) es g w found))) (index last.owner) in
+      (index, owned-write (front ++ last ∷ []) front es last.owner w h.1 (λ none. some (held_empty (items w) (same_right own none))) (λ o e. sym (others-push o front last e)))
 
   -- the group of the last record's owner goes
   pub grouped-drop : (front : List Record) (last : Record) (es mid after : List (K × G)) → IsGrouped octets items (front ++ last ∷ []) es → IsIndexed octets items front mid
@@ -257,29 +238,15 @@ module _ {K G : Type 0} (octets : K → List ℕ) (items : G → List Record) wh
   others-set name other es w e = set_there name other es w e
 
   -- what a look-up in the index tells
-  pub of-found : (records : List Record) (es : List (K × G)) (owner : Labels) (spelled : List ℕ) (found : Option G) → IsIndexed octets items records es → spelled ≡ octets_of owner → under octets spelled es ≡ found → items_in items found ≡ of_owner owner records
-  of-found records es owner spelled found h e is = ap (items_in items) (sym is) ∙ ap (λ (s : List ℕ). items_in items (under octets s es)) e ∙ h owner
+  pub of-found : (records : List Record) (es : List (K × G)) (owner : Labels) (spelled : List ℕ) (found : Option G) → IsIndexed octets items records es → spelled ≡ octets_of owner → under octets spelled es ≡ found → HoldSame (items_in items found) (of_owner owner records)
+  of-found records es owner spelled found h e is = same_left (ap (items_in items) (sym is) ∙ ap (λ (s : List ℕ). items_in items (under octets s es)) e) (h owner)
 
--- ---- what is asked of all records is asked of those of the owner
-
-set-of : (owner : Labels) (kind : ℕ) (records : List Record) → set_of owner kind (of_owner owner records) ≡ set_of owner kind records
-set-of owner kind records = filter_of (is_for owner kind) (λ (r : Record). name_eq r.owner owner) (λ r e. (and_parts (name_eq r.owner owner) (r.kind == kind) e).0) records
-
-pub data-of : (asked owner : Labels) (kind : ℕ) (records : List Record) → data_shown asked owner kind (of_owner owner records) ≡ data_shown asked owner kind records
-data-of asked owner kind records = λ i. unless_empty (map (shown_as asked) (or_list (set-of owner CNAME records i) (set-of owner kind records i)))
-
-pub soa-of : (name : Labels) (records : List Record) → soa_of name (of_owner name records) ≡ soa_of name records
-soa-of name records = find_of (is_for name SOA) (λ (r : Record). name_eq r.owner name) (λ r e. (and_parts (name_eq r.owner name) (r.kind == SOA) e).0) records
-
-pub has-record-of : (name : Labels) (records : List Record) → has_record name (of_owner name records) ≡ has_record name records
-has-record-of name records = any_of (λ (r : Record). name_eq r.owner name) (λ (r : Record). name_eq r.owner name) (λ r e. e) records
-
-pub clashes-of : (new : Record) (zones : List Zone) (records : List Record) → clashes new (record { zones = zones; records = of_owner new.owner records }) ≡ clashes new (record { zones = zones; records = records })
-clashes-of new zones records =
-    any_of (λ (r : Record). name_eq r.owner new.owner && differ (is_cname r.kind) (is_cname new.kind)) (λ (r : Record). name_eq r.owner new.owner)
-    (λ r e. (and_parts (name_eq r.owner new.owner) (differ (is_cname r.kind) (is_cname new.kind)) e).0) records
-
-pub is_there-of : (new : Record) (records : List Record) → is_there (of_owner new.owner records) new ≡ is_there records new
-is_there-of new records =
-    any_of (λ (r : Record). is_same r new) (λ (r : Record). name_eq r.owner new.owner)
-    (λ r e. (and_parts (name_eq r.owner new.owner) (r.kind == new.kind) (and_parts (is_of_set r new) (data_eq r.body new.body) e).0).0) records
+-- the records of an owner and type are those of the type among those of the owner
+pub set-of-owner : (owner : Labels) (kind : ℕ) (records : List Record) → set_of owner kind records ≡ of_kind kind (of_owner owner records)
+set-of-owner owner kind [] = refl
+set-of-owner owner kind (r ∷ records) = by (name_eq r.owner owner) (set-of-owner owner kind records)
+  where
+    by : (b : Bool) → set_of owner kind records ≡ of_kind kind (of_owner owner records)
+        → cond (b && r.kind == kind) (r ∷ set_of owner kind records) (set_of owner kind records) ≡ of_kind kind (cond b (r ∷ of_owner owner records) (of_owner owner records))
+    by true more = ap (λ (l : List Record). cond (r.kind == kind) (r ∷ l) l) more
+    by false more = more

@@ -3,6 +3,8 @@ pub mod ClosestLaws
 pub mod ReasonLaws
 pub mod SoundLaws
 pub mod ZoneLaws
+pub mod HeldLaws
+pub mod OrderLaws
 pub mod IndexLaws
 pub mod ImpliedLaws
 pub mod RetimeLaws
@@ -17,5 +19,7 @@ pub mod CountsBelowLaws
 pub mod ZonedLaws
 pub mod InPlaceLaws
 pub mod OtherLaws
+pub mod OtherSetLaws
 pub mod AnswerOverLaws
 pub mod CountsAtLaws
+pub mod SetLaws

@@ -1,9 +1,8 @@
--- The other side of a change: the records of an owner there, and how many count for a name.
-use Rattle.std.proofs.Common.{◌≡◌, ℕ, zero, suc, ◌+◌, ◌-◌, ◌<◌, ◌≤◌, ◌⊎◌, Bool, true, false, ◌&&◌, ◌||◌, not, cond, List, [], ◌∷◌, ◌++◌, length, map, take, drop, filter, get_or, slice_get, Option, Some, None, refl, ap, sym, subst, ◌∙◌, inl, inr, arith, nat_lt, length-append}
+-- The other side of a change: which owners a removal takes, and how many records count for a name.
+use Rattle.std.proofs.Common.{◌≡◌, ℕ, zero, suc, ◌+◌, ◌-◌, ◌<◌, ◌≤◌, Bool, true, false, ◌&&◌, ◌||◌, not, cond, List, [], ◌∷◌, ◌++◌, length, map, take, drop, filter, get_or, slice_get, Option, Some, None, refl, ap, sym, subst, ◌∙◌, inl, inr, arith}
 use Rattle.std.specs.List.{AllByRecursion}
 use Rattle.std.specs.Option.{option_map}
-use Rattle.std.specs.Prelude.{◌==◌, IfOk, Result, Ok, Err}
-use Rattle.std.proofs.lemmas.Bool.{cases_Bool, eqb-true, false≢true, lt-ltb, le-ltb}
+use Rattle.std.proofs.lemmas.Bool.{cases_Bool, false≢true, lt-ltb, le-ltb}
 use Rattle.std.proofs.lemmas.List.{length-map, length-take-le}
 use Rattle.dns_name.specs.Labels.{Labels}
 use Rattle.dns_name.specs.ListLaws.{all_weaker}
@@ -31,9 +30,7 @@ use Rattle.local_zone.specs.Tables.{Tables}
 use Rattle.local_zone.proofs.AddLaws.{take_front}
 use Rattle.local_zone.proofs.CountLaws.{alike}
 use Rattle.local_zone.proofs.CountsBelowLaws.{count_back, count_one, count_push, count_retimed}
-use Rattle.local_zone.proofs.GapLaws.{back_at, behind, cut_at, put_all, put_none}
-use Rattle.local_zone.proofs.IndexLaws.{is_there-of, others-push, own-push}
-use Rattle.local_zone.proofs.RetimeLaws.{own-retimed}
+use Rattle.local_zone.proofs.GapLaws.{back_at, behind, cut_at, put_all}
 use Rattle.local_zone.proofs.SoundLaws.{there_retimed}
 use Rattle.local_zone.proofs.ZoneLaws.{closest_without}
 use Rattle.local_zone.proofs.ZonedLaws.{not_itself}
@@ -73,26 +70,6 @@ module _ (added : AddedRecord) (records : List Record) (goes : records_with adde
           let is : retimed ++ said ∷ [] ≡ records = sym (ap (λ b. cond b retimed (retimed ++ said ∷ [])) e) ∙ goes in
           subst (λ (rs : List Record). rs ≡ take (length rs - 1) rs ++ said ∷ []) is (ap (λ (rs : List Record). rs ++ said ∷ []) (sym (take_front retimed said)))
 
-  module _ (owner : Labels) where
-    abbrev own : List Record
-    own = of_owner owner records
-
-    own_front : (b : Bool) → added.is_new ≡ b → of_owner owner (cond b (take (length records - 1) records) records) ≡ cond (b && name_eq said.owner owner) (take (length own - 1) own) own
-    own_front false e = refl
-    own_front true e = by (name_eq said.owner owner) refl
-      where
-        by : (t : Bool) → name_eq said.owner owner ≡ t → of_owner owner (take (length records - 1) records) ≡ cond t (take (length own - 1) own) own
-        by true same =
-            let is : own ≡ of_owner owner (take (length records - 1) records) ++ said ∷ [] = ap (of_owner owner) (last_added e) ∙ own-push owner (take (length records - 1) records) said same in
-            sym (ap (λ (rs : List Record). take (length rs - 1) rs) is ∙ take_front (of_owner owner (take (length records - 1) records)) said)
-        by false apart = sym (ap (of_owner owner) (last_added e) ∙ others-push owner (take (length records - 1) records) said apart)
-
-    -- the records of an owner without it
-    pub own_before_is : map (retimed_by (record added.said { ttl = added.ttl })) (cond (added.is_new && name_eq said.owner owner) (take (length own - 1) own) own) ≡ of_owner owner before
-    own_before_is =
-        sym (own-retimed owner (record added.said { ttl = added.ttl }) (cond added.is_new (take (length records - 1) records) records)
-        ∙ ap (λ (rs : List Record). map (retimed_by (record added.said { ttl = added.ttl })) rs) (own_front added.is_new refl))
-
   -- how many count without it
   pub count_before_is : (p : Labels → Bool) → count_where p records ≡ count_where p before + cond (added.is_new && p said.owner) 1 0
   count_before_is p =
@@ -110,40 +87,6 @@ module _ (new : Record) (records : List Record) where
 
   there_is : (b : Bool) → is_there records new ≡ b → records_with new records ≡ cond b timed (timed ++ new ∷ [])
   there_is b e = ap (λ t. cond t timed (timed ++ new ∷ [])) (there_retimed new records ∙ e)
-
-  own_with_other : (owner : Labels) → name_eq new.owner owner ≡ false → map (retimed_by new) (of_owner owner records) ≡ of_owner owner (records_with new records)
-  own_with_other owner apart = sym (by (is_there records new) refl)
-    where
-      by : (b : Bool) → is_there records new ≡ b → of_owner owner (records_with new records) ≡ map (retimed_by new) (of_owner owner records)
-      by true e = ap (of_owner owner) (there_is true e) ∙ own-retimed owner new records
-      by false e = ap (of_owner owner) (there_is false e) ∙ others-push owner timed new apart ∙ own-retimed owner new records
-
-  among : (owner : Labels) → name_eq new.owner owner ≡ true → is_there records new ≡ is_there (of_owner owner records) new
-  among owner same = sym (is_there-of new records) ∙ ap (λ (o : Labels). is_there (of_owner o records) new) (name_eq_exact new.owner owner same)
-
-  own_with_there : (owner : Labels) → name_eq new.owner owner ≡ true → is_there (of_owner owner records) new ≡ true → map (retimed_by new) (of_owner owner records) ≡ of_owner owner (records_with new records)
-  own_with_there owner same there = sym (ap (of_owner owner) (there_is true (among owner same ∙ there)) ∙ own-retimed owner new records)
-
-  own_with_new : (owner : Labels) → name_eq new.owner owner ≡ true → is_there (of_owner owner records) new ≡ false → map (retimed_by new) (of_owner owner records) ++ new ∷ [] ≡ of_owner owner (records_with new records)
-  own_with_new owner same absent =
-      sym (ap (of_owner owner) (there_is false (among owner same ∙ absent)) ∙ own-push owner timed new same ∙ ap (λ (rs : List Record). rs ++ new ∷ []) (own-retimed owner new records))
-
-  -- the same by the test that the code makes
-  pub own_with_same : (owner : Labels) → (not (name_eq new.owner owner) || is_there (of_owner owner records) new) ≡ true
-      → map (retimed_by new) (of_owner owner records) ≡ of_owner owner (records_with new records)
-  own_with_same owner e = by (name_eq new.owner owner) refl e
-    where
-      by : (b : Bool) → name_eq new.owner owner ≡ b → (not b || is_there (of_owner owner records) new) ≡ true → map (retimed_by new) (of_owner owner records) ≡ of_owner owner (records_with new records)
-      by true same there = own_with_there owner same there
-      by false apart there = own_with_other owner apart
-
-  pub own_with_last : (owner : Labels) → (not (name_eq new.owner owner) || is_there (of_owner owner records) new) ≡ false
-      → map (retimed_by new) (of_owner owner records) ++ new ∷ [] ≡ of_owner owner (records_with new records)
-  own_with_last owner e = by (name_eq new.owner owner) refl e
-    where
-      by : (b : Bool) → name_eq new.owner owner ≡ b → (not b || is_there (of_owner owner records) new) ≡ false → map (retimed_by new) (of_owner owner records) ++ new ∷ [] ≡ of_owner owner (records_with new records)
-      by true same absent = own_with_new owner same absent
-      by false apart absent = absurd (false≢true (sym absent))
 
   -- how many count with it
   pub count_with_is : (p : Labels → Bool) → count_where p (records_with new records) ≡ count_where p records + cond (not (is_there records new) && p new.owner) 1 0
@@ -529,30 +472,6 @@ module _ (zones : List Zone) (n : Labels) where
       bit : (b : Bool) → cond b 1 0 ≤ 1
       bit true = omega arith
       bit false = omega arith
-
--- ---- the records of an owner that come back
-
-pub own_back_none : (owner : Labels) (taken : List Taken) (left : List Record) → AreApart taken left → of_owner owner left ≡ [] → of_owner owner (records_of taken) ≡ of_owner owner (put_back taken left)
-own_back_none owner taken left apart e = sym (put_all owner taken left e)
-
-pub own_back_some : (owner : Labels) (taken : List Taken) (left : List Record) → AreApart taken left → (of_owner owner left ≡ [] → ⊥) → of_owner owner left ≡ of_owner owner (put_back taken left)
-own_back_some owner taken left apart some =
-    elim (apart owner) [
-      | inl none ↦ sym (put_none owner taken left none)
-      | inr empty ↦ absurd (some empty)
-    ]
-
-pub no_items : {X : Type 0} (xs : List X) → (length xs == 0) ≡ true → xs ≡ []
-no_items [] e = refl
-no_items (x ∷ xs) e = absurd (omega (arith, eqb-true (length (x ∷ xs)) 0 e))
-
-pub some_items : {X : Type 0} (xs : List X) → (length xs == 0) ≡ false → xs ≡ [] → ⊥
-some_items [] e is = false≢true (sym e)
-some_items (x ∷ xs) e is = absurd cc
-
-pub if_ok : {X E : Type 0} {P Q : X → Type 0} (r : Result X E) → ((x : X) → P x → Q x) → IfOk r P → IfOk r Q
-if_ok (Ok x) f h = f x h
-if_ok (Err e) f h = tt
 
 -- what the way there says of each kind of change
 pub side_goes : (turn now : RecordTurn) (records : List Record) → turn ≡ now → GoesBack turn records → GoesBack now records

@@ -6,8 +6,10 @@ use Rattle.dns_name.specs.Labels.{Labels, octets_of}
 use Rattle.dns_name.specs.Order.{name_eq, name_eq_exact}
 use Rattle.dns_text.specs.declared.record.Record.{Record}
 use Rattle.local_zone.specs.Change.{retimed_by}
+use Rattle.local_zone.specs.Show.{is_for, set_of}
 use Rattle.local_zone.specs.Tables.{is_of_set}
-use Rattle.local_zone.specs.Index.{of_owner, items_in, under, IsGrouped, IsIndexed}
+use Rattle.local_zone.specs.Index.{of_owner, items_in, under, HoldSame, IsGrouped, IsIndexed}
+use Rattle.local_zone.proofs.HeldLaws.{held_none, same_itself, same_left, same_retimed, same_right}
 use Rattle.named_list.specs.ClosestLaws.{name_eq-swap}
 use Rattle.std.specs.List.{list_any}
 use Rattle.std.proofs.lemmas.Bool.{and_parts}
@@ -87,18 +89,19 @@ module _ {K G : Type 0} (octets : K → List ℕ) (items : G → List Record) wh
       → IsIndexed octets items (map (retimed_by new) records) (set_value (λ k. pointwise nat_eq (octets_of new.owner) (octets k)) es w)
   index-retime records es new g w h found is =
       index-write octets items records (map (retimed_by new) records) es new.owner g w h found
-      (is ∙ ap (λ (x : List Record). map (retimed_by new) x) (sym (ap (items_in items) found) ∙ h new.owner) ∙ sym (own-retimed new.owner new records))
+      (same_left is (same_right (same_retimed new (items g) (of_owner new.owner records) (same_left (sym (ap (items_in items) found)) (h new.owner))) (sym (own-retimed new.owner new records))))
       (λ o differ. others-retimed o new records differ)
 
   pub index-no-set : (records : List Record) (es : List (K × G)) (new : Record) → IsIndexed octets items records es → under octets (octets_of new.owner) es ≡ None → IsIndexed octets items (map (retimed_by new) records) es
   index-no-set records es new h none owner = by (name_eq new.owner owner) refl
     where
-      by : (b : Bool) → name_eq new.owner owner ≡ b → items_in items (under octets (octets_of owner) es) ≡ of_owner owner (map (retimed_by new) records)
+      by : (b : Bool) → name_eq new.owner owner ≡ b → HoldSame (items_in items (under octets (octets_of owner) es)) (of_owner owner (map (retimed_by new) records))
       by true e =
-          let empty : [] ≡ of_owner new.owner records = sym (ap (items_in items) none) ∙ h new.owner in
-          let here : items_in items (under octets (octets_of new.owner) es) ≡ of_owner new.owner (map (retimed_by new) records) = ap (items_in items) none ∙ ap (λ (x : List Record). map (retimed_by new) x) empty ∙ sym (own-retimed new.owner new records) in
-          subst (λ o. items_in items (under octets (octets_of o) es) ≡ of_owner o (map (retimed_by new) records)) (name_eq_exact new.owner owner e) here
-      by false e = h owner ∙ sym (others-retimed owner new records e)
+          let empty : of_owner new.owner records ≡ [] = held_none (of_owner new.owner records) (same_left (sym (ap (items_in items) none)) (h new.owner)) in
+          let none_there : of_owner new.owner (map (retimed_by new) records) ≡ [] = own-retimed new.owner new records ∙ ap (λ (x : List Record). map (retimed_by new) x) empty in
+          let here : HoldSame (items_in items (under octets (octets_of new.owner) es)) (of_owner new.owner (map (retimed_by new) records)) = same_left (ap (items_in items) none) (same_right (same_itself []) (sym none_there)) in
+          subst (λ o. HoldSame (items_in items (under octets (octets_of o) es)) (of_owner o (map (retimed_by new) records))) (name_eq_exact new.owner owner e) here
+      by false e = same_right (h owner) (sym (others-retimed owner new records e))
 
   pub grouped-retime : (records : List Record) (es : List (K × G)) (new : Record) (g w : G) → IsGrouped octets items records es → under octets (octets_of new.owner) es ≡ Some g → items w ≡ map (retimed_by new) (items g)
       → IsGrouped octets items (map (retimed_by new) records) (set_value (λ k. pointwise nat_eq (octets_of new.owner) (octets k)) es w)
@@ -112,7 +115,6 @@ module _ {K G : Type 0} (octets : K → List ℕ) (items : G → List Record) wh
   grouped-no-set records es new h none = (index-no-set records es new h.0 none, λ owner empty. h.1 owner (none-retimed owner new records empty))
 
 -- where each record of the set has the time to live, nothing changes
-pub same-times : (new : Record) (records : List Record) → list_any (λ r. is_of_set r new && not (r.ttl == new.ttl)) (of_owner new.owner records) ≡ false → map (retimed_by new) records ≡ records
+pub same-times : (new : Record) (records : List Record) → list_any (λ r. is_of_set r new && not (r.ttl == new.ttl)) (set_of new.owner new.kind records) ≡ false → map (retimed_by new) records ≡ records
 same-times new records e =
-    retimed_itself new records (sym (any_of (λ (r : Record). is_of_set r new && not (r.ttl == new.ttl)) (λ (r : Record). name_eq r.owner new.owner)
-    (λ r h. (and_parts (name_eq r.owner new.owner) (r.kind == new.kind) (and_parts (is_of_set r new) (not (r.ttl == new.ttl)) h).0).0) records) ∙ e)
+    retimed_itself new records (sym (any_of (λ (r : Record). is_of_set r new && not (r.ttl == new.ttl)) (is_for new.owner new.kind) (λ r h. (and_parts (is_of_set r new) (not (r.ttl == new.ttl)) h).0) records) ∙ e)

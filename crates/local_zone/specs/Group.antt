@@ -6,11 +6,11 @@ use Rattle.local_zone.specs.Index.{items_in, under, IsGrouped, IsIndexed}
 use Rattle.local_zone.specs.declared.group.Group.{Group}
 use Rattle.local_zone.specs.declared.group.Group.TheVariants.{Empty, One, Many}
 
--- the records, in order
+-- the records, those of each type in order
 abbrev pub records_held : Group → List Record
 records_held Empty = []
 records_held (One one) = one ∷ []
-records_held (Many many) = many.items
+records_held (Many many) = many
 
 -- what a group holds, if there is one
 abbrev pub records_in : Option Group → List Record

@@ -1,5 +1,5 @@
 -- The records of an owner, and an index of them.
-use Rattle.std.specs.Prelude.{◌≡◌, ℕ, List, [], Option, None, Some, nat_eq}
+use Rattle.std.specs.Prelude.{◌≡◌, ℕ, ◌==◌, List, [], length, Option, None, Some, nat_eq}
 use Rattle.std.specs.List.{filter}
 use Rattle.std.specs.Map.{lookup}
 use Rattle.std.specs.Cmp.Lexicographic.{pointwise}
@@ -10,6 +10,15 @@ use Rattle.dns_text.specs.declared.record.Record.{Record}
 -- the records of an owner, in order
 abbrev pub of_owner : Labels → List Record → List Record
 of_owner owner records = filter (λ r. name_eq r.owner owner) records
+
+-- the records of a type, in order
+abbrev pub of_kind : ℕ → List Record → List Record
+of_kind kind records = filter (λ r. r.kind == kind) records
+
+-- These are as many records as those, and the same of each type, in the same order.
+pub record HoldSame (held all : List Record) : Type 0 where
+  pub sets : (kind : ℕ) → of_kind kind held ≡ of_kind kind all
+  pub count : length held ≡ length all
 
 -- what a group holds, if there is one
 abbrev pub items_in : {G : Type 0} → (G → List Record) → Option G → List Record
@@ -22,7 +31,7 @@ under octets spelled groups = lookup (λ k. pointwise nat_eq spelled (octets k))
 
 -- Under the octets of each name are the records of this owner.
 abbrev pub IsIndexed : {K G : Type 0} → (K → List ℕ) → (G → List Record) → List Record → List (K × G) → Type 0
-IsIndexed octets items records groups = (owner : Labels) → items_in items (under octets (octets_of owner) groups) ≡ of_owner owner records
+IsIndexed octets items records groups = (owner : Labels) → HoldSame (items_in items (under octets (octets_of owner) groups)) (of_owner owner records)
 
 -- There is no group but of an owner that has records.
 abbrev pub AreOwned : {K G : Type 0} → (K → List ℕ) → List Record → List (K × G) → Type 0

@@ -4,6 +4,7 @@ pub mod Tables
 pub mod Tag
 pub mod Mask
 pub mod Index
+pub mod Sets
 pub mod Group
 pub mod Change
 pub mod Added
@@ -18,5 +19,6 @@ pub mod Gaps
 pub mod Count
 pub mod CountsBelow
 pub mod Zoned
+pub mod OtherSet
 pub mod OtherSide
 pub mod InPlace

@@ -4,15 +4,13 @@ ghost use Rattle.std.specs.Prelude.{◌≡◌, List, Some};
 ghost use Rattle.local_zone.specs.Closest.{closest};
 ghost use Rattle.local_zone.specs.CountsBelow.{AreZoned};
 ghost use Rattle.local_zone.specs.declared.zone.Zone.{Zone};
-ghost use Rattle.std.specs.List.{list_any};
 ghost use Rattle.std.specs.Option.{option_map};
 ghost use Rattle.local_zone.specs.Answer.{absent_in, absent_or_pass, answer_in, data_or, has_record, has_record_below};
 ghost use Rattle.local_zone.specs.Answer.{in_redirect, in_static, in_transparent, local_now, local_of, soa_of};
-ghost use Rattle.local_zone.specs.Show.{data_shown, is_for};
+ghost use Rattle.local_zone.specs.Show.{data_shown};
 
 use crate::counts_below::CountsBelow;
 use crate::local_answer::{Local, LocalSet};
-use crate::owner_records::is_for;
 use crate::record::LocalRecord;
 use crate::record_list::RecordList;
 use crate::zone::Zone;
@@ -20,29 +18,8 @@ use crate::zone_type::ZoneType;
 use crate::zones::closest;
 use dns_name::Name;
 use dns_text::Question;
-use dns_text::types::{CNAME, SOA};
+use dns_text::types::SOA;
 use named_list::NamedList;
-
-/// Whether an owner has a record of this type.
-fn has_set(records: &[LocalRecord], owner: &Name, kind: u16) -> bool
-    ensures { result ≡ list_any (is_for owner.now kind) records.now }
-{
-    records.iter().any(|r| is_for(r, owner, kind))
-}
-
-/// The first SOA record at a zone's name.
-pub(crate) fn soa_of<'a>(records: &'a [LocalRecord], name: &Name) -> Option<&'a LocalRecord>
-    ensures { option_map (λ r. r.now) result ≡ soa_of name.now records.now }
-{
-    records.iter().find(|r| is_for(r, name, SOA))
-}
-
-/// Whether a name has a record.
-pub(crate) fn has_record(records: &[LocalRecord], name: &Name) -> bool
-    ensures { result ≡ has_record name.now records.now }
-{
-    records.iter().any(|r| *r.owner() == *name)
-}
 
 /// Whether a name, or one below it, has a record that lies in the zone that covers the name. A lookup tells whether the name has one
 /// itself. Two more tell how many are below it, and how many of these lie in other zones.
@@ -54,57 +31,36 @@ fn has_record_below(records: &RecordList, zoned: &CountsBelow, name: &Name) -> b
 }
 
 /// The CNAME of an owner, else its set of the type, shown with the QNAME as owner. None if there is neither.
-pub(crate) fn data<'a>(
-    records: &'a [LocalRecord],
-    asked: &'a Name,
-    owner: &'a Name,
-    kind: u16,
-) -> Option<LocalSet<'a>>
-    ensures { result ≡ data_shown asked.now owner.now kind records.now }
-{
-    if has_set(records, owner, CNAME) {
-        return Some(LocalSet {
-            records,
-            owner,
-            kind: CNAME,
-            shown: asked,
-        });
-    }
-    if has_set(records, owner, kind) {
-        return Some(LocalSet {
-            records,
-            owner,
-            kind,
-            shown: asked,
-        });
-    }
-    None
-}
-
-/// The same of all records.
 fn data_of<'a>(
     records: &'a RecordList,
     asked: &'a Name,
-    owner: &'a Name,
+    owner: &Name,
     kind: u16,
 ) -> Option<LocalSet<'a>>
     ensures { result ≡ data_shown asked.now owner.now kind records.now }
 {
-    data(records.of(owner), asked, owner, kind)
+    let set = records.data(owner, kind);
+    if set.is_empty() {
+        return None;
+    }
+    Some(LocalSet {
+        records: set,
+        shown: asked,
+    })
 }
 
-/// The first SOA record at a zone's name, of all records.
+/// The first SOA record at a zone's name.
 fn soa_at<'a>(records: &'a RecordList, name: &Name) -> Option<&'a LocalRecord>
     ensures { option_map (λ r. r.now) result ≡ soa_of name.now records.now }
 {
-    soa_of(records.of(name), name)
+    records.set(name, SOA).first()
 }
 
-/// Whether a name has a record, of all records.
+/// Whether a name has a record.
 fn has_owner(records: &RecordList, name: &Name) -> bool
     ensures { result ≡ has_record name.now records.now }
 {
-    has_record(records.of(name), name)
+    records.count_of(name) > 0
 }
 
 /// The data, or another answer if there is none.

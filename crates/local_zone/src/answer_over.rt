@@ -3,23 +3,35 @@
 ghost use Rattle.std.specs.Prelude.{◌≡◌, IfOk, Some};
 ghost use Rattle.local_zone.specs.Answer.{answer_in, data_or, in_redirect, in_static, in_transparent, local_of, soa_of};
 ghost use Rattle.local_zone.specs.Closest.{closest};
-ghost use Rattle.local_zone.specs.Show.{data_shown};
+ghost use Rattle.local_zone.specs.Show.{data_for, data_shown};
 
-use crate::answer;
 use crate::local_answer::Local;
+use crate::other_set::OtherSet;
 use crate::other_side::OtherSide;
 use crate::record::LocalRecord;
 use crate::shared_answer::SeenRecord;
 use crate::zone::Zone;
 use crate::zone_type::ZoneType;
 use dns_name::{Name, NoMemory};
+use dns_text::types::{CNAME, SOA};
 use dns_text::{Items, Question};
 use std::alloc::Global;
 
 /// An answer that shares records.
 type Shares = Local<Items<SeenRecord>, LocalRecord>;
 
-/// The CNAME of an owner, else its set of the type, shown with the QNAME as owner. None if there is neither.
+/// The CNAME of an owner, else its set of the type.
+fn set_for<'a>(side: &OtherSide<'a>, owner: &Name, kind: u16) -> OtherSet<'a>
+    ensures { result ≡ data_for owner.now kind side.now.records }
+{
+    let aliases = side.set(owner, CNAME);
+    if aliases.is_empty() {
+        return side.set(owner, kind);
+    }
+    aliases
+}
+
+/// The same, shown with the QNAME as owner. None if there is neither.
 fn data(
     alloc: Global,
     side: &OtherSide<'_>,
@@ -28,26 +40,18 @@ fn data(
 ) -> Result<Option<Items<SeenRecord>>, NoMemory>
     ensures { IfOk result (λ set. set ≡ data_shown asked.now.owner owner.now asked.now.kind side.now.records) }
 {
-    let own = side.of(alloc, owner)?;
-    match answer::data(&own, &asked.owner, owner, asked.kind) {
-        Some(set) => Ok(Some(set.to_items(alloc)?)),
-        None => Ok(None),
+    let set = set_for(side, owner, asked.kind);
+    if set.is_empty() {
+        return Ok(None);
     }
+    Ok(Some(set.to_items(alloc, &asked.owner)?))
 }
 
 /// The first SOA record at a zone's name.
-fn first_soa(
-    alloc: Global,
-    side: &OtherSide<'_>,
-    zone: &Zone,
-) -> Result<Option<LocalRecord>, NoMemory>
+fn first_soa(side: &OtherSide<'_>, zone: &Zone) -> Result<Option<LocalRecord>, NoMemory>
     ensures { IfOk result (λ soa. soa ≡ soa_of zone.now.name side.now.records) }
 {
-    let own = side.of(alloc, &zone.name)?;
-    match answer::soa_of(&own, &zone.name) {
-        Some(first) => Ok(Some(first.share()?)),
-        None => Ok(None),
-    }
+    side.set(&zone.name, SOA).share_first()
 }
 
 /// The data at the name, or another answer if there is none.
@@ -79,7 +83,7 @@ fn in_static(
     if let Some(set) = data(alloc, side, asked, &asked.owner)? {
         return Ok(Local::Data(set));
     }
-    let soa = first_soa(alloc, side, zone)?;
+    let soa = first_soa(side, zone)?;
     if side.count_of(&asked.owner) > 0 {
         Ok(Local::NoData(soa))
     } else {
@@ -99,9 +103,8 @@ fn in_transparent(
     if let Some(set) = data(alloc, side, asked, &asked.owner)? {
         return Ok(Local::Data(set));
     }
-    let own = side.of(alloc, &asked.owner)?;
-    if answer::has_record(&own, &asked.owner) {
-        Ok(Local::NoData(first_soa(alloc, side, zone)?))
+    if side.has(&asked.owner) {
+        Ok(Local::NoData(first_soa(side, zone)?))
     } else {
         Ok(Local::Pass)
     }
@@ -118,7 +121,7 @@ fn in_redirect(
 {
     match data(alloc, side, asked, &zone.name)? {
         Some(set) => Ok(Local::Data(set)),
-        None => Ok(Local::NoData(first_soa(alloc, side, zone)?)),
+        None => Ok(Local::NoData(first_soa(side, zone)?)),
     }
 }
 

@@ -1,39 +1,66 @@
 //! The records of one owner.
 
-ghost use Rattle.std.specs.Prelude.{◌≡◌, ◌++◌, ◌∷◌, ◌-◌, [], true, false, length, map, take, OnErr, OnOk};
+ghost use Rattle.std.specs.Prelude.{◌≡◌, ◌++◌, ◌∷◌, [], true, false, List, length, map, OnErr, OnOk};
+ghost use Rattle.dns_text.specs.declared.record.Record.{Record};
 ghost use Rattle.local_zone.specs.Change.{retimed_by};
 ghost use Rattle.local_zone.specs.Group.{records_held};
+ghost use Rattle.local_zone.specs.Index.{of_kind, HoldSame};
+ghost use Rattle.local_zone.specs.Show.{or_list};
+ghost use Rattle.dns_text.specs.declared.types.TheConstants.{CNAME};
 
 use crate::record::LocalRecord;
-use crate::record_list::retime_each;
+use crate::sets::Sets;
 use dns_name::NoMemory;
+use dns_text::types::CNAME;
 use dns_text::{Record, Ttl};
 use std::alloc::Global;
 use std::{mem, slice};
 
-/// The records of one owner, in order. Most owners have one, which needs no block of its own.
+/// The records of one owner. Most owners have one, which needs no block of its own.
 #[derive(Drop)]
 pub(crate) enum Group {
     Empty,
     One(LocalRecord),
-    Many(Vec<LocalRecord>),
+    Many(Sets),
 }
 
 impl Group {
-    /// The records in order.
-    pub(crate) fn as_slice(&self) -> &[LocalRecord]
-        ensures { result.now ≡ records_held self.now }
+    /// How many records there are.
+    pub(crate) fn len(&self) -> usize
+        ensures { result ≡ length (records_held self.now) }
     {
         match self {
-            Group::Empty => &[],
-            Group::One(one) => slice::from_ref(one),
-            Group::Many(many) => many.as_slice(),
+            Group::Empty => 0,
+            Group::One(_) => 1,
+            Group::Many(many) => many.len(),
         }
     }
 
-    /// Puts a record last. If memory is refused, nothing has changed.
+    /// The records of a TYPE, in the order of arrival.
+    pub(crate) fn of(&self, kind: u16) -> &[LocalRecord]
+        ensures { result.now ≡ of_kind kind (records_held self.now) }
+    {
+        match self {
+            Group::Empty => &[],
+            Group::One(one) => of_one(one, kind),
+            Group::Many(many) => many.of(kind),
+        }
+    }
+
+    /// Its CNAME records, else those of the TYPE (RFC 1034, section 3.6.2).
+    pub(crate) fn data(&self, kind: u16) -> &[LocalRecord]
+        ensures { result.now ≡ or_list (of_kind CNAME (records_held self.now)) (of_kind kind (records_held self.now)) }
+    {
+        let aliases = self.of(CNAME);
+        if aliases.is_empty() {
+            return self.of(kind);
+        }
+        aliases
+    }
+
+    /// Puts a record behind those of its TYPE. If memory is refused, nothing has changed.
     pub(crate) fn push(&mut self, alloc: Global, new: LocalRecord) -> Result<(), NoMemory>
-        ensures ok { OnOk result (records_held self.new ≡ records_held self.old ++ new ∷ []) }
+        ensures ok { OnOk result ((all : List Record) → HoldSame (records_held self.old) all → HoldSame (records_held self.new) (all ++ new ∷ [])) }
         ensures err { OnErr result (records_held self.new ≡ records_held self.old) }
     {
         match mem::replace(self, Group::Empty) {
@@ -46,7 +73,7 @@ impl Group {
                 let mut many = many;
                 let pushed = many.push(new);
                 *self = Group::Many(many);
-                Ok(pushed?)
+                pushed
             }
         }
     }
@@ -58,14 +85,11 @@ impl Group {
         first: LocalRecord,
         second: LocalRecord,
     ) -> Result<(), NoMemory>
-        ensures ok { OnOk result (records_held self.new ≡ first ∷ second ∷ []) }
+        ensures ok { OnOk result ((all : List Record) → HoldSame (first ∷ []) all → HoldSame (records_held self.new) (all ++ second ∷ [])) }
         ensures err { OnErr result (records_held self.new ≡ first ∷ []) }
     {
-        match Vec::with_capacity(alloc, 2) {
+        match Sets::of_two(alloc, &first, second) {
             Ok(many) => {
-                let mut many = many;
-                many.push_reserved(first);
-                many.push_reserved(second);
                 *self = Group::Many(many);
                 Ok(())
             }
@@ -83,13 +107,14 @@ impl Group {
         match self {
             Group::Empty => {}
             Group::One(one) => retime_one(one, set, ttl),
-            Group::Many(many) => retime_each(many.as_mut_slice(), set, ttl),
+            Group::Many(many) => many.retime(set, ttl),
         }
     }
 
-    /// Takes the last record out, and returns whether none is left. It takes no memory.
-    pub(crate) fn pop(&mut self) -> bool
-        ensures left { records_held self.new ≡ take (length (records_held self.old) - 1) (records_held self.old) }
+    /// Takes the last record of a TYPE out, and returns whether none is left. It takes no memory.
+    pub(crate) fn pop(&mut self, kind: u16) -> bool
+        ensures left { (front : List Record) (last : Record) → last.kind ≡ kind → HoldSame (records_held self.old) (front ++ last ∷ []) →
+            HoldSame (records_held self.new) front }
         ensures none { result ≡ true → records_held self.new ≡ [] }
         ensures some { result ≡ false → records_held self.new ≡ [] → ⊥ }
     {
@@ -98,13 +123,23 @@ impl Group {
             Group::One(_) => true,
             Group::Many(many) => {
                 let mut many = many;
-                many.pop();
-                let is_empty = many.is_empty();
+                many.pop(kind);
+                let is_empty = many.len() == 0;
                 *self = Group::Many(many);
                 is_empty
             }
         }
     }
+}
+
+/// A record, if it is of the TYPE.
+fn of_one(one: &LocalRecord, kind: u16) -> &[LocalRecord]
+    ensures { result.now ≡ of_kind kind (one.now ∷ []) }
+{
+    if one.kind() == kind {
+        return slice::from_ref(one);
+    }
+    &[]
 }
 
 /// Gives a record a TTL, if it is of the set.

@@ -1,4 +1,4 @@
-//! The groups of records by owner, which leave the index and come back to it whole.
+//! The groups of records by owner: what a lookup of an owner tells, and how groups leave the index and come back to it whole.
 
 ghost use Rattle.std.specs.Prelude.{◌≡◌, ◌≤◌, ◌<◌, ◌+◌, ◌++◌, [], List, None, false, length};
 ghost use Rattle.std.specs.List.{AllByRecursion};
@@ -7,13 +7,53 @@ ghost use Rattle.dns_name.specs.Labels.{Labels};
 ghost use Rattle.dns_name.specs.Order.{name_eq};
 ghost use Rattle.dns_text.specs.declared.record.Record.{Record};
 ghost use Rattle.local_zone.specs.Gaps.{records_of};
-ghost use Rattle.local_zone.specs.Group.{group_of, AreGrouped, ShareNone};
+ghost use Rattle.local_zone.specs.Group.{group_of, AreGrouped, AreIndexed, ShareNone};
 ghost use Rattle.local_zone.specs.Index.{of_owner};
+ghost use Rattle.local_zone.specs.Show.{data_for, set_of};
 
 use crate::group::Group;
+use crate::record::LocalRecord;
 use crate::taken::Taken;
 use dns_name::Name;
 use indexmap::IndexMap;
+
+/// How many records an owner has, by the index.
+pub(crate) fn count_in(owners: &IndexMap<Name, Group>, owner: &Name) -> u64
+    ensures { (records : List Record) → AreIndexed records owners.now.entries → result ≡ length (of_owner owner.now records) }
+{
+    match owners.get(owner) {
+        Some(group) => group.len() as u64,
+        None => 0,
+    }
+}
+
+/// The records of an owner and TYPE, by the index.
+pub(crate) fn set_in<'a>(
+    owners: &'a IndexMap<Name, Group>,
+    owner: &Name,
+    kind: u16,
+) -> &'a [LocalRecord]
+    ensures { (records : List Record) → AreIndexed records owners.now.entries → result.now ≡ set_of owner.now kind records }
+{
+    match owners.get(owner) {
+        Some(group) => group.of(kind),
+        None => &[],
+    }
+}
+
+/// The CNAME of an owner, else its records of the TYPE, by the index.
+pub(crate) fn data_in<'a>(
+    owners: &'a IndexMap<Name, Group>,
+    owner: &Name,
+    kind: u16,
+) -> &'a [LocalRecord]
+    ensures { (records : List Record) → AreIndexed records owners.now.entries → result.now ≡ data_for owner.now kind records }
+{
+    match owners.get(owner) {
+        Some(group) => group.data(kind),
+        None => &[],
+    }
+}
 
 /// Moves the group of an owner out of the index, with its key. It takes no memory.
 fn move_group(owners: &mut IndexMap<Name, Group>, groups: &mut IndexMap<Name, Group>, owner: &Name)

@@ -16,8 +16,8 @@ mod zone;
 mod closest;
 mod zones;
 // The records in order with an index by owner. `passes` takes many out, or puts them back, in one walk. `in_place` does so with
-// few of a long list, which costs less. A `group` is the records of one owner, and `groups` moves those of some owners out of the
-// index, or back. `counts_below` says of a name how many records lie strictly below it.
+// few of a long list, which costs less. A `group` is the records of one owner, by TYPE in `sets` if there are several. `groups` looks
+// one up in the index, and moves those of some owners out of it, or back. `counts_below` says of a name how many records lie strictly below it.
 mod counts_below;
 mod group;
 mod groups;
@@ -25,6 +25,7 @@ mod in_place;
 mod passes;
 mod record_list;
 mod removed;
+mod sets;
 mod taken;
 // The number of records that lie in zones strictly below each name.
 mod zoned;
@@ -41,11 +42,11 @@ mod reason;
 // The answer to a question.
 mod answer;
 mod local_answer;
-mod owner_records;
 mod shared_answer;
-// The same on the other side of a change, without going there.
+// The same on the other side of a change, without going there. An `other_set` is the records of an owner and TYPE there.
 mod answer_over;
 mod other_counts;
+mod other_set;
 mod other_side;
 mod own_records;
 // The two lists together.

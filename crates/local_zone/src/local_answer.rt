@@ -1,6 +1,5 @@
 //! The answer to a question from the table.
 
-use crate::owner_records::next_of;
 use crate::record::LocalRecord;
 use dns_name::Name;
 use dns_text::{Data, Ttl};
@@ -32,23 +31,21 @@ pub struct ShownRecord<'a> {
     pub body: &'a Data,
 }
 
-/// The records of an owner and TYPE that are still to come, in order, each shown with the owner `shown`. It takes no memory.
+/// The records of a set that are still to come, in order, each shown with the owner `shown`. It takes no memory.
 #[derive(Drop)]
 pub struct LocalSet<'a> {
     pub(crate) records: &'a [LocalRecord],
-    pub(crate) owner: &'a Name,
-    pub(crate) kind: u16,
     pub(crate) shown: &'a Name,
 }
 
 impl<'a> Model for LocalSet<'a> {
     ghost use Rattle.std.specs.Prelude.{List, map};
     ghost use Rattle.dns_text.specs.declared.record.Record.{Record};
-    ghost use Rattle.local_zone.specs.Show.{set_of, shown_as};
+    ghost use Rattle.local_zone.specs.Show.{shown_as};
 
     ghost Value = { List Record };
 
-    ghost view = { λ s. map (shown_as s.shown.now) (set_of s.owner.now s.kind s.records.now) };
+    ghost view = { λ s. map (shown_as s.shown.now) s.records.now };
 }
 
 impl<'a> Iterator for LocalSet<'a> {
@@ -62,7 +59,7 @@ impl<'a> Iterator for LocalSet<'a> {
     ghost remaining = { item_count (λ s. s) };
 
     fn next(&mut self) -> Option<ShownRecord<'a>> {
-        let (first, later) = next_of(self.records, self.owner, self.kind)?;
+        let (first, later) = self.records.split_first()?;
         self.records = later;
         Some(ShownRecord {
             owner: self.shown,

@@ -142,7 +142,7 @@ pub(crate) fn count_back(
         return 0;
     };
     if share_zone(zones, turn, name, first.item.owner()) {
-        let own = removed.of(name).len() as u64;
+        let own = removed.count_of(name);
         return own.saturating_add(removed.count_below(name));
     }
     0

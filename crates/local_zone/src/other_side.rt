@@ -1,24 +1,26 @@
 //! The tables on the other side of a change, read through this side and the way there. Nothing changes, and no step grows with the table.
 
-ghost use Rattle.std.specs.Prelude.{◌≡◌, IfOk};
+ghost use Rattle.std.specs.Prelude.{◌≡◌};
 ghost use Rattle.std.specs.Option.{option_map};
+ghost use Rattle.local_zone.specs.Answer.{has_record};
 ghost use Rattle.local_zone.specs.Closest.{closest};
 ghost use Rattle.local_zone.specs.Count.{count_of};
-ghost use Rattle.local_zone.specs.Index.{of_owner};
+ghost use Rattle.local_zone.specs.Show.{set_of};
 
 use crate::added::RecordTurn;
 use crate::counts_below::CountsBelow;
 use crate::other_counts::{count_back, count_before, count_left, count_with};
-use crate::own_records::{own_back, own_before, own_left, own_with, share_all};
-use crate::record::LocalRecord;
+use crate::other_set::OtherSet;
+use crate::own_records::{
+    has_back, has_before, has_left, has_with, set_back, set_before, set_left, set_with,
+};
 use crate::record_list::RecordList;
 use crate::saved::SavedTables;
 use crate::zone::Zone;
 use crate::zoned::count_over;
 use crate::zones::closest_over;
-use dns_name::{Name, NoMemory};
+use dns_name::Name;
 use named_list::NamedList;
-use std::alloc::Global;
 use std::marker::Model;
 
 /// The parts of a table, and the way to the other side of a change. Contracts see the tables there.
@@ -49,25 +51,36 @@ impl<'a> OtherSide<'a> {
         closest_over(self.zones, &self.saved.zones, name)
     }
 
-    /// Shares of the records of an owner, in order.
-    pub(crate) fn of(&self, alloc: Global, owner: &Name) -> Result<Vec<LocalRecord>, NoMemory>
-        ensures { IfOk result (λ own. own.items ≡ of_owner owner.now self.now.records) }
+    /// The records of an owner and TYPE, in order. It takes no memory.
+    pub(crate) fn set(&self, owner: &Name, kind: u16) -> OtherSet<'a>
+        ensures { result ≡ set_of owner.now kind self.now.records }
     {
-        let own = self.records.of(owner);
+        let records = self.records;
+        let own = records.set(owner, kind);
         match &self.saved.records {
-            RecordTurn::Nothing => share_all(alloc, own),
-            RecordTurn::Added(added) => own_before(alloc, own, added, owner),
-            RecordTurn::Adds(new) => own_with(alloc, own, new, owner),
-            RecordTurn::Removed(removed) => own_back(alloc, own, removed, owner),
+            RecordTurn::Nothing => OtherSet::same(own),
+            RecordTurn::Added(added) => set_before(own, added, owner, kind),
+            RecordTurn::Adds(new) => set_with(own, new, owner, kind),
+            RecordTurn::Removed(removed) => set_back(own, removed, owner, kind),
             RecordTurn::Removes(gaps) => {
-                own_left(
-                    alloc,
-                    self.zones,
-                    &self.saved.zones,
-                    self.records,
-                    gaps,
-                    owner,
-                )
+                set_left(self.zones, &self.saved.zones, records, gaps, owner, kind)
+            }
+        }
+    }
+
+    /// Whether an owner has a record.
+    pub(crate) fn has(&self, owner: &Name) -> bool
+        ensures { result ≡ has_record owner.now self.now.records }
+    {
+        let records = self.records;
+        let count = records.count_of(owner);
+        match &self.saved.records {
+            RecordTurn::Nothing => count > 0,
+            RecordTurn::Added(added) => has_before(count, added, owner),
+            RecordTurn::Adds(new) => has_with(count, new.get(), owner),
+            RecordTurn::Removed(removed) => has_back(count, removed, owner),
+            RecordTurn::Removes(gaps) => {
+                has_left(self.zones, &self.saved.zones, records, gaps, owner)
             }
         }
     }

@@ -1,113 +1,101 @@
-//! The records of one owner on the other side of a change, each shared.
+//! The records of one owner and TYPE on the other side of a change, and whether an owner has any there. None takes memory.
 
-ghost use Rattle.std.specs.Prelude.{◌≡◌, ◌-◌, ◌&&◌, ◌||◌, [], true, false, not, List, IfOk, length, slice_get, take, if◌then◌else◌};
+ghost use Rattle.std.specs.Prelude.{◌≡◌, ◌-◌, ◌&&◌, [], true, false, List, length, slice_get, take, if◌then◌else◌};
 ghost use Rattle.std.specs.Option.{option_map};
 ghost use Rattle.dns_name.specs.Labels.{Labels};
 ghost use Rattle.dns_name.specs.Order.{name_eq};
 ghost use Rattle.dns_text.specs.declared.record.Record.{Record};
 ghost use Rattle.local_zone.specs.declared.added.RecordTurn.TheVariants as RecordTurn;
 ghost use Rattle.local_zone.specs.Added.{records_before, GoesBack};
-ghost use Rattle.local_zone.specs.Change.{is_there, records_with};
+ghost use Rattle.local_zone.specs.Answer.{has_record};
+ghost use Rattle.local_zone.specs.Change.{records_with};
 ghost use Rattle.local_zone.specs.Closest.{lies_in};
 ghost use Rattle.local_zone.specs.Gaps.{at_gaps, put_back, rest_of, AreApart, AreWithin};
 ghost use Rattle.local_zone.specs.Index.{of_owner};
 ghost use Rattle.local_zone.specs.Saved.{IsRemoval};
+ghost use Rattle.local_zone.specs.Show.{is_for, set_of};
 ghost use Rattle.named_list.specs.Turn.{other_of, HasPlace};
 
 use crate::added::Added;
+use crate::other_set::OtherSet;
 use crate::record::LocalRecord;
-use crate::record_list::{RecordList, retime_each};
+use crate::record_list::RecordList;
 use crate::records::is_among;
 use crate::removed::Removed;
 use crate::zone::Zone;
 use crate::zone_list::takes_out;
 use crate::zones::closest;
-use dns_name::{Name, NoMemory};
+use dns_name::Name;
 use dns_text::{Record, Shared};
 use named_list::{NamedList, Turn};
-use std::alloc::Global;
 
-/// A share of each record.
-pub(crate) fn share_all(
-    alloc: Global,
-    records: &[LocalRecord],
-) -> Result<Vec<LocalRecord>, NoMemory>
-    ensures { IfOk result (λ shared. shared.items ≡ records.now) }
+/// Whether a record is of this owner and TYPE.
+fn is_of(said: &Record, owner: &Name, kind: u16) -> bool
+    ensures { result ≡ is_for owner.now kind said.now }
 {
-    let mut shared = Vec::new(alloc);
-    for r in records {
-        shared.push(r.share()?)?;
-    }
-    Ok(shared)
+    said.kind == kind && said.owner == *owner
 }
 
-/// The records of an owner that stay, if one that was added last is taken back.
-fn front_of<'a>(own: &'a [LocalRecord], added: &Added, owner: &Name) -> &'a [LocalRecord]
-    ensures { result.now
-        ≡ (if added.now.is_new && name_eq added.now.said.owner owner.now then take (length own.now - 1) own.now else own.now) }
+/// The records of a set that stay, if one that was added to it is taken back: a new one was the last.
+fn front_of<'a>(own: &'a [LocalRecord], is_new: bool) -> &'a [LocalRecord]
+    ensures { result.now ≡ (if is_new then take (length own.now - 1) own.now else own.now) }
 {
-    if added.is_new && added.said.get().owner == *owner {
+    if is_new {
         return &own[..own.len().saturating_sub(1)];
     }
     own
 }
 
-/// The records of an owner, without one that was added.
-pub(crate) fn own_before(
-    alloc: Global,
-    own: &[LocalRecord],
+/// The records of a set, without one that was added.
+pub(crate) fn set_before<'a>(
+    own: &'a [LocalRecord],
     added: &Added,
     owner: &Name,
-) -> Result<Vec<LocalRecord>, NoMemory>
-    ensures { IfOk result (λ shared. (records : List Record) → GoesBack (RecordTurn.Added added.now) records →
-        own.now ≡ of_owner owner.now records → shared.items ≡ of_owner owner.now (records_before added.now records)) }
+    kind: u16,
+) -> OtherSet<'a>
+    ensures { (records : List Record) → GoesBack (RecordTurn.Added added.now) records →
+        own.now ≡ set_of owner.now kind records → result ≡ set_of owner.now kind (records_before added.now records) }
 {
-    let mut shared = share_all(alloc, front_of(own, added, owner))?;
-    retime_each(shared.as_mut_slice(), added.said.get(), added.ttl);
-    Ok(shared)
+    if is_of(added.said.get(), owner, kind) {
+        return OtherSet::timed(front_of(own, added.is_new), added.ttl);
+    }
+    OtherSet::same(own)
 }
 
-/// Whether a record that is added adds none to those of an owner.
-fn stays_out(own: &[LocalRecord], new: &Record, owner: &Name) -> bool
-    ensures { result ≡ (not (name_eq new.now.owner owner.now) || is_there own.now new.now) }
-{
-    new.owner != *owner || is_among(own, new)
-}
-
-/// The records of an owner, with one that is added.
-pub(crate) fn own_with(
-    alloc: Global,
-    own: &[LocalRecord],
-    new: &Shared<Record>,
+/// The records of a set, with one that is added.
+pub(crate) fn set_with<'a>(
+    own: &'a [LocalRecord],
+    new: &'a Shared<Record>,
     owner: &Name,
-) -> Result<Vec<LocalRecord>, NoMemory>
-    ensures { IfOk result (λ shared. (records : List Record) →
-        own.now ≡ of_owner owner.now records → shared.items ≡ of_owner owner.now (records_with new.now records)) }
+    kind: u16,
+) -> OtherSet<'a>
+    ensures { (records : List Record) →
+        own.now ≡ set_of owner.now kind records → result ≡ set_of owner.now kind (records_with new.now records) }
 {
     let said = new.get();
-    let mut shared = share_all(alloc, own)?;
-    retime_each(shared.as_mut_slice(), said, said.ttl);
-    if stays_out(own, said, owner) {
-        return Ok(shared);
+    if is_of(said, owner, kind) {
+        if is_among(own, said) {
+            return OtherSet::timed(own, said.ttl);
+        }
+        return OtherSet::with(own, new);
     }
-    shared.push(LocalRecord::new(new.share()?))?;
-    Ok(shared)
+    OtherSet::same(own)
 }
 
-/// The records of an owner, or those that come back, if there are none: an owner has records on one side alone.
-pub(crate) fn own_back(
-    alloc: Global,
-    own: &[LocalRecord],
-    removed: &Removed,
+/// The records of a set, or those that come back, if there are none: an owner has records on one side alone.
+pub(crate) fn set_back<'a>(
+    own: &'a [LocalRecord],
+    removed: &'a Removed,
     owner: &Name,
-) -> Result<Vec<LocalRecord>, NoMemory>
-    ensures { IfOk result (λ shared. (records : List Record) → AreApart removed.now records →
-        own.now ≡ of_owner owner.now records → shared.items ≡ of_owner owner.now (put_back removed.now records)) }
+    kind: u16,
+) -> OtherSet<'a>
+    ensures { (records : List Record) → AreApart removed.now records →
+        own.now ≡ set_of owner.now kind records → result ≡ set_of owner.now kind (put_back removed.now records) }
 {
     if own.is_empty() {
-        return share_all(alloc, removed.of(owner));
+        return OtherSet::same(removed.set(owner, kind));
     }
-    share_all(alloc, own)
+    OtherSet::same(own)
 }
 
 /// The owner of the first record at the gaps.
@@ -175,24 +163,79 @@ fn is_taken(
     }
 }
 
-/// The records of an owner, or none if a removal takes those at the gaps with them.
-pub(crate) fn own_left(
-    alloc: Global,
+/// The records of a set, or none if a removal takes those at the gaps with them.
+pub(crate) fn set_left<'a>(
     zones: &NamedList<Zone>,
     turn: &Turn<Zone>,
-    records: &RecordList,
+    records: &'a RecordList,
     gaps: &[usize],
     owner: &Name,
-) -> Result<Vec<LocalRecord>, NoMemory>
+    kind: u16,
+) -> OtherSet<'a>
     requires fits { HasPlace (λ z. z.name) turn.now zones.now }
     requires within { AreWithin gaps.now records.now }
     requires apart { AreApart (at_gaps gaps.now records.now) (rest_of gaps.now records.now) }
     requires removal { IsRemoval (record { zones = zones.now; records = records.now })
         (record { zones = other_of turn.now zones.now; records = rest_of gaps.now records.now }) }
-    ensures { IfOk result (λ shared. shared.items ≡ of_owner owner.now (rest_of gaps.now records.now)) }
+    ensures { result ≡ set_of owner.now kind (rest_of gaps.now records.now) }
 {
     if is_taken(zones, turn, records.as_slice(), gaps, owner) {
-        return Ok(Vec::new(alloc));
+        return OtherSet::same(&[]);
     }
-    share_all(alloc, records.of(owner))
+    OtherSet::same(records.set(owner, kind))
+}
+
+/// Whether a record that was added is new, and of this owner.
+fn is_new_of(added: &Added, owner: &Name) -> bool
+    ensures { result ≡ (added.now.is_new && name_eq added.now.said.owner owner.now) }
+{
+    added.is_new && added.said.get().owner == *owner
+}
+
+/// Whether an owner has a record, without one that was added.
+pub(crate) fn has_before(count: u64, added: &Added, owner: &Name) -> bool
+    ensures { (records : List Record) → GoesBack (RecordTurn.Added added.now) records →
+        count ≡ length (of_owner owner.now records) → result ≡ has_record owner.now (records_before added.now records) }
+{
+    if is_new_of(added, owner) {
+        return count > 1;
+    }
+    count > 0
+}
+
+/// Whether an owner has a record, with one that is added.
+pub(crate) fn has_with(count: u64, new: &Record, owner: &Name) -> bool
+    ensures { (records : List Record) →
+        count ≡ length (of_owner owner.now records) → result ≡ has_record owner.now (records_with new.now records) }
+{
+    count > 0 || new.owner == *owner
+}
+
+/// Whether an owner has a record, with those that come back.
+pub(crate) fn has_back(count: u64, removed: &Removed, owner: &Name) -> bool
+    ensures { (records : List Record) →
+        count ≡ length (of_owner owner.now records) → result ≡ has_record owner.now (put_back removed.now records) }
+{
+    count > 0 || removed.count_of(owner) > 0
+}
+
+/// Whether an owner has a record, unless a removal takes those at the gaps with it.
+pub(crate) fn has_left(
+    zones: &NamedList<Zone>,
+    turn: &Turn<Zone>,
+    records: &RecordList,
+    gaps: &[usize],
+    owner: &Name,
+) -> bool
+    requires fits { HasPlace (λ z. z.name) turn.now zones.now }
+    requires within { AreWithin gaps.now records.now }
+    requires apart { AreApart (at_gaps gaps.now records.now) (rest_of gaps.now records.now) }
+    requires removal { IsRemoval (record { zones = zones.now; records = records.now })
+        (record { zones = other_of turn.now zones.now; records = rest_of gaps.now records.now }) }
+    ensures { result ≡ has_record owner.now (rest_of gaps.now records.now) }
+{
+    if is_taken(zones, turn, records.as_slice(), gaps, owner) {
+        return false;
+    }
+    records.count_of(owner) > 0
 }

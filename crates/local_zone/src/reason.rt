@@ -1,7 +1,7 @@
 //! Reasons to refuse a change. Finding one takes no memory.
 
 ghost use Rattle.std.specs.Prelude.{◌≡◌, ◌≤◌, List, length};
-ghost use Rattle.local_zone.specs.Reason.{clashes, differ, has_data_below, reason_of_add, reason_of_set, redirects_below};
+ghost use Rattle.local_zone.specs.Reason.{clashes, has_data_below, reason_of_add, reason_of_set, redirects_below};
 ghost use Rattle.local_zone.specs.ZoneType.{is_redirect};
 ghost use Rattle.local_zone.specs.Closest.{closest};
 ghost use Rattle.local_zone.specs.CountsBelow.{AreZoned};
@@ -11,7 +11,6 @@ ghost use Rattle.local_zone.specs.declared.zone.Zone.{Zone};
 
 use crate::counts_below::CountsBelow;
 use crate::fault::TableFault;
-use crate::record::LocalRecord;
 use crate::record_list::RecordList;
 use crate::zone::Zone;
 use crate::zone_type::ZoneType;
@@ -34,13 +33,6 @@ fn is_redirect(kind: ZoneType) -> bool
     matches!(kind, ZoneType::Redirect)
 }
 
-/// Whether exactly one of two holds.
-fn differ(a: bool, b: bool) -> bool
-    ensures { result ≡ differ a b }
-{
-    if a { !b } else { b }
-}
-
 /// Whether a record would lie strictly below the name of the redirect zone. A lookup tells how many records are below the name, and
 /// another how many of these lie in other zones.
 fn has_data_below(records: &RecordList, zoned: &CountsBelow, new: &Zone) -> bool
@@ -60,20 +52,16 @@ fn is_below_redirect(zones: &NamedList<Zone>, owner: &Name) -> bool
     }
 }
 
-/// Whether a CNAME would not be alone at the owner.
-fn clashes(zones: &NamedList<Zone>, records: &[LocalRecord], new: &Record) -> bool
+/// Whether a CNAME would not be alone at the owner. Numbers tell: no record is read.
+fn clashes(zones: &NamedList<Zone>, records: &RecordList, new: &Record) -> bool
     ensures { result ≡ clashes new.now (record { zones = zones.now; records = records.now }) }
 {
-    // The types come first: they seldom differ, and are compared sooner than owners.
-    records.iter().any(|r| differ(is_cname(r.kind()), is_cname(new.kind))
-        && *r.owner() == new.owner)
-}
-
-/// The same of all records.
-fn clashes_in(zones: &NamedList<Zone>, records: &RecordList, new: &Record) -> bool
-    ensures { result ≡ clashes new.now (record { zones = zones.now; records = records.now }) }
-{
-    clashes(zones, records.of(&new.owner), new)
+    let aliases = records.set(&new.owner, CNAME).len() as u64;
+    if is_cname(new.kind) {
+        aliases < records.count_of(&new.owner)
+    } else {
+        aliases > 0
+    }
 }
 
 /// The reason to refuse a zone, if there is one.
@@ -110,7 +98,7 @@ pub(crate) fn reason_of_add(
     if is_below_redirect(zones, &new.owner) {
         return Some(TableFault::BelowRedirect);
     }
-    if clashes_in(zones, records, new) {
+    if clashes(zones, records, new) {
         return Some(TableFault::CnameClash);
     }
     if has_no_room_for(zones, &new.owner) || records::has_no_room(records, new) {

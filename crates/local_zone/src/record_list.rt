@@ -13,10 +13,11 @@ ghost use Rattle.dns_text.specs.declared.record.Record.{Record};
 ghost use Rattle.dns_name.specs.Order.{name_eq};
 ghost use Rattle.local_zone.specs.Group.{group_of, records_in, AreGrouped, AreIndexed};
 ghost use Rattle.local_zone.specs.Index.{of_owner};
+ghost use Rattle.local_zone.specs.Show.{data_for, set_of};
 
 use crate::counts_below::CountsBelow;
 use crate::group::Group;
-use crate::groups::{move_groups, put_groups};
+use crate::groups::{count_in, data_in, move_groups, put_groups, set_in};
 use crate::in_place::{moves_in_place, put_few, take_few};
 use crate::passes::{push_gaps, put_pass, take_pass};
 use crate::record::LocalRecord;
@@ -89,28 +90,28 @@ fn retime_index(owners: &mut IndexMap<Name, Group>, set: &Record, ttl: Ttl)
     }
 }
 
-/// Takes the last record of an owner out of the index, and its group if that is empty then.
-fn unindex_last(owners: &mut IndexMap<Name, Group>, owner: &Name)
-    ensures { (front : List Record) (last : Record) → last.owner ≡ owner.now →
+/// Takes the last record of an owner, which has this TYPE, out of the index, and the owner's group if that is empty then.
+fn unindex_last(owners: &mut IndexMap<Name, Group>, owner: &Name, kind: u16)
+    ensures { (front : List Record) (last : Record) → last.owner ≡ owner.now → last.kind ≡ kind →
         AreGrouped (front ++ last ∷ []) owners.old.entries → AreGrouped front owners.new.entries }
 {
-    if pop_under(owners, owner) {
+    if pop_under(owners, owner, kind) {
         owners.swap_remove(owner);
     }
 }
 
-/// Takes the last record out of the group of an owner, and returns whether none is left.
-fn pop_under(owners: &mut IndexMap<Name, Group>, owner: &Name) -> bool
-    ensures front { (front : List Record) (last : Record) → last.owner ≡ owner.now →
+/// Takes the last record of a TYPE out of the group of an owner, and returns whether none is left.
+fn pop_under(owners: &mut IndexMap<Name, Group>, owner: &Name, kind: u16) -> bool
+    ensures front { (front : List Record) (last : Record) → last.owner ≡ owner.now → last.kind ≡ kind →
         AreIndexed (front ++ last ∷ []) owners.old.entries → AreIndexed front owners.new.entries }
-    ensures some { result ≡ false → (front : List Record) (last : Record) → last.owner ≡ owner.now →
+    ensures some { result ≡ false → (front : List Record) (last : Record) → last.owner ≡ owner.now → last.kind ≡ kind →
         AreGrouped (front ++ last ∷ []) owners.old.entries → AreGrouped front owners.new.entries }
     ensures others { (other : Labels) → name_eq owner.now other ≡ false →
         group_of other owners.new.entries ≡ group_of other owners.old.entries }
     ensures empty { IsTrue result → records_in (group_of owner.now owners.new.entries) ≡ [] }
 {
     match owners.get_mut(owner) {
-        Some(group) => group.pop(),
+        Some(group) => group.pop(kind),
         None => false,
     }
 }
@@ -202,7 +203,7 @@ fn counts_at(alloc: Global, list: &[LocalRecord], gaps: &[usize]) -> Result<Coun
 #[derive(Drop)]
 pub(crate) struct RecordList {
     list: Vec<LocalRecord>,
-    // A second share of each record, in the same order, by owner. Groups hold no places, so that a removal renumbers nothing. A
+    // A second share of each record, by owner and TYPE. Groups hold no places, so that a removal renumbers nothing. A
     // name is hashed at once, and not octet by octet, and a short one lies in the key itself.
     owners: IndexMap<Name, Group>,
     // So that one lookup finds a name with no record below it, which a stranger may make up and ask for.
@@ -241,14 +242,25 @@ impl RecordList {
         &self.list
     }
 
-    /// The records of an owner, in order. It takes no memory.
-    pub(crate) fn of(&self, owner: &Name) -> &[LocalRecord]
-        ensures { result.now ≡ of_owner owner.now self.now }
+    /// How many records an owner has. It is one lookup.
+    pub(crate) fn count_of(&self, owner: &Name) -> u64
+        ensures { result ≡ length (of_owner owner.now self.now) }
     {
-        match self.owners.get(owner) {
-            Some(group) => group.as_slice(),
-            None => &[],
-        }
+        count_in(&self.owners, owner)
+    }
+
+    /// The records of an owner and TYPE, in order. It passes over no others.
+    pub(crate) fn set(&self, owner: &Name, kind: u16) -> &[LocalRecord]
+        ensures { result.now ≡ set_of owner.now kind self.now }
+    {
+        set_in(&self.owners, owner, kind)
+    }
+
+    /// The CNAME of an owner, else its records of the TYPE.
+    pub(crate) fn data(&self, owner: &Name, kind: u16) -> &[LocalRecord]
+        ensures { result.now ≡ data_for owner.now kind self.now }
+    {
+        data_in(&self.owners, owner, kind)
     }
 
     /// How many records lie strictly below a name. It is one lookup.
@@ -282,7 +294,7 @@ impl RecordList {
     pub(crate) fn retime(&mut self, set: &Record, ttl: Ttl)
         ensures { self.new ≡ map (retimed_by (record set.now { ttl = ttl })) self.old }
     {
-        if has_other_ttl(self.of(&set.owner), set, ttl) {
+        if has_other_ttl(self.set(&set.owner, set.kind), set, ttl) {
             retime_each(self.list.as_mut_slice(), set, ttl);
             retime_index(&mut self.owners, set, ttl);
         }
@@ -293,7 +305,7 @@ impl RecordList {
         ensures { self.new ≡ take (length self.old - 1) self.old }
     {
         if let Some(last) = self.list.pop() {
-            unindex_last(&mut self.owners, last.owner());
+            unindex_last(&mut self.owners, last.owner(), last.kind());
             self.below.remove(last.owner());
         }
     }

@@ -4,8 +4,7 @@ ghost use Rattle.std.specs.Prelude.{◌≡◌, ◌≤◌, ◌-◌, ◌++◌, ◌
 ghost use Rattle.dns_name.specs.Order.{name_eq};
 ghost use Rattle.local_zone.specs.Closest.{lies_in};
 ghost use Rattle.local_zone.specs.Gaps.{at_gaps, gaps_of, gaps_where, put_back, rest_of, AreApart, AreWithin};
-ghost use Rattle.std.specs.List.{Contains, find, list_any};
-ghost use Rattle.std.specs.Option.{option_map};
+ghost use Rattle.std.specs.List.{Contains, list_any};
 ghost use Rattle.dns_text.specs.declared.record.Record.{Record};
 ghost use Rattle.local_zone.specs.Added.{ttl_of, records_before, records_need, records_other, GoesBack, IsTurned, PutsBack};
 ghost use Rattle.local_zone.specs.declared.added.RecordTurn.TheVariants as RecordTurn;
@@ -38,11 +37,11 @@ pub(crate) fn is_among(records: &[LocalRecord], new: &Record) -> bool
     records.iter().any(|r| r.is_same(new))
 }
 
-/// Whether a record says the same. It reads only those of the owner.
+/// Whether a record says the same. It reads only those of its set.
 pub(crate) fn is_there(records: &RecordList, new: &Record) -> bool
     ensures { result ≡ is_there records.now new.now }
 {
-    is_among(records.of(&new.owner), new)
+    is_among(records.set(&new.owner, new.kind), new)
 }
 
 /// Whether there would be too many records with the new one.
@@ -53,28 +52,14 @@ pub(crate) fn has_no_room(records: &RecordList, new: &Record) -> bool
     records.as_slice().len() == MOST_RECORDS && !is_there(records, new)
 }
 
-/// The first record of the set of a record.
-fn first_of_set<'a>(records: &'a [LocalRecord], new: &Record) -> Option<&'a LocalRecord>
-    ensures { option_map (λ r. r.now) result ≡ find (λ r. is_of_set r new.now) records.now }
-{
-    records.iter().find(|r| r.is_of_set(new))
-}
-
 /// The TTL of a record's set, or its own TTL if the set is empty.
-fn ttl_among(records: &[LocalRecord], new: &Record) -> Ttl
-    ensures { result ≡ ttl_of new.now records.now }
-{
-    match first_of_set(records, new) {
-        Some(r) => r.ttl(),
-        None => new.ttl,
-    }
-}
-
-/// The same of all records. It reads only those of the owner.
 fn ttl_of(records: &RecordList, new: &Record) -> Ttl
     ensures { result ≡ ttl_of new.now records.now }
 {
-    ttl_among(records.of(&new.owner), new)
+    match records.set(&new.owner, new.kind).first() {
+        Some(r) => r.ttl(),
+        None => new.ttl,
+    }
 }
 
 /// Puts a record last, and counts it. If memory is refused, nothing has changed.

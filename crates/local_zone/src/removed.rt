@@ -2,6 +2,7 @@
 
 use crate::counts_below::CountsBelow;
 use crate::group::Group;
+use crate::groups::{count_in, set_in};
 use crate::record::LocalRecord;
 use crate::taken::Taken;
 use dns_name::Name;
@@ -34,19 +35,24 @@ impl Model for Removed {
 }
 
 impl Removed {
-    ghost use Rattle.std.specs.Prelude.{◌≡◌, []};
+    ghost use Rattle.std.specs.Prelude.{◌≡◌, [], length};
     ghost use Rattle.local_zone.specs.CountsBelow.{count_below};
     ghost use Rattle.local_zone.specs.Gaps.{records_of};
     ghost use Rattle.local_zone.specs.Index.{of_owner};
+    ghost use Rattle.local_zone.specs.Show.{set_of};
 
-    /// The records of an owner, in order.
-    pub(crate) fn of(&self, owner: &Name) -> &[LocalRecord]
-        ensures { result.now ≡ of_owner owner.now (records_of self.now) }
+    /// How many of the records an owner has.
+    pub(crate) fn count_of(&self, owner: &Name) -> u64
+        ensures { result ≡ length (of_owner owner.now (records_of self.now)) }
     {
-        match self.groups.get(owner) {
-            Some(group) => group.as_slice(),
-            None => &[],
-        }
+        count_in(&self.groups, owner)
+    }
+
+    /// The records of an owner and TYPE, in order.
+    pub(crate) fn set(&self, owner: &Name, kind: u16) -> &[LocalRecord]
+        ensures { result.now ≡ set_of owner.now kind (records_of self.now) }
+    {
+        set_in(&self.groups, owner, kind)
     }
 
     /// How many of the records lie strictly below a name.

@@ -1,10 +1,11 @@
 //! An answer that shares the table's records, so that it outlives a borrow of the table.
 
 ghost use Rattle.std.specs.Prelude.{◌≡◌, IfOk, map};
-ghost use Rattle.local_zone.specs.Show.{set_of, shown_as};
+ghost use Rattle.local_zone.specs.OtherSet.{timed_as};
+ghost use Rattle.local_zone.specs.Show.{shown_as};
 
 use crate::local_answer::LocalSet;
-use crate::owner_records::is_for;
+use crate::other_set::share_timed;
 use crate::record::LocalRecord;
 use dns_name::{Name, NoMemory};
 use dns_text::{Data, Items, Record, Ttl};
@@ -28,12 +29,12 @@ impl Model for SeenRecord {
 }
 
 impl SeenRecord {
-    fn new(owner: &Name, said: &LocalRecord) -> Result<SeenRecord, NoMemory>
-        ensures { IfOk result (λ r. r ≡ shown_as owner.now said.now) }
+    pub(crate) fn of(owner: &Name, said: LocalRecord) -> Result<SeenRecord, NoMemory>
+        ensures { IfOk result (λ r. r ≡ shown_as owner.now said) }
     {
         Ok(SeenRecord {
             owner: owner.clone()?,
-            said: said.share()?,
+            said,
         })
     }
 
@@ -41,7 +42,7 @@ impl SeenRecord {
     pub fn share(&self) -> Result<SeenRecord, NoMemory>
         ensures { IfOk result (λ r. r ≡ self.now) }
     {
-        SeenRecord::new(&self.owner, &self.said)
+        SeenRecord::of(&self.owner, self.said.share()?)
     }
 
     /// The owner that the answer shows.
@@ -88,21 +89,18 @@ impl PartialEq for SeenRecord {
     }
 }
 
-/// The records of an owner and type, each shown as one of `shown`.
-fn share_set(
+/// Shares of the records, all with another TTL if there is one, each shown as one of `shown`.
+pub(crate) fn share_set(
     alloc: Global,
     records: &[LocalRecord],
-    owner: &Name,
-    kind: u16,
+    ttl: Option<Ttl>,
     shown: &Name,
 ) -> Result<Vec<SeenRecord>, NoMemory>
-    ensures { IfOk result (λ v. v.items ≡ map (shown_as shown.now) (set_of owner.now kind records.now)) }
+    ensures { IfOk result (λ v. v.items ≡ map (λ r. shown_as shown.now (timed_as ttl r)) records.now) }
 {
-    let mut seen = Vec::new(alloc);
+    let mut seen = Vec::with_capacity(alloc, records.len())?;
     for r in records {
-        if is_for(r, owner, kind) {
-            seen.push(SeenRecord::new(shown, r)?)?;
-        }
+        seen.push(SeenRecord::of(shown, share_timed(r, ttl)?)?)?;
     }
     Ok(seen)
 }
@@ -112,7 +110,7 @@ impl LocalSet<'_> {
     pub fn to_items(&self, alloc: Global) -> Result<Items<SeenRecord>, NoMemory>
         ensures { IfOk result (λ items. items ≡ self.now) }
     {
-        let seen = share_set(alloc, self.records, self.owner, self.kind, self.shown)?;
+        let seen = share_set(alloc, self.records, None, self.shown)?;
         Ok(Items::new(seen))
     }
 }

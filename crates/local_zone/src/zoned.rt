@@ -101,7 +101,7 @@ pub(crate) fn count_of(records: &RecordList, zoned: &CountsBelow, name: &Name) -
 {
     // For its bound alone: the count is no greater than the number of records.
     let _all = records.as_slice().len();
-    let own = records.of(name).len() as u64;
+    let own = records.count_of(name);
     let others = records.count_below(name).saturating_sub(zoned.of(name));
     own.saturating_add(others)
 }

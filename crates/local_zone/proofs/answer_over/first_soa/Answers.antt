@@ -1,18 +1,17 @@
-use Rattle.std.proofs.Common.{List, Some, ap, ◌∙◌}
+use Rattle.std.proofs.Common.{List, ap, slice_get, ◌∙◌}
 use Rattle.dns_text.specs.declared.record.Record.{Record}
-use Rattle.local_zone.specs.Answer.{soa_of}
-use Rattle.local_zone.proofs.IndexLaws.{soa-of}
+use Rattle.dns_text.specs.declared.types.TheConstants.{SOA}
+use Rattle.std.specs.Prelude.{IfOk, Result, Ok, Err}
+use Rattle.local_zone.specs.Show.{is_for}
+use Rattle.local_zone.proofs.AnswerOverLaws.{first_found}
 use Rattle.local_zone.proofs.answer_over.first_soa.Goals as goal
 
-pub returns-in-Some : goal.returns-in-Some
-returns-in-Some c =
-    let name = c.args.zone.now.name in
-    ap (λ (r : Record). Some r) c.in_ok-share-in-Some.ensures
-    ∙ c.in-Some.ensures
-    ∙ ap (λ (rs : List Record). soa_of name rs) (c.deref.ensures.value ∙ c.in_ok-own.ensures)
-    ∙ soa-of name c.args.side.now.records
+if_ok : {X E : Type 0} {P Q : X → Type 0} (r : Result X E) → ((x : X) → P x → Q x) → IfOk r P → IfOk r Q
+if_ok (Ok x) f h = f x h
+if_ok (Err e) f h = tt
 
 pub returns : goal.returns
 returns c =
-    let name = c.args.zone.now.name in
-    c.in-None.ensures ∙ ap (λ (rs : List Record). soa_of name rs) (c.deref.ensures.value ∙ c.in_ok-own.ensures) ∙ soa-of name c.args.side.now.records
+    if_ok c.share_first.result
+    (λ soa is. is ∙ ap (λ (rs : List Record). slice_get rs 0) c.set.ensures ∙ first_found (is_for c.args.zone.now.name SOA) c.args.side.now.records)
+    c.share_first.ensures

@@ -1,13 +1,11 @@
-use Rattle.std.proofs.Common.{◌≡◌, ℕ, List, [], ◌∷◌, cond, length, true, false, slice_get, None, refl, ap, sym, ◌∙◌, arith}
+use Rattle.std.proofs.Common.{◌≡◌, List, [], ◌∷◌, length, true, false, slice_get, None, refl, ap, sym, ◌∙◌, arith}
 use Rattle.std.specs.Option.{option_map}
 use Rattle.dns_name.specs.Labels.{Labels}
 use Rattle.named_list.specs.Turn.{other_of}
 use Rattle.local_zone.specs.declared.taken.Taken.{Taken}
 use Rattle.local_zone.specs.Closest.{closest}
 use Rattle.local_zone.specs.Count.{count_of, same_zone}
-use Rattle.local_zone.specs.CountsBelow.{count_below}
 use Rattle.local_zone.specs.Gaps.{records_of}
-use Rattle.local_zone.specs.Index.{of_owner}
 use Rattle.std.proofs.lemmas.List.{length-map}
 use Rattle.local_zone.proofs.OtherLaws.{count_back_is, few_back}
 use Rattle.local_zone.proofs.other_counts.count_back.Goals as goal
@@ -36,7 +34,7 @@ returns-then-share_zone c records apart removal =
       few_back zones name (records_of taken),
       length-map taken (λ (t : Taken). t.item),
       ap (λ (ts : List Taken). length ts) c.as_slice-all.ensures,
-      ap length c.of.ensures,
+      c.count_of-own.ensures,
       c.count_below.ensures,
       c.saturating_add.ensures,
     )

@@ -1,4 +1,4 @@
-use Rattle.std.proofs.Common.{◌&&◌, ℕ, cond, ap, sym, ◌∙◌, arith}
+use Rattle.std.proofs.Common.{ℕ, cond, ap, sym, ◌∙◌, arith}
 use Rattle.named_list.specs.Turn.{other_of}
 use Rattle.local_zone.specs.Count.{counts_there}
 use Rattle.local_zone.proofs.OtherLaws.{count_before_is}

@@ -1,9 +1,9 @@
-use Rattle.std.proofs.Common.{◌≡◌, ℕ, List, cond, length, None, refl, ap, sym, ◌∙◌, arith}
+use Rattle.std.proofs.Common.{List, refl, ap, sym, ◌∙◌, arith}
 use Rattle.std.specs.Option.{option_map}
 use Rattle.dns_text.specs.declared.record.Record.{Record}
 use Rattle.named_list.specs.Turn.{other_of}
-use Rattle.local_zone.specs.Count.{count_of, counts_there}
-use Rattle.local_zone.specs.Gaps.{at_gaps, rest_of}
+use Rattle.local_zone.specs.Count.{count_of}
+use Rattle.local_zone.specs.Gaps.{rest_of}
 use Rattle.local_zone.proofs.OtherLaws.{all_left, count_left_owner, count_left_zone, first_goes, tested}
 use Rattle.local_zone.proofs.other_counts.count_left.Goals as goal
 

@@ -1,4 +1,4 @@
-use Rattle.std.proofs.Common.{◌≡◌, ℕ, List, map, Some, None, ap, sym, subst, ◌∙◌, nat_eq}
+use Rattle.std.proofs.Common.{◌≡◌, ℕ, List, map, Some, None, ap, sym, subst, nat_eq}
 use Rattle.std.specs.Map.{set_value}
 use Rattle.std.specs.Cmp.Lexicographic.{pointwise}
 use Rattle.dns_name.specs.Labels.{octets_of, Labels}

@@ -17,7 +17,7 @@ abbrev items : Group → List Record
 items g = records_held g
 
 pub returns-then-pop_under : goal.returns-then-pop_under
-returns-then-pop_under c front last same h =
+returns-then-pop_under c front last same kind h =
     let start = c.args.owners.now.entries in
     let mid = c.pop_under.new.owners.entries in
     let after = c.swap_remove.new.self.entries in
@@ -26,8 +26,8 @@ returns-then-pop_under c front last same h =
     let others : KeepsOthers (λ x y. pointwise nat_eq (octets x) (octets y)) (λ k. pointwise nat_eq (octets_of last.owner) (octets k)) mid after =
     subst (λ (s : List ℕ). KeepsOthers (λ x y. pointwise nat_eq (octets x) (octets y)) (λ k. pointwise nat_eq s (octets k)) mid after) name c.swap_remove.ensures.updates.3 in
     let empty : items_in items (under octets (octets_of last.owner) mid) ≡ [] = ap (λ (o : Labels). items_in items (under octets (octets_of o) mid)) same ∙ c.if-pop_under.ensures.empty refl in
-    grouped-drop octets items front last start mid after h (c.if-pop_under.ensures.front front last same h.0)
+    grouped-drop octets items front last start mid after h (c.if-pop_under.ensures.front front last same kind h.0)
     (λ o e. c.if-pop_under.ensures.others o (ap (λ (n : Labels). name_eq n o) (sym same) ∙ e)) empty none others
 
 pub returns-else-pop_under : goal.returns-else-pop_under
-returns-else-pop_under c front last same h = c.if-pop_under.ensures.some refl front last same h
+returns-else-pop_under c front last same kind h = c.if-pop_under.ensures.some refl front last same kind h

@@ -1,8 +1,15 @@
-use Rattle.std.proofs.Common.{List, ap, ◌∙◌}
+use Rattle.std.proofs.Common.{List, slice_get, ap, sym, ◌∙◌}
 use Rattle.dns_text.specs.declared.record.Record.{Record}
-use Rattle.local_zone.specs.Added.{ttl_of}
-use Rattle.local_zone.proofs.AddLaws.{ttl_of-owner}
+use Rattle.local_zone.specs.Added.{ttl_or}
+use Rattle.local_zone.specs.Tables.{is_of_set}
+use Rattle.local_zone.proofs.SetLaws.{find_first}
 use Rattle.local_zone.proofs.records.ttl_of.Goals as goal
 
-pub returns : goal.returns
-returns c = c.ttl_among.ensures ∙ ap (λ (rs : List Record). ttl_of c.args.new.now rs) c.of.ensures ∙ ttl_of-owner c.args.new.now c.args.records.now
+pub returns-in-Some : goal.returns-in-Some
+returns-in-Some c =
+    c.ttl.ensures
+    ∙ ap (ttl_or c.args.new.now) (c.in-Some.ensures.value ∙ ap (λ (rs : List Record). slice_get rs 0) c.set.ensures ∙ sym (find_first (λ (r : Record). is_of_set r c.args.new.now) c.args.records.now))
+
+pub returns-in-None : goal.returns-in-None
+returns-in-None c =
+    ap (ttl_or c.args.new.now) (c.in-None.ensures.value ∙ ap (λ (rs : List Record). slice_get rs 0) c.set.ensures ∙ sym (find_first (λ (r : Record). is_of_set r c.args.new.now) c.args.records.now))

@@ -1,4 +1,4 @@
-use Rattle.std.proofs.Common.{◌≡◌, ◌+◌, ℕ, List, cond, Some, ap, sym, ◌∙◌, arith, length}
+use Rattle.std.proofs.Common.{ℕ, List, cond, ap, sym, ◌∙◌, arith, length}
 use Rattle.named_list.specs.ListLaws.{length_filter}
 use Rattle.named_list.specs.Turn.{other_of}
 use Rattle.local_zone.specs.declared.zone.Zone.{Zone}

@@ -1,4 +1,4 @@
-use Rattle.std.proofs.Common.{◌≡◌, ◌<◌, ℕ, List, length, get_or, Some, ap, sym, subst, ◌∙◌}
+use Rattle.std.proofs.Common.{◌≡◌, ◌<◌, ℕ, List, length, Some, ap, sym, subst, ◌∙◌}
 use Rattle.named_list.specs.Turn.{HasPlace}
 use Rattle.named_list.specs.declared.turn.Turn.{Turn}
 use Rattle.named_list.specs.declared.turn.Turn.TheVariants.{Without}

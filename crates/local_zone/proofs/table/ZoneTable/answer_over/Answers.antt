@@ -1,4 +1,4 @@
-use Rattle.std.proofs.Common.{◌≡◌, subst, sym}
+use Rattle.std.proofs.Common.{subst, sym}
 use Rattle.local_zone.specs.Saved.{before_of, TakesBack}
 use Rattle.local_zone.specs.Tables.{Tables}
 use Rattle.local_zone.proofs.table.ZoneTable.answer_over.Goals as goal

@@ -1,0 +1,58 @@
+use Rattle.std.proofs.Common.{List, nat_lt, refl, ap, sym, ◌∙◌}
+use Rattle.dns_text.specs.declared.record.Record.{Record}
+use Rattle.local_zone.specs.declared.added.RecordTurn.{RecordTurn}
+use Rattle.local_zone.specs.declared.added.RecordTurn.TheVariants.{Added, Removes}
+use Rattle.local_zone.specs.Added.{records_other}
+use Rattle.local_zone.specs.Answer.{has_record}
+use Rattle.local_zone.specs.Change.{records_with}
+use Rattle.local_zone.specs.Tables.{Tables}
+use Rattle.local_zone.proofs.OtherLaws.{side_goes, side_takes}
+use Rattle.local_zone.proofs.OtherSetLaws.{has_many}
+use Rattle.local_zone.proofs.other_side.OtherSide.has.Goals as goal
+
+pub returns-in-Nothing : goal.returns-in-Nothing
+returns-in-Nothing c =
+    let records : List Record = c.self.inside.records.now in
+    let over = ap (λ (x : RecordTurn). has_record c.args.owner.now (records_other x records)) (sym c.in-Nothing.is) ∙ ap (λ (t : Tables). has_record c.args.owner.now t.records) c.self.view_is in
+    ap (nat_lt 0) c.count_of-count.ensures ∙ sym (has_many c.args.owner.now records) ∙ over
+
+pub returns-in-Added : goal.returns-in-Added
+returns-in-Added c =
+    let records : List Record = c.self.inside.records.now in
+    let over = ap (λ (x : RecordTurn). has_record c.args.owner.now (records_other x records)) (sym c.in-Added.is) ∙ ap (λ (t : Tables). has_record c.args.owner.now t.records) c.self.view_is in
+    let goes = side_goes c.self.inside.saved.now.records (Added c.in-Added.added) records c.in-Added.is c.self.invariant.back.goes in
+    c.has_before.ensures records goes c.count_of-count.ensures ∙ over
+
+pub returns-in-Adds : goal.returns-in-Adds
+returns-in-Adds c =
+    let records : List Record = c.self.inside.records.now in
+    let over = ap (λ (x : RecordTurn). has_record c.args.owner.now (records_other x records)) (sym c.in-Adds.is) ∙ ap (λ (t : Tables). has_record c.args.owner.now t.records) c.self.view_is in
+    c.has_with.ensures records c.count_of-count.ensures ∙ ap (λ (r : Record). has_record c.args.owner.now (records_with r records)) c.get.ensures ∙ over
+
+pub returns-in-Removed : goal.returns-in-Removed
+returns-in-Removed c =
+    let records : List Record = c.self.inside.records.now in
+    let over = ap (λ (x : RecordTurn). has_record c.args.owner.now (records_other x records)) (sym c.in-Removed.is) ∙ ap (λ (t : Tables). has_record c.args.owner.now t.records) c.self.view_is in
+    c.has_back.ensures records c.count_of-count.ensures ∙ over
+
+pub has_left-requires-clause-fits : goal.has_left-requires-clause-fits
+has_left-requires-clause-fits c = c.self.invariant.back.fits
+
+pub has_left-requires-clause-within : goal.has_left-requires-clause-within
+has_left-requires-clause-within c =
+    rw c.deref.ensures.value (side_goes c.self.inside.saved.now.records (Removes c.in-Removes.gaps) c.self.inside.records.now c.in-Removes.is c.self.invariant.back.goes).0
+
+pub has_left-requires-clause-apart : goal.has_left-requires-clause-apart
+has_left-requires-clause-apart c =
+    rw c.deref.ensures.value (side_goes c.self.inside.saved.now.records (Removes c.in-Removes.gaps) c.self.inside.records.now c.in-Removes.is c.self.invariant.back.goes).1
+
+pub has_left-requires-clause-removal : goal.has_left-requires-clause-removal
+has_left-requires-clause-removal c =
+    rw c.deref.ensures.value (side_takes c.self.inside.saved.now c.self.inside.zones.now c.self.inside.records.now (Removes c.in-Removes.gaps) c.in-Removes.is refl c.self.invariant.back)
+
+pub returns-in-Removes : goal.returns-in-Removes
+returns-in-Removes c =
+    let records : List Record = c.self.inside.records.now in
+    let over = ap (λ (x : RecordTurn). has_record c.args.owner.now (records_other x records)) (sym c.in-Removes.is) ∙ ap (λ (t : Tables). has_record c.args.owner.now t.records) c.self.view_is in
+    let left = c.has_left.ensures in
+    (rw c.deref.ensures.value at left) ∙ over

@@ -1,0 +1,16 @@
+use Rattle.std.proofs.Common.{leb, leb-true, rules}
+use Rattle.std.proofs.lemmas.Bool.{leb-false}
+use Rattle.std.proofs.lemmas.List.Sorted.{IsPartitionPoint-from_clause, IsPartitionedBy-leb}
+use Rattle.local_zone.proofs.sets.count_up_to.Goals as goal
+
+pub returns-clause-up_to : goal.returns-clause-up_to
+returns-clause-up_to c =
+    let parted = IsPartitionedBy-leb (λ r. r.kind) _ c.args.kind c.requires in
+    let point = IsPartitionPoint-from_clause (λ r. leb r.kind c.args.kind) _ _ c.partition_point.ensures.partitioned parted (λ a r q k. search rules) in
+    λ k d low high. leb-true _ _ (point.0 k d low high)
+
+pub returns-clause-others : goal.returns-clause-others
+returns-clause-others c =
+    let parted = IsPartitionedBy-leb (λ r. r.kind) _ c.args.kind c.requires in
+    let point = IsPartitionPoint-from_clause (λ r. leb r.kind c.args.kind) _ _ c.partition_point.ensures.partitioned parted (λ a r q k. search rules) in
+    λ k d low high. leb-false _ _ (point.1 k d low high)
