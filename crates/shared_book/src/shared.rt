@@ -166,9 +166,10 @@ impl<B: Book, L: CallLedger> SharedBook<B, L> {
     }
 
     /// Holds the lock right after a turn that left nothing of the book to sweep. For the name to forget first is then one path of a tree
-    /// away, and before it may be as far as all names.
+    /// away, and before it may be as far as all names. It takes as many turns as that needs: behind 256 permanent flushes a million for a
+    /// million names.
     fn hold_swept<R: Wait>(&self, rt: &R) -> Held<'_, B, L> {
-        for _ in 0..MOST_TURNS {
+        for _ in 0..u32::MAX {
             match self.kept.hold(rt).swept() {
                 Some(held) => return held,
                 None => yield_now(),
