@@ -6,7 +6,7 @@ ghost use Rattle.history.specs.Event.{lagging_of};
 use anyhow::anyhow;
 use dns_name::Name;
 use dns_text::{Items, Shared, read_record};
-use history::{Book, Command, Event, MOST_CELLS, MOST_COMMANDS, MakeFault, Reply, Settings};
+use history::{Book, Command, Desk, Event, MOST_CELLS, MOST_COMMANDS, MakeFault, Reply, Settings};
 use local_zone::ZoneType;
 use ranked::{Find, Rank, SharedFind};
 use std::alloc::Global;
@@ -104,8 +104,8 @@ pub fn local_zone(alloc: Global, name: &[u8], kind: ZoneType) -> anyhow::Result<
 }
 
 /// Gives a book an event. Its reply is dropped by a call, since the prover follows any other drop variant by variant.
-pub fn give<B: Book>(book: &mut B, event: Event) -> anyhow::Result<()> {
-    let reply = book.step(event)?;
+pub fn give<D: Desk>(desk: &mut D, event: Event) -> anyhow::Result<()> {
+    let reply = desk.call(event)?;
     drop(reply);
     Ok(())
 }

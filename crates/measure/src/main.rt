@@ -14,6 +14,7 @@
 //! | | `undo-N`; `oldest-N`, `middle-N`, `newest-N` | undoes and redoes one of 256 flushes of so many names; by its ticket |
 //! | `room` | a number of names | gives new names to a full cache with room for so many |
 //! | | `clock-N`, `end-N` | fills a shared cache with N names, and asks for the name to forget first once half of them have ended unswept |
+//! | | `beside-N` | makes room in a shared cache of N names while another caller comes between each two calls, and prints the times too |
 //! | `tables` | a number of records | asks for names of so many local records, in a sixteenth as many zones |
 //! | | `KIND-undo-N`; `KIND-last-N`, `KIND-first-N` | undoes and redoes the last command; by its ticket, before 255 others too |
 //! | `fill` | a number of records | makes a table of so many local records, by a call for each zone and each record |
@@ -30,6 +31,8 @@ mod moves; // undos and redos of one command
 mod cells; // lookups in a cache of many names, undos of flushes
 mod room; // new names for a full cache
 mod between; // a clock that moves between a sweep and the look for the name to forget first
+mod beside; // new names for a full cache while another caller comes between
+mod stopwatch; // the times of calls
 mod tables; // answers from many local records, undos of commands about them
 mod fill; // tables filled by their own calls
 
@@ -43,6 +46,7 @@ use room::measure_room;
 use std::alloc::Global;
 use std::env;
 use std::sync::Wait;
+use std::time::CpuClock;
 use tables::measure_tables;
 use tasks::measure_tasks;
 
@@ -52,7 +56,7 @@ const WORDS: [&str; 8] = [
 ];
 
 /// Makes the calls of a word: the one that the next words name, or each.
-fn measure<R: Print + Wait>(
+fn measure<R: Print + Wait + CpuClock>(
     rt: &R,
     alloc: Global,
     word: &str,
@@ -71,7 +75,7 @@ fn measure<R: Print + Wait>(
     }
 }
 
-fn measure_all<R: Print + Wait>(rt: &R, alloc: Global) -> anyhow::Result<()> {
+fn measure_all<R: Print + Wait + CpuClock>(rt: &R, alloc: Global) -> anyhow::Result<()> {
     for word in WORDS {
         measure(rt, alloc, word, &[])?;
     }

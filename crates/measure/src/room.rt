@@ -1,5 +1,6 @@
 //! New names for a full cache: for each, the name that ends first is forgotten.
 
+use crate::beside::measure_beside;
 use crate::between::{At, ask_many};
 use crate::books::{find_in, give, shelf_of};
 use crate::calls::run_calls;
@@ -7,10 +8,11 @@ use crate::lookups::questions;
 use anyhow::anyhow;
 use dns_name::Name;
 use dns_text::Question;
-use history::{Ask, Book, Event, Look, Reply, Seen, StepFault};
+use history::{Ask, Book, Desk, DeskFault, Event, Look, Reply, Seen, StepFault};
 use ranked::SharedFind;
 use std::alloc::Global;
 use std::sync::Wait;
+use std::time::CpuClock;
 
 /// The TTL of each name, in seconds.
 const TTL: u32 = 3_600;
@@ -32,22 +34,22 @@ fn addresses(alloc: Global, names: u32) -> anyhow::Result<Vec<SharedFind>> {
 }
 
 /// Admits a find, and returns whether there was room.
-fn is_taken<B: Book>(book: &mut B, moment: u64, find: &SharedFind) -> anyhow::Result<bool> {
+pub fn is_taken<D: Desk>(desk: &mut D, moment: u64, find: &SharedFind) -> anyhow::Result<bool> {
     let find = find.share()?;
-    match book.step(Event::Admit { moment, find }) {
+    match desk.call(Event::Admit { moment, find }) {
         Ok(reply) => {
             drop(reply);
             Ok(true)
         }
-        Err(StepFault::Full { .. }) => Ok(false),
+        Err(DeskFault::Step(StepFault::Full { .. })) => Ok(false),
         Err(fault) => Err(fault.into()),
     }
 }
 
 /// The name that ends first.
-fn oldest<B: Book>(book: &mut B, moment: u64) -> anyhow::Result<Name> {
+pub fn oldest<D: Desk>(desk: &mut D, moment: u64) -> anyhow::Result<Name> {
     let ask = Ask::Oldest;
-    match book.step(Event::Look { moment, ask })? {
+    match desk.call(Event::Look { moment, ask })? {
         Reply::Seen(Seen::Oldest(Some(name))) => Ok(name),
         other => {
             drop(other);
@@ -115,12 +117,20 @@ fn make_calls<R: Wait>(rt: &R, alloc: Global, call: &str, count: u32) -> anyhow:
 }
 
 /// Gives new names to a cache that has room for as many as the first word says, and prints how many were new; or asks a shared book for
-/// the name to forget first, and prints how often there was one.
-pub fn measure_room<R: Print + Wait>(
+/// the name to forget first, and prints how often there was one; or makes room in a shared book while another caller comes between, and
+/// prints the times too.
+pub fn measure_room<R: Print + Wait + CpuClock>(
     rt: &R,
     alloc: Global,
     words: &[String],
 ) -> anyhow::Result<()> {
+    if let [call, count] = words {
+        if let Some(names) = call.as_str().strip_prefix("beside-") {
+            let names: u32 = names.parse()?;
+            let count: u32 = count.as_str().parse()?;
+            return measure_beside(rt, alloc, call.as_str(), names, count);
+        }
+    }
     run_calls(
         rt,
         words,
