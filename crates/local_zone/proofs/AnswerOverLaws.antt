@@ -1,8 +1,6 @@
 -- The data of an owner, and the answers of a static and a transparent zone that have none of the type.
-use Rattle.std.proofs.Common.{◌≡◌, ◌<◌, ◌≤◌, Bool, true, false, cond, List, [], ◌∷◌, ◌==◌, length, map, filter, slice_get, Option, Some, None, refl, ap, sym, ◌∙◌, arith}
-use Rattle.std.specs.List.{find}
+use Rattle.std.proofs.Common.{◌≡◌, ◌<◌, ◌≤◌, Bool, true, false, cond, List, [], ◌∷◌, ◌==◌, length, Option, Some, None, refl, ap, sym, ◌∙◌, arith}
 use Rattle.std.proofs.lemmas.Bool.{eqb-true, false≢true, le-ltb, lt-ltb}
-use Rattle.dns_name.specs.Labels.{Labels}
 use Rattle.dns_text.specs.declared.record.Question.{Question}
 use Rattle.dns_text.specs.declared.record.Record.{Record}
 use Rattle.local_zone.specs.declared.local_answer.Local.TheVariants as local
@@ -10,7 +8,7 @@ use Rattle.local_zone.specs.declared.zone.Zone.{Zone}
 use Rattle.local_zone.specs.Answer.{absent_in, absent_or_pass, data_or, has_record, has_record_below, in_static, in_transparent, soa_of}
 use Rattle.local_zone.specs.Closest.{closest}
 use Rattle.local_zone.specs.Count.{count_of}
-use Rattle.local_zone.specs.Show.{data_shown, or_list, shown_as, unless_empty}
+use Rattle.local_zone.specs.Show.{data_shown, or_list}
 use Rattle.local_zone.specs.Tables.{Tables}
 use Rattle.local_zone.proofs.CountLaws.{below_counts}
 
@@ -23,23 +21,6 @@ or_first (x ∷ xs) ys e = refl
 pub or_other : (xs ys : List Record) → (length xs == 0) ≡ true → ys ≡ or_list xs ys
 or_other [] ys e = refl
 or_other (x ∷ xs) ys e = absurd (omega (arith, eqb-true (length (x ∷ xs)) 0 e))
-
-pub shown_some : (asked : Labels) (xs : List Record) → (length xs == 0) ≡ false → Some (map (shown_as asked) xs) ≡ unless_empty (map (shown_as asked) xs)
-shown_some asked [] e = absurd (false≢true (sym e))
-shown_some asked (x ∷ xs) e = refl
-
-pub shown_none : (asked : Labels) (xs : List Record) → (length xs == 0) ≡ true → None ≡ unless_empty (map (shown_as asked) xs)
-shown_none asked [] e = refl
-shown_none asked (x ∷ xs) e = absurd (omega (arith, eqb-true (length (x ∷ xs)) 0 e))
-
--- the first of a set is the first that is found
-pub first_found : (p : Record → Bool) (xs : List Record) → slice_get (filter p xs) 0 ≡ find p xs
-first_found p [] = refl
-first_found p (x ∷ xs) = by (p x) (first_found p xs)
-  where
-    by : (b : Bool) → slice_get (filter p xs) 0 ≡ find p xs → slice_get (cond b (x ∷ filter p xs) (filter p xs)) 0 ≡ cond b (Some x) (find p xs)
-    by true more = refl
-    by false more = more
 
 -- ---- no data of the type
 

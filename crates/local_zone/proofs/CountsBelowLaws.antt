@@ -140,14 +140,6 @@ and_true false = refl
 pub from_root : (n z : Labels) → is_below_from 0 n z ≡ is_below n z
 from_root n z = ap (λ b. is_below n z && b) (le-leb 0 (length (octets_of z)) (omega arith)) ∙ and_true (is_below n z)
 
-pub below_root : (least : ℕ) (n z : Labels) → parent_of n ≡ None → is_below_from least n z ≡ false
-below_root least [] z e = by (name_eq [] z)
-  where
-    by : (b : Bool) → ((b && not b) && nat_le least (length (octets_of z))) ≡ false
-    by true = refl
-    by false = refl
-below_root least (l ∷ n) z e = absurd cc
-
 pub below_parent : (l : List ℕ) (n z : Labels) → is_below (l ∷ n) z ≡ is_at_or_below n z
 below_parent l n z = by (name_eq (l ∷ n) z) refl (is_at_or_below n z) refl
   where

@@ -231,12 +231,6 @@ pub put_step : (before : List Record) (t : Taken) (more : List Taken) (from : Li
 put_step before t more from =
     append_assoc (before ++ take t.gap from) (t.item ∷ []) (put_back more (drop t.gap from)) ∙ append_assoc before (take t.gap from) (t.item ∷ put_back more (drop t.gap from))
 
-pub rest_step : (before : List Record) (gap : ℕ) (more : List ℕ) (from : List Record) → (before ++ take gap from) ++ rest_of more (drop 1 (drop gap from)) ≡ before ++ rest_of (gap ∷ more) from
-rest_step before gap more from = append_assoc before (take gap from) (rest_of more (drop 1 (drop gap from)))
-
-pub at_step : (before : List Taken) (gap : ℕ) (more : List ℕ) (from : List Record) → (before ++ first_at gap (drop gap from)) ++ at_gaps more (drop 1 (drop gap from)) ≡ before ++ at_gaps (gap ∷ more) from
-at_step before gap more from = append_assoc before (first_at gap (drop gap from)) (at_gaps more (drop 1 (drop gap from)))
-
 -- no more are taken than there are gaps
 pub length_at : (gaps : List ℕ) (records : List Record) → length (at_gaps gaps records) ≤ length gaps
 length_at [] records = omega arith

@@ -119,14 +119,6 @@ module _ {K G : Type 0} (octets : K → List ℕ) (items : G → List Record) wh
       by true e = inr (subst (λ (x : Labels). under octets (octets_of x) es' ≡ None) (name_eq_exact owner o e) gone)
       by false e = elim (apart o) [ inl none ↦ inl (m.others o e ∙ none) | inr none ↦ inr (m.kept o e ∙ none) ]
 
-  pub moved_none : (owner : Labels) (groups es after : List (K × G)) → under octets (octets_of owner) es ≡ None → under octets (octets_of owner) after ≡ None
-      → KeepsOthers (λ x y. pointwise nat_eq (octets x) (octets y)) (λ k. pointwise nat_eq (octets_of owner) (octets k)) es after → IsMoved owner groups es groups after
-  moved_none owner groups es after none gone keeps = record {
-    here = ap (first_of (under octets (octets_of owner) groups)) (gone ∙ sym none);
-    kept = λ other e. under_others owner other es after keeps e;
-    others = λ other e. refl;
-  }
-
   -- what was not there is not there after
   pub still_none : (owner other : Labels) (es after : List (K × G)) → under octets (octets_of owner) after ≡ None
       → KeepsOthers (λ x y. pointwise nat_eq (octets x) (octets y)) (λ k. pointwise nat_eq (octets_of owner) (octets k)) es after → under octets (octets_of other) es ≡ None → under octets (octets_of other) after ≡ None

@@ -7,10 +7,10 @@ use Rattle.std.specs.Cmp.Lexicographic.{pointwise}
 use Rattle.std.proofs.lemmas.Bool.{false≢true}
 use Rattle.std.proofs.lemmas.Slice.Eq.{bytes_eq-Decides}
 use Rattle.std.proofs.lemmas.List.{append-nil}
+use Rattle.std.proofs.lemmas.List.Elements.{filter-append}
 use Rattle.dns_name.specs.Labels.{Labels, octets_of}
 use Rattle.dns_name.specs.Order.{name_eq, name_eq_exact, name_eq_itself}
 use Rattle.dns_text.specs.declared.record.Record.{Record}
-use Rattle.local_zone.specs.Reason.{differ}
 use Rattle.local_zone.specs.Show.{set_of}
 use Rattle.local_zone.specs.Index.{of_kind, of_owner, items_in, under, AreOwned, HoldSame, IsGrouped, IsIndexed}
 use Rattle.local_zone.proofs.HeldLaws.{held_empty, held_none, same_itself, same_left, same_right}
@@ -36,16 +36,8 @@ module _ {X : Type 0} (p q : X → Bool) (only : (x : X) → p x ≡ true → q 
 
 -- ---- a record goes last
 
-filter_push : {X : Type 0} (q : X → Bool) (xs : List X) (x : X) → filter q (xs ++ x ∷ []) ≡ filter q xs ++ cond (q x) (x ∷ []) []
-filter_push q [] x = by (q x)
-  where
-    by : (b : Bool) → cond b (x ∷ []) [] ≡ cond b (x ∷ []) []
-    by b = refl
-filter_push q (y ∷ xs) x = by (q y) (filter_push q xs x)
-  where
-    by : (b : Bool) → filter q (xs ++ x ∷ []) ≡ filter q xs ++ cond (q x) (x ∷ []) [] → cond b (y ∷ filter q (xs ++ x ∷ [])) (filter q (xs ++ x ∷ [])) ≡ cond b (y ∷ filter q xs) (filter q xs) ++ cond (q x) (x ∷ []) []
-    by true more = ap (λ r. y ∷ r) more
-    by false more = more
+pub filter_push : {X : Type 0} (q : X → Bool) (xs : List X) (x : X) → filter q (xs ++ x ∷ []) ≡ filter q xs ++ cond (q x) (x ∷ []) []
+filter_push q xs x = filter-append q xs (x ∷ [])
 
 -- the records of the owner, with one more of it last
 pub own-push : (owner : Labels) (records : List Record) (new : Record) → name_eq new.owner owner ≡ true → of_owner owner (records ++ new ∷ []) ≡ of_owner owner records ++ new ∷ []

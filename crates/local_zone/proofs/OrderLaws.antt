@@ -3,7 +3,7 @@ use Rattle.std.proofs.Common.{◌≡◌, ℕ, zero, suc, ◌+◌, ◌-◌, ◌<�
 use Rattle.std.specs.List.{AllByRecursion, AllWithin, insert, remove}
 use Rattle.std.specs.List.Sorted.{IsNonDecreasingBy}
 use Rattle.std.proofs.lemmas.Bool.{cases_Bool, eq-eqb, eqb-true, ltb-true, ltb-false}
-use Rattle.std.proofs.lemmas.List.{append-nil, length-map, take-append-drop}
+use Rattle.std.proofs.lemmas.List.{append-nil, get_or_default, length-map, take-append-drop}
 use Rattle.std.proofs.lemmas.List.Edits.{length-remove, get_or-remove_below, get_or-remove_above}
 use Rattle.std.proofs.lemmas.List.Elements.{filter-append}
 use Rattle.dns_text.specs.declared.record.Record.{Record}
@@ -62,9 +62,9 @@ run_of kind i n xs within lower from few up over =
     kind_cut kind i xs ∙ ap (λ (l : List Record). l ++ of_kind kind rest) none ∙ kind_cut kind n rest ∙ (λ j. kept j ++ behind j) ∙ append-nil (take n rest)
 
 -- If no record lies between the lower and the higher ones, there is none of the type.
-pub no_run : (kind i n : ℕ) (xs : List Record) → n ≤ i → n ≤ length xs → AllWithin (λ r. r.kind < kind) xs 0 i → AllWithin (λ r. kind < r.kind) xs n (length xs) → of_kind kind xs ≡ []
-no_run kind i n xs low within lower over =
-    let front : of_kind kind (take n xs) ≡ [] = lower_none kind (take n xs) (front_all (λ r. r.kind < kind) xs n within (λ k d least most. lower k d least (omega (arith, most)))) in
+no_run : (kind n : ℕ) (xs : List Record) → n ≤ length xs → AllWithin (λ r. r.kind < kind) xs 0 n → AllWithin (λ r. kind < r.kind) xs n (length xs) → of_kind kind xs ≡ []
+no_run kind n xs within lower over =
+    let front : of_kind kind (take n xs) ≡ [] = lower_none kind (take n xs) (front_all (λ r. r.kind < kind) xs n within lower) in
     let behind : of_kind kind (drop n xs) ≡ [] = higher_none kind (drop n xs) (rest_all (λ r. kind < r.kind) xs n over) in
     kind_cut kind n xs ∙ (λ j. front j ++ behind j)
 
@@ -121,23 +121,34 @@ pub pushed : (e : ℕ) (items all : List Record) (new : Record) → AllWithin (�
 pushed e items all new over h = same_pushed (take e items) (drop e items) all new (none_behind new.kind e items over) (same_left (take-append-drop e items) h)
 
 -- The last record of a type goes.
-pub popped : (kind first e : ℕ) (items front : List Record) (last : Record) → first < e → e ≤ length items → AllWithin (λ r. kind ≤ r.kind) items first (length items)
-    → AllWithin (λ r. r.kind ≤ kind) items 0 e → AllWithin (λ r. kind < r.kind) items e (length items) → last.kind ≡ kind → HoldSame items (front ++ last ∷ []) → HoldSame (remove items (e - 1)) front
-popped kind first e items front last some within others up over same h =
+pub popped : (kind e : ℕ) (items front : List Record) (x last : Record) → 0 < e → e ≤ length items → x ≡ get_or items (e - 1) x → x.kind ≡ kind
+    → AllWithin (λ r. kind < r.kind) items e (length items) → last.kind ≡ kind → HoldSame items (front ++ last ∷ []) → HoldSame (remove items (e - 1)) front
+popped kind e items front x last some within at here over same h =
     let n : ℕ = e - 1 in
     let next : e ≡ suc n = omega (arith, some) in
-    let x : Record = get_or items n last in
-    let least : kind ≤ x.kind = others n last (omega (arith, some)) (omega (arith, some, within)) in
-    let most : x.kind ≤ kind = up n last (omega arith) (omega (arith, some)) in
-    let is : x.kind ≡ last.kind = omega (arith, least, most, same) in
+    let is : (get_or items n x).kind ≡ last.kind = sym (ap (λ (r : Record). r.kind) at) ∙ here ∙ sym same in
     let behind : of_kind last.kind (drop (suc n) items) ≡ [] = (λ i. of_kind (same i) (drop (sym next i) items)) ∙ none_behind kind e items over in
-    same_popped (take n items) (drop (suc n) items) front x last is behind (same_left (sym (cut_place items n last (omega (arith, some, within)))) h)
+    same_popped (take n items) (drop (suc n) items) front (get_or items n x) last is behind (same_left (sym (cut_place items n x (omega (arith, some, within)))) h)
 
 -- A list that holds the same as one with this record last has a record of its type.
-pub not_popped : (kind first e : ℕ) (items front : List Record) (last : Record) → e ≤ first → e ≤ length items → AllWithin (λ r. r.kind < kind) items 0 first
+pub not_popped : (kind e : ℕ) (items front : List Record) (last : Record) → e ≤ length items → AllWithin (λ r. r.kind < kind) items 0 e
     → AllWithin (λ r. kind < r.kind) items e (length items) → last.kind ≡ kind → HoldSame items (front ++ last ∷ []) → ⊥
-not_popped kind first e items front last low within lower over same h =
-    held_some items front last (ap (λ (k : ℕ). of_kind k items) same ∙ no_run kind first e items low within lower over) h
+not_popped kind e items front last within lower over same h =
+    held_some items front last (ap (λ (k : ℕ). of_kind k items) same ∙ no_run kind e items within lower over) h
+
+-- If the last of the records up to a type is of a lower one, they all are.
+pub all_lower : (kind e : ℕ) (items : List Record) (x : Record) → AreInOrder items → 0 < e → e ≤ length items → x ≡ get_or items (e - 1) x → (x.kind ≡ kind → ⊥)
+    → AllWithin (λ r. r.kind ≤ kind) items 0 e → AllWithin (λ r. r.kind < kind) items 0 e
+all_lower kind e items x order some within at differ up k d low high =
+    let last : (get_or items (e - 1) d).kind ≡ x.kind = ap (λ (r : Record). r.kind) (get_or_default items (e - 1) d x (omega (arith, some, within)) ∙ sym at) in
+    let most : (get_or items (e - 1) d).kind ≤ kind = up (e - 1) d (omega arith) (omega (arith, some)) in
+    let rises : (get_or items k d).kind ≤ (get_or items (e - 1) d).kind = order k (e - 1) d (omega (arith, high)) (omega (arith, some, within)) in
+    elim (cases_Bool (ltb (get_or items k d).kind kind)) [
+      | inl lower ↦ ltb-true (get_or items k d).kind kind lower
+      | inr not_lower ↦
+          let least : kind ≤ (get_or items k d).kind = ltb-false (get_or items k d).kind kind not_lower in
+          absurd (differ (omega (arith, rises, last, most, least)))
+    ]
 
 -- ---- a time to live changes no place
 

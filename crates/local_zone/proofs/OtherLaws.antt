@@ -85,7 +85,7 @@ module _ (new : Record) (records : List Record) where
   abbrev timed : List Record
   timed = map (retimed_by new) records
 
-  there_is : (b : Bool) → is_there records new ≡ b → records_with new records ≡ cond b timed (timed ++ new ∷ [])
+  pub there_is : (b : Bool) → is_there records new ≡ b → records_with new records ≡ cond b timed (timed ++ new ∷ [])
   there_is b e = ap (λ t. cond t timed (timed ++ new ∷ [])) (there_retimed new records ∙ e)
 
   -- how many count with it

@@ -4,7 +4,6 @@ use Rattle.std.specs.Borrow.{Bor}
 use Rattle.std.specs.Option.{option_map}
 use Rattle.std.proofs.lemmas.Bool.{and_parts, eqb-true, false≢true, le-ltb, lt-ltb}
 use Rattle.std.proofs.lemmas.List.{append-nil, map-id}
-use Rattle.std.proofs.lemmas.List.Elements.{filter-append}
 use Rattle.dns_name.specs.Labels.{Labels}
 use Rattle.dns_name.specs.Order.{name_eq, name_eq_exact}
 use Rattle.dns_text.specs.Equal.{data_eq}
@@ -15,24 +14,24 @@ use Rattle.local_zone.specs.declared.taken.Taken.{Taken}
 use Rattle.local_zone.specs.Added.{records_before}
 use Rattle.local_zone.specs.Answer.{has_record}
 use Rattle.local_zone.specs.Change.{is_there, records_with, retimed_by}
-use Rattle.local_zone.specs.Gaps.{put_back, records_of, AreApart}
+use Rattle.local_zone.specs.Gaps.{at_gaps, put_back, records_of, rest_of, AreApart, AreWithin}
 use Rattle.local_zone.specs.Index.{of_kind, of_owner}
-use Rattle.local_zone.specs.OtherSet.{timed_as, with_last}
-use Rattle.local_zone.specs.Show.{is_for, set_of, shown_as}
+use Rattle.local_zone.specs.OtherSet.{with_last}
+use Rattle.local_zone.specs.Show.{is_for, set_of, shown_as, timed_as}
 use Rattle.local_zone.specs.Tables.{is_of_set, is_same}
 use Rattle.local_zone.proofs.AddLaws.{take_front}
 use Rattle.local_zone.proofs.CountLaws.{any_some}
 use Rattle.local_zone.proofs.CountsBelowLaws.{count_back, count_one}
-use Rattle.local_zone.proofs.GapLaws.{put_all, put_none}
-use Rattle.local_zone.proofs.IndexLaws.{set-of-owner}
-use Rattle.local_zone.proofs.OtherLaws.{count_before_is, count_with_is, last_added}
-use Rattle.local_zone.proofs.SoundLaws.{there_retimed}
+use Rattle.local_zone.proofs.GapLaws.{back_at, put_all, put_none}
+use Rattle.local_zone.proofs.IndexLaws.{filter_push, set-of-owner}
+use Rattle.local_zone.proofs.OtherLaws.{count_before_is, count_with_is, last_added, there_is}
+use Rattle.local_zone.proofs.SetLaws.{there_in_set}
 
 -- ---- a set, a record behind it, and its time to live
 
 module _ (owner : Labels) (kind : ℕ) where
   pushed : (rs : List Record) (x : Record) (b : Bool) → is_for owner kind x ≡ b → set_of owner kind (rs ++ x ∷ []) ≡ set_of owner kind rs ++ cond b (x ∷ []) []
-  pushed rs x b e = filter-append (is_for owner kind) rs (x ∷ []) ∙ ap (λ t. set_of owner kind rs ++ cond t (x ∷ []) []) e
+  pushed rs x b e = filter_push (is_for owner kind) rs x ∙ ap (λ t. set_of owner kind rs ++ cond t (x ∷ []) []) e
 
   module _ (new : Record) where
     kept : (r : Record) → is_for owner kind (retimed_by new r) ≡ is_for owner kind r
@@ -112,40 +111,27 @@ module _ (owner : Labels) (kind : ℕ) where
     abbrev retimed : List Record
     retimed = map (retimed_by new) records
 
-    with_is : (b : Bool) → is_there records new ≡ b → records_with new records ≡ cond b retimed (retimed ++ new ∷ [])
-    with_is b e = ap (λ t. cond t retimed (retimed ++ new ∷ [])) (there_retimed new records ∙ e)
-
     pub with_other : is_for owner kind new ≡ false → set_of owner kind records ≡ set_of owner kind (records_with new records)
     with_other e = sym (by (is_there records new) refl ∙ set_other new e records)
       where
         by : (b : Bool) → is_there records new ≡ b → set_of owner kind (records_with new records) ≡ set_of owner kind retimed
-        by true is = ap (set_of owner kind) (with_is true is)
-        by false is = ap (set_of owner kind) (with_is false is) ∙ pushed retimed new false e ∙ append-nil (set_of owner kind retimed)
+        by true is = ap (set_of owner kind) (there_is new records true is)
+        by false is = ap (set_of owner kind) (there_is new records false is) ∙ pushed retimed new false e ∙ append-nil (set_of owner kind retimed)
 
     -- whether it is there is told by its set
     there : is_for owner kind new ≡ true → (rs : List Record) → is_there (set_of owner kind rs) new ≡ is_there rs new
-    there e [] = refl
-    there e (r ∷ rs) = by (is_for owner kind r) refl (there e rs)
-      where
-        apart : is_for owner kind r ≡ false → (b : Bool) → is_same r new ≡ b → b ≡ false
-        apart other false is = refl
-        apart other true is =
-            let parts = and_parts (name_eq new.owner owner) (new.kind == kind) e in
-            let owners : new.owner ≡ owner = name_eq_exact new.owner owner parts.0 in
-            let kinds : new.kind ≡ kind = eqb-true new.kind kind parts.1 in
-            let same : is_of_set r new ≡ true = (and_parts (is_of_set r new) (data_eq r.body new.body) is).0 in
-            absurd (false≢true (sym other ∙ sym (λ i. name_eq r.owner (owners i) && r.kind == kinds i) ∙ same))
-
-        by : (b : Bool) → is_for owner kind r ≡ b → is_there (set_of owner kind rs) new ≡ is_there rs new → is_there (cond b (r ∷ set_of owner kind rs) (set_of owner kind rs)) new ≡ (is_same r new || is_there rs new)
-        by true here more = ap (λ t. is_same r new || t) more
-        by false here more = more ∙ sym (ap (λ t. t || is_there rs new) (apart here (is_same r new) refl))
+    there e rs =
+        let parts = and_parts (name_eq new.owner owner) (new.kind == kind) e in
+        let owners : owner ≡ new.owner = sym (name_eq_exact new.owner owner parts.0) in
+        let kinds : kind ≡ new.kind = sym (eqb-true new.kind kind parts.1) in
+        (λ i. is_there (set_of (owners i) (kinds i) rs) new) ∙ there_in_set new rs
 
     pub with_there : is_for owner kind new ≡ true → is_there (set_of owner kind records) new ≡ true → map (timed_as (Some new.ttl)) (set_of owner kind records) ≡ set_of owner kind (records_with new records)
-    with_there e is = sym (ap (set_of owner kind) (with_is true (sym (there e records) ∙ is)) ∙ set_same new e records)
+    with_there e is = sym (ap (set_of owner kind) (there_is new records true (sym (there e records) ∙ is)) ∙ set_same new e records)
 
     pub with_new : is_for owner kind new ≡ true → is_there (set_of owner kind records) new ≡ false → map (timed_as (Some new.ttl)) (set_of owner kind records) ++ new ∷ [] ≡ set_of owner kind (records_with new records)
     with_new e is =
-        sym (ap (set_of owner kind) (with_is false (sym (there e records) ∙ is)) ∙ pushed retimed new true e ∙ ap (λ (rs : List Record). rs ++ new ∷ []) (set_same new e records))
+        sym (ap (set_of owner kind) (there_is new records false (sym (there e records) ∙ is)) ∙ pushed retimed new true e ∙ ap (λ (rs : List Record). rs ++ new ∷ []) (set_same new e records))
 
   -- ---- a removal
 
@@ -169,15 +155,18 @@ module _ (owner : Labels) (kind : ℕ) where
         | inr empty ↦ absurd (some (no_set left empty))
       ]
 
+  pub left_none : (gaps : List ℕ) (full : List Record) → AreWithin gaps full → AreApart (at_gaps gaps full) (rest_of gaps full) → set_of owner kind full ≡ [] → set_of owner kind (rest_of gaps full) ≡ []
+  left_none gaps full within apart e =
+      elim (apart owner) [
+        | inl none ↦ by_owner (rest_of gaps full) full (sym (put_none owner (at_gaps gaps full) (rest_of gaps full) none) ∙ ap (of_owner owner) (back_at gaps full within)) ∙ e
+        | inr empty ↦ no_set (rest_of gaps full) empty
+      ]
+
   pub left_is : (b : Bool) (left full : List Record) → of_owner owner left ≡ cond b [] (of_owner owner full) → cond b [] (set_of owner kind full) ≡ set_of owner kind left
   left_is true left full e = sym (no_set left e)
   left_is false left full e = sym (by_owner left full e)
 
 -- ---- lists
-
-pub map_twice : {A B C : Type 0} (f : B → C) (g : A → B) (xs : List A) → map f (map g xs) ≡ map (λ x. f (g x)) xs
-map_twice f g [] = refl
-map_twice f g (x ∷ xs) = ap (λ ys. f (g x) ∷ ys) (map_twice f g xs)
 
 pub no_items : {X : Type 0} (xs : List X) → (length xs == 0) ≡ true → xs ≡ []
 no_items [] e = refl
@@ -258,9 +247,15 @@ module _ (owner : Labels) where
         let all : m ≡ many (put_back taken left) = omega (arith, is, none, e, many_back taken left) in
         ap (nat_lt 0) all ∙ sym (has_many (put_back taken left))
 
-  pub left_has : (b : Bool) (left full : List Record) → of_owner owner left ≡ cond b [] (of_owner owner full) → cond b false (nat_lt 0 (many full)) ≡ has_record owner left
-  left_has true left full e = sym (has_many left ∙ ap (λ (rs : List Record). nat_lt 0 (length rs)) e)
-  left_has false left full e = sym (has_many left ∙ ap (λ (rs : List Record). nat_lt 0 (length rs)) e)
+  pub left_without : (gaps : List ℕ) (full : List Record) → AreWithin gaps full → many full ≡ 0 → false ≡ has_record owner (rest_of gaps full)
+  left_without gaps full within e =
+      let left : List Record = rest_of gaps full in
+      let all : many (put_back (at_gaps gaps full) left) ≡ many full = ap (λ (rs : List Record). many rs) (back_at gaps full within) in
+      sym (has_many left ∙ le-ltb 0 (many left) (omega (arith, many_back (at_gaps gaps full) left, all, e)))
+
+  pub left_has : (b : Bool) (left full : List Record) → of_owner owner left ≡ cond b [] (of_owner owner full) → 0 < many full → not b ≡ has_record owner left
+  left_has true left full e some = sym (has_many left ∙ ap (λ (rs : List Record). nat_lt 0 (length rs)) e)
+  left_has false left full e some = sym (has_many left ∙ ap (λ (rs : List Record). nat_lt 0 (length rs)) e ∙ lt-ltb 0 (many full) some)
 
 -- ---- the records of an answer
 

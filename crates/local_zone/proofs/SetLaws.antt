@@ -1,5 +1,5 @@
 -- What the set of an owner and type, or the number of an owner's records, tells of all records.
-use Rattle.std.proofs.Common.{◌≡◌, ℕ, zero, suc, ◌+◌, Bool, true, false, ◌&&◌, not, cond, nat_lt, List, [], ◌∷◌, filter, length, slice_get, Some, refl, sym, ◌∙◌, arith}
+use Rattle.std.proofs.Common.{◌≡◌, ℕ, zero, suc, ◌+◌, Bool, true, false, ◌&&◌, not, cond, nat_lt, List, [], ◌∷◌, filter, length, slice_get, None, Some, refl, sym, ◌∙◌, arith}
 use Rattle.std.specs.List.{list_any, find}
 use Rattle.std.proofs.lemmas.Bool.{and_parts, lt-ltb, le-ltb}
 use Rattle.dns_name.specs.Order.{name_eq}
@@ -25,6 +25,14 @@ find_first p (x ∷ xs) = by (p x) (find_first p xs)
     by : (b : Bool) → find p xs ≡ slice_get (filter p xs) 0 → cond b (Some x) (find p xs) ≡ slice_get (cond b (x ∷ filter p xs) (filter p xs)) 0
     by true more = refl
     by false more = more
+
+-- where none is found, none passes
+pub find_none : {X : Type 0} (p : X → Bool) (xs : List X) → find p xs ≡ None → filter p xs ≡ []
+find_none {X} p xs e = by (filter p xs) (sym (find_first p xs) ∙ e)
+  where
+    by : (ys : List X) → slice_get ys 0 ≡ None → ys ≡ []
+    by [] e = refl
+    by (y ∷ ys) e = absurd cc
 
 -- only a record of the set says the same
 pub there_in_set : (new : Record) (records : List Record) → is_there (set_of new.owner new.kind records) new ≡ is_there records new

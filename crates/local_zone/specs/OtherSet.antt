@@ -2,12 +2,6 @@
 use Rattle.std.specs.Prelude.{List, [], ◌∷◌, ◌++◌, Option, Some, None}
 use Rattle.std.specs.Borrow.{Bor}
 use Rattle.dns_text.specs.declared.record.Record.{Record}
-use Rattle.dns_text.specs.declared.ttl.Ttl.{Ttl}
-
--- a record, with another TTL if there is one
-abbrev pub timed_as : Option Ttl → Record → Record
-timed_as None r = r
-timed_as (Some ttl) r = record r { ttl = ttl }
 
 -- the records, with one behind them if there is one
 abbrev pub with_last : List Record → Option (Bor Record) → List Record

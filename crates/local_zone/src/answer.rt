@@ -30,7 +30,7 @@ fn has_record_below(records: &RecordList, zoned: &CountsBelow, name: &Name) -> b
     has_owner(records, name) || zoned.of(name) < records.count_below(name)
 }
 
-/// The CNAME of an owner, else its set of the type, shown with the QNAME as owner. None if there is neither.
+/// The CNAME of an owner, else its set of the TYPE, shown with the QNAME as owner. None if there is neither.
 fn data_of<'a>(
     records: &'a RecordList,
     asked: &'a Name,
@@ -39,7 +39,7 @@ fn data_of<'a>(
 ) -> Option<LocalSet<'a>>
     ensures { result ≡ data_shown asked.now owner.now kind records.now }
 {
-    let set = records.data(owner, kind);
+    let set = records.data_for(owner, kind);
     if set.is_empty() {
         return None;
     }
@@ -53,7 +53,7 @@ fn data_of<'a>(
 fn soa_at<'a>(records: &'a RecordList, name: &Name) -> Option<&'a LocalRecord>
     ensures { option_map (λ r. r.now) result ≡ soa_of name.now records.now }
 {
-    records.set(name, SOA).first()
+    records.set_of(name, SOA).first()
 }
 
 /// Whether a name has a record.

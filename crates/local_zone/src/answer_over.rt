@@ -1,46 +1,36 @@
-//! The answer to a question on the other side of a change. It shares the records, since some have another TTL there.
+//! The answer to a question on the other side of a change. It shares the records, since some have another TTL there. An answer without
+//! records needs no memory.
 
-ghost use Rattle.std.specs.Prelude.{◌≡◌, IfOk, Some};
-ghost use Rattle.local_zone.specs.Answer.{answer_in, data_or, in_redirect, in_static, in_transparent, local_of, soa_of};
+ghost use Rattle.std.specs.Prelude.{◌≡◌, false, IfOk, IsOk, None, Some};
+ghost use Rattle.local_zone.specs.Answer.{answer_in, carries_record, data_or, in_redirect, in_static, in_transparent, local_of, soa_of};
 ghost use Rattle.local_zone.specs.Closest.{closest};
-ghost use Rattle.local_zone.specs.Show.{data_for, data_shown};
+ghost use Rattle.local_zone.specs.Show.{data_shown};
 
 use crate::local_answer::Local;
-use crate::other_set::OtherSet;
 use crate::other_side::OtherSide;
 use crate::record::LocalRecord;
 use crate::shared_answer::SeenRecord;
 use crate::zone::Zone;
 use crate::zone_type::ZoneType;
 use dns_name::{Name, NoMemory};
-use dns_text::types::{CNAME, SOA};
+use dns_text::types::SOA;
 use dns_text::{Items, Question};
 use std::alloc::Global;
 
 /// An answer that shares records.
 type Shares = Local<Items<SeenRecord>, LocalRecord>;
 
-/// The CNAME of an owner, else its set of the type.
-fn set_for<'a>(side: &OtherSide<'a>, owner: &Name, kind: u16) -> OtherSet<'a>
-    ensures { result ≡ data_for owner.now kind side.now.records }
-{
-    let aliases = side.set(owner, CNAME);
-    if aliases.is_empty() {
-        return side.set(owner, kind);
-    }
-    aliases
-}
-
-/// The same, shown with the QNAME as owner. None if there is neither.
-fn data(
+/// The CNAME of an owner, else its set of the TYPE, shown with the QNAME as owner. None if there is neither.
+fn data_of(
     alloc: Global,
     side: &OtherSide<'_>,
     asked: &Question,
     owner: &Name,
 ) -> Result<Option<Items<SeenRecord>>, NoMemory>
-    ensures { IfOk result (λ set. set ≡ data_shown asked.now.owner owner.now asked.now.kind side.now.records) }
+    ensures ok { IfOk result (λ set. set ≡ data_shown asked.now.owner owner.now asked.now.kind side.now.records) }
+    ensures free { data_shown asked.now.owner owner.now asked.now.kind side.now.records ≡ None → IsOk result }
 {
-    let set = set_for(side, owner, asked.kind);
+    let set = side.data_for(owner, asked.kind);
     if set.is_empty() {
         return Ok(None);
     }
@@ -49,9 +39,10 @@ fn data(
 
 /// The first SOA record at a zone's name.
 fn first_soa(side: &OtherSide<'_>, zone: &Zone) -> Result<Option<LocalRecord>, NoMemory>
-    ensures { IfOk result (λ soa. soa ≡ soa_of zone.now.name side.now.records) }
+    ensures ok { IfOk result (λ soa. soa ≡ soa_of zone.now.name side.now.records) }
+    ensures free { soa_of zone.now.name side.now.records ≡ None → IsOk result }
 {
-    side.set(&zone.name, SOA).share_first()
+    side.set_of(&zone.name, SOA).share_first()
 }
 
 /// The data at the name, or another answer if there is none.
@@ -61,10 +52,11 @@ fn data_or(
     asked: &Question,
     otherwise: Shares,
 ) -> Result<Shares, NoMemory>
-    ensures { IfOk result (λ answer. answer
+    ensures ok { IfOk result (λ answer. answer
         ≡ data_or otherwise (data_shown asked.now.owner asked.now.owner asked.now.kind side.now.records)) }
+    ensures free { data_shown asked.now.owner asked.now.owner asked.now.kind side.now.records ≡ None → IsOk result }
 {
-    match data(alloc, side, asked, &asked.owner)? {
+    match data_of(alloc, side, asked, &asked.owner)? {
         Some(set) => Ok(Local::Data(set)),
         None => Ok(otherwise),
     }
@@ -78,9 +70,10 @@ fn in_static(
     zone: &Zone,
 ) -> Result<Shares, NoMemory>
     requires { closest side.now.zones asked.now.owner ≡ Some zone.now }
-    ensures { IfOk result (λ answer. answer ≡ in_static side.now asked.now zone.now) }
+    ensures ok { IfOk result (λ answer. answer ≡ in_static side.now asked.now zone.now) }
+    ensures free { carries_record (in_static side.now asked.now zone.now) ≡ false → IsOk result }
 {
-    if let Some(set) = data(alloc, side, asked, &asked.owner)? {
+    if let Some(set) = data_of(alloc, side, asked, &asked.owner)? {
         return Ok(Local::Data(set));
     }
     let soa = first_soa(side, zone)?;
@@ -98,9 +91,10 @@ fn in_transparent(
     asked: &Question,
     zone: &Zone,
 ) -> Result<Shares, NoMemory>
-    ensures { IfOk result (λ answer. answer ≡ in_transparent side.now.records asked.now zone.now) }
+    ensures ok { IfOk result (λ answer. answer ≡ in_transparent side.now.records asked.now zone.now) }
+    ensures free { carries_record (in_transparent side.now.records asked.now zone.now) ≡ false → IsOk result }
 {
-    if let Some(set) = data(alloc, side, asked, &asked.owner)? {
+    if let Some(set) = data_of(alloc, side, asked, &asked.owner)? {
         return Ok(Local::Data(set));
     }
     if side.has(&asked.owner) {
@@ -117,9 +111,10 @@ fn in_redirect(
     asked: &Question,
     zone: &Zone,
 ) -> Result<Shares, NoMemory>
-    ensures { IfOk result (λ answer. answer ≡ in_redirect side.now.records asked.now zone.now) }
+    ensures ok { IfOk result (λ answer. answer ≡ in_redirect side.now.records asked.now zone.now) }
+    ensures free { carries_record (in_redirect side.now.records asked.now zone.now) ≡ false → IsOk result }
 {
-    match data(alloc, side, asked, &zone.name)? {
+    match data_of(alloc, side, asked, &zone.name)? {
         Some(set) => Ok(Local::Data(set)),
         None => Ok(Local::NoData(first_soa(side, zone)?)),
     }
@@ -133,7 +128,8 @@ fn answer_in(
     zone: &Zone,
 ) -> Result<Shares, NoMemory>
     requires { closest side.now.zones asked.now.owner ≡ Some zone.now }
-    ensures { IfOk result (λ answer. answer ≡ answer_in side.now asked.now zone.now zone.now.kind) }
+    ensures ok { IfOk result (λ answer. answer ≡ answer_in side.now asked.now zone.now zone.now.kind) }
+    ensures free { carries_record (answer_in side.now asked.now zone.now zone.now.kind) ≡ false → IsOk result }
 {
     match zone.kind {
         ZoneType::Deny => data_or(alloc, side, asked, Local::Drop),
@@ -155,7 +151,8 @@ pub(crate) fn answer_over(
     side: &OtherSide<'_>,
     asked: &Question,
 ) -> Result<Shares, NoMemory>
-    ensures { IfOk result (λ answer. answer ≡ local_of side.now asked.now) }
+    ensures ok { IfOk result (λ answer. answer ≡ local_of side.now asked.now) }
+    ensures free { carries_record (local_of side.now asked.now) ≡ false → IsOk result }
 {
     match side.closest(&asked.owner) {
         Some(zone) => answer_in(alloc, side, asked, zone),

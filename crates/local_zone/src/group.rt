@@ -37,30 +37,31 @@ impl Group {
     }
 
     /// The records of a TYPE, in the order of arrival.
-    pub(crate) fn of(&self, kind: u16) -> &[LocalRecord]
+    pub(crate) fn of_kind(&self, kind: u16) -> &[LocalRecord]
         ensures { result.now ≡ of_kind kind (records_held self.now) }
     {
         match self {
             Group::Empty => &[],
             Group::One(one) => of_one(one, kind),
-            Group::Many(many) => many.of(kind),
+            Group::Many(many) => many.of_kind(kind),
         }
     }
 
     /// Its CNAME records, else those of the TYPE (RFC 1034, section 3.6.2).
-    pub(crate) fn data(&self, kind: u16) -> &[LocalRecord]
+    pub(crate) fn data_for(&self, kind: u16) -> &[LocalRecord]
         ensures { result.now ≡ or_list (of_kind CNAME (records_held self.now)) (of_kind kind (records_held self.now)) }
     {
-        let aliases = self.of(CNAME);
+        let aliases = self.of_kind(CNAME);
         if aliases.is_empty() {
-            return self.of(kind);
+            return self.of_kind(kind);
         }
         aliases
     }
 
     /// Puts a record behind those of its TYPE. If memory is refused, nothing has changed.
     pub(crate) fn push(&mut self, alloc: Global, new: LocalRecord) -> Result<(), NoMemory>
-        ensures ok { OnOk result ((all : List Record) → HoldSame (records_held self.old) all → HoldSame (records_held self.new) (all ++ new ∷ [])) }
+        ensures ok { OnOk result ((all : List Record) → HoldSame (records_held self.old) all →
+            HoldSame (records_held self.new) (all ++ new ∷ [])) }
         ensures err { OnErr result (records_held self.new ≡ records_held self.old) }
     {
         match mem::replace(self, Group::Empty) {

@@ -18,7 +18,7 @@ use dns_name::Name;
 use indexmap::IndexMap;
 
 /// How many records an owner has, by the index.
-pub(crate) fn count_in(owners: &IndexMap<Name, Group>, owner: &Name) -> u64
+pub(crate) fn many_in(owners: &IndexMap<Name, Group>, owner: &Name) -> u64
     ensures { (records : List Record) → AreIndexed records owners.now.entries → result ≡ length (of_owner owner.now records) }
 {
     match owners.get(owner) {
@@ -36,7 +36,7 @@ pub(crate) fn set_in<'a>(
     ensures { (records : List Record) → AreIndexed records owners.now.entries → result.now ≡ set_of owner.now kind records }
 {
     match owners.get(owner) {
-        Some(group) => group.of(kind),
+        Some(group) => group.of_kind(kind),
         None => &[],
     }
 }
@@ -50,7 +50,7 @@ pub(crate) fn data_in<'a>(
     ensures { (records : List Record) → AreIndexed records owners.now.entries → result.now ≡ data_for owner.now kind records }
 {
     match owners.get(owner) {
-        Some(group) => group.data(kind),
+        Some(group) => group.data_for(kind),
         None => &[],
     }
 }

@@ -31,7 +31,7 @@ pub struct ShownRecord<'a> {
     pub body: &'a Data,
 }
 
-/// The records of a set that are still to come, in order, each shown with the owner `shown`. It takes no memory.
+/// The records of an answer that are still to come, in order, each shown with the owner `shown`. It takes no memory.
 #[derive(Drop)]
 pub struct LocalSet<'a> {
     pub(crate) records: &'a [LocalRecord],

@@ -1,9 +1,8 @@
 //! The records of one owner and TYPE on the other side of a change, read through those of this side.
 
-ghost use Rattle.std.specs.Prelude.{◌≡◌, ◌==◌, ◌++◌, ◌∷◌, [], Some, IfOk, length, map, slice_get};
+ghost use Rattle.std.specs.Prelude.{◌≡◌, ◌==◌, ◌++◌, ◌∷◌, [], None, Some, IfOk, IsOk, length, map, slice_get};
 ghost use Rattle.std.specs.Option.{option_map};
-ghost use Rattle.local_zone.specs.OtherSet.{timed_as};
-ghost use Rattle.local_zone.specs.Show.{shown_as};
+ghost use Rattle.local_zone.specs.Show.{shown_as, timed_as};
 
 use crate::record::LocalRecord;
 use crate::shared_answer::{SeenRecord, share_set};
@@ -12,19 +11,10 @@ use dns_text::{Items, Record, Shared, Ttl};
 use std::alloc::Global;
 use std::marker::Model;
 
-/// A share of a record, with another TTL if there is one. It takes no memory.
-pub(crate) fn share_timed(r: &LocalRecord, ttl: Option<Ttl>) -> Result<LocalRecord, NoMemory>
-    ensures { IfOk result (λ shared. shared ≡ timed_as ttl r.now) }
-{
-    match ttl {
-        Some(ttl) => r.with_ttl(ttl),
-        None => r.share(),
-    }
-}
-
 /// The record as one of the table, if there is one. It takes no memory.
 fn share_last(last: Option<&Shared<Record>>) -> Result<Option<LocalRecord>, NoMemory>
-    ensures { IfOk result (λ shared. shared ≡ option_map (λ r. r.now) last.entry) }
+    ensures ok { IfOk result (λ shared. shared ≡ option_map (λ r. r.now) last.entry) }
+    ensures free { last.entry ≡ None → IsOk result }
 {
     match last {
         Some(new) => Ok(Some(LocalRecord::new(new.share()?))),
@@ -44,7 +34,8 @@ pub(crate) struct OtherSet<'a> {
 impl<'a> Model for OtherSet<'a> {
     ghost use Rattle.std.specs.Prelude.{List, map};
     ghost use Rattle.dns_text.specs.declared.record.Record.{Record};
-    ghost use Rattle.local_zone.specs.OtherSet.{timed_as, with_last};
+    ghost use Rattle.local_zone.specs.OtherSet.{with_last};
+    ghost use Rattle.local_zone.specs.Show.{timed_as};
 
     ghost Value = { List Record };
 
@@ -85,6 +76,16 @@ impl<'a> OtherSet<'a> {
         }
     }
 
+    /// How many records there are.
+    fn len(&self) -> usize
+        ensures { result ≡ length self.now }
+    {
+        match self.last {
+            Some(_) => self.records.len() + 1,
+            None => self.records.len(),
+        }
+    }
+
     /// Whether the set has no record.
     pub(crate) fn is_empty(&self) -> bool
         ensures { result ≡ (length self.now == 0) }
@@ -94,10 +95,11 @@ impl<'a> OtherSet<'a> {
 
     /// A share of the first record.
     pub(crate) fn share_first(&self) -> Result<Option<LocalRecord>, NoMemory>
-        ensures { IfOk result (λ first. first ≡ slice_get self.now 0) }
+        ensures ok { IfOk result (λ first. first ≡ slice_get self.now 0) }
+        ensures free { self.now ≡ [] → IsOk result }
     {
         match self.records.first() {
-            Some(first) => Ok(Some(share_timed(first, self.ttl)?)),
+            Some(first) => Ok(Some(first.share_timed(self.ttl)?)),
             None => share_last(self.last),
         }
     }
@@ -110,9 +112,9 @@ impl<'a> OtherSet<'a> {
     ) -> Result<Items<SeenRecord>, NoMemory>
         ensures { IfOk result (λ items. items ≡ map (shown_as shown.now) self.now) }
     {
-        let mut seen = share_set(alloc, self.records, self.ttl, shown)?;
+        let mut seen = share_set(alloc, self.records, self.ttl, shown, self.len())?;
         if let Some(last) = share_last(self.last)? {
-            seen.push(SeenRecord::of(shown, last)?)?;
+            seen.push_reserved(SeenRecord::new(shown, last)?);
         }
         Ok(Items::new(seen))
     }

@@ -1,11 +1,12 @@
-//! The tables on the other side of a change, read through this side and the way there. Nothing changes, and no step grows with the table.
+//! The tables on the other side of a change, read through this side and the way there. Nothing changes, and no step passes over
+//! records of other sets.
 
 ghost use Rattle.std.specs.Prelude.{◌≡◌};
 ghost use Rattle.std.specs.Option.{option_map};
 ghost use Rattle.local_zone.specs.Answer.{has_record};
 ghost use Rattle.local_zone.specs.Closest.{closest};
 ghost use Rattle.local_zone.specs.Count.{count_of};
-ghost use Rattle.local_zone.specs.Show.{set_of};
+ghost use Rattle.local_zone.specs.Show.{data_for, set_of};
 
 use crate::added::RecordTurn;
 use crate::counts_below::CountsBelow;
@@ -20,6 +21,7 @@ use crate::zone::Zone;
 use crate::zoned::count_over;
 use crate::zones::closest_over;
 use dns_name::Name;
+use dns_text::types::CNAME;
 use named_list::NamedList;
 use std::marker::Model;
 
@@ -52,20 +54,32 @@ impl<'a> OtherSide<'a> {
     }
 
     /// The records of an owner and TYPE, in order. It takes no memory.
-    pub(crate) fn set(&self, owner: &Name, kind: u16) -> OtherSet<'a>
+    pub(crate) fn set_of(&self, owner: &Name, kind: u16) -> OtherSet<'a>
         ensures { result ≡ set_of owner.now kind self.now.records }
     {
         let records = self.records;
-        let own = records.set(owner, kind);
+        let own = records.set_of(owner, kind);
         match &self.saved.records {
             RecordTurn::Nothing => OtherSet::same(own),
             RecordTurn::Added(added) => set_before(own, added, owner, kind),
             RecordTurn::Adds(new) => set_with(own, new, owner, kind),
             RecordTurn::Removed(removed) => set_back(own, removed, owner, kind),
             RecordTurn::Removes(gaps) => {
-                set_left(self.zones, &self.saved.zones, records, gaps, owner, kind)
+                let all = records.as_slice();
+                set_left(own, self.zones, &self.saved.zones, all, gaps, owner, kind)
             }
         }
+    }
+
+    /// The CNAME of an owner, else its records of the TYPE.
+    pub(crate) fn data_for(&self, owner: &Name, kind: u16) -> OtherSet<'a>
+        ensures { result ≡ data_for owner.now kind self.now.records }
+    {
+        let aliases = self.set_of(owner, CNAME);
+        if aliases.is_empty() {
+            return self.set_of(owner, kind);
+        }
+        aliases
     }
 
     /// Whether an owner has a record.
@@ -80,7 +94,8 @@ impl<'a> OtherSide<'a> {
             RecordTurn::Adds(new) => has_with(count, new.get(), owner),
             RecordTurn::Removed(removed) => has_back(count, removed, owner),
             RecordTurn::Removes(gaps) => {
-                has_left(self.zones, &self.saved.zones, records, gaps, owner)
+                let all = records.as_slice();
+                has_left(count, self.zones, &self.saved.zones, all, gaps, owner)
             }
         }
     }

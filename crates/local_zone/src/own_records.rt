@@ -19,7 +19,6 @@ ghost use Rattle.named_list.specs.Turn.{other_of, HasPlace};
 use crate::added::Added;
 use crate::other_set::OtherSet;
 use crate::record::LocalRecord;
-use crate::record_list::RecordList;
 use crate::records::is_among;
 use crate::removed::Removed;
 use crate::zone::Zone;
@@ -30,7 +29,7 @@ use dns_text::{Record, Shared};
 use named_list::{NamedList, Turn};
 
 /// Whether a record is of this owner and TYPE.
-fn is_of(said: &Record, owner: &Name, kind: u16) -> bool
+fn is_for(said: &Record, owner: &Name, kind: u16) -> bool
     ensures { result ≡ is_for owner.now kind said.now }
 {
     said.kind == kind && said.owner == *owner
@@ -56,7 +55,7 @@ pub(crate) fn set_before<'a>(
     ensures { (records : List Record) → GoesBack (RecordTurn.Added added.now) records →
         own.now ≡ set_of owner.now kind records → result ≡ set_of owner.now kind (records_before added.now records) }
 {
-    if is_of(added.said.get(), owner, kind) {
+    if is_for(added.said.get(), owner, kind) {
         return OtherSet::timed(front_of(own, added.is_new), added.ttl);
     }
     OtherSet::same(own)
@@ -73,7 +72,7 @@ pub(crate) fn set_with<'a>(
         own.now ≡ set_of owner.now kind records → result ≡ set_of owner.now kind (records_with new.now records) }
 {
     let said = new.get();
-    if is_of(said, owner, kind) {
+    if is_for(said, owner, kind) {
         if is_among(own, said) {
             return OtherSet::timed(own, said.ttl);
         }
@@ -93,7 +92,7 @@ pub(crate) fn set_back<'a>(
         own.now ≡ set_of owner.now kind records → result ≡ set_of owner.now kind (put_back removed.now records) }
 {
     if own.is_empty() {
-        return OtherSet::same(removed.set(owner, kind));
+        return OtherSet::same(removed.set_of(owner, kind));
     }
     OtherSet::same(own)
 }
@@ -165,9 +164,10 @@ fn is_taken(
 
 /// The records of a set, or none if a removal takes those at the gaps with them.
 pub(crate) fn set_left<'a>(
+    own: &'a [LocalRecord],
     zones: &NamedList<Zone>,
     turn: &Turn<Zone>,
-    records: &'a RecordList,
+    records: &[LocalRecord],
     gaps: &[usize],
     owner: &Name,
     kind: u16,
@@ -177,12 +177,15 @@ pub(crate) fn set_left<'a>(
     requires apart { AreApart (at_gaps gaps.now records.now) (rest_of gaps.now records.now) }
     requires removal { IsRemoval (record { zones = zones.now; records = records.now })
         (record { zones = other_of turn.now zones.now; records = rest_of gaps.now records.now }) }
-    ensures { result ≡ set_of owner.now kind (rest_of gaps.now records.now) }
+    ensures { own.now ≡ set_of owner.now kind records.now → result ≡ set_of owner.now kind (rest_of gaps.now records.now) }
 {
-    if is_taken(zones, turn, records.as_slice(), gaps, owner) {
+    if own.is_empty() {
+        return OtherSet::same(own);
+    }
+    if is_taken(zones, turn, records, gaps, owner) {
         return OtherSet::same(&[]);
     }
-    OtherSet::same(records.set(owner, kind))
+    OtherSet::same(own)
 }
 
 /// Whether a record that was added is new, and of this owner.
@@ -221,9 +224,10 @@ pub(crate) fn has_back(count: u64, removed: &Removed, owner: &Name) -> bool
 
 /// Whether an owner has a record, unless a removal takes those at the gaps with it.
 pub(crate) fn has_left(
+    count: u64,
     zones: &NamedList<Zone>,
     turn: &Turn<Zone>,
-    records: &RecordList,
+    records: &[LocalRecord],
     gaps: &[usize],
     owner: &Name,
 ) -> bool
@@ -232,10 +236,10 @@ pub(crate) fn has_left(
     requires apart { AreApart (at_gaps gaps.now records.now) (rest_of gaps.now records.now) }
     requires removal { IsRemoval (record { zones = zones.now; records = records.now })
         (record { zones = other_of turn.now zones.now; records = rest_of gaps.now records.now }) }
-    ensures { result ≡ has_record owner.now (rest_of gaps.now records.now) }
+    ensures { count ≡ length (of_owner owner.now records.now) → result ≡ has_record owner.now (rest_of gaps.now records.now) }
 {
-    if is_taken(zones, turn, records.as_slice(), gaps, owner) {
+    if count == 0 {
         return false;
     }
-    records.count_of(owner) > 0
+    !is_taken(zones, turn, records, gaps, owner)
 }

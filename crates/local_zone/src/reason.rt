@@ -52,11 +52,11 @@ fn is_below_redirect(zones: &NamedList<Zone>, owner: &Name) -> bool
     }
 }
 
-/// Whether a CNAME would not be alone at the owner. Numbers tell: no record is read.
+/// Whether a CNAME would not be alone at the owner. Two numbers tell.
 fn clashes(zones: &NamedList<Zone>, records: &RecordList, new: &Record) -> bool
     ensures { result ≡ clashes new.now (record { zones = zones.now; records = records.now }) }
 {
-    let aliases = records.set(&new.owner, CNAME).len() as u64;
+    let aliases = records.set_of(&new.owner, CNAME).len() as u64;
     if is_cname(new.kind) {
         aliases < records.count_of(&new.owner)
     } else {

@@ -1,6 +1,8 @@
 //! A record of the table.
 
-ghost use Rattle.std.specs.Prelude.{◌≡◌, IfOk};
+ghost use Rattle.std.specs.Prelude.{◌≡◌, IfOk, map};
+ghost use Rattle.local_zone.specs.Change.{retimed_by};
+ghost use Rattle.local_zone.specs.Show.{timed_as};
 
 use crate::mask::mask_of;
 use crate::sought::Sought;
@@ -70,6 +72,16 @@ impl LocalRecord {
             tag: self.tag,
             mask: self.mask,
         })
+    }
+
+    /// A share of the record, with another TTL if there is one. It takes no memory.
+    pub(crate) fn share_timed(&self, ttl: Option<Ttl>) -> Result<LocalRecord, NoMemory>
+        ensures { IfOk result (λ shared. shared ≡ timed_as ttl self.now) }
+    {
+        match ttl {
+            Some(ttl) => self.with_ttl(ttl),
+            None => self.share(),
+        }
     }
 
     pub(crate) fn set_ttl(&mut self, ttl: Ttl)
@@ -148,6 +160,19 @@ impl LocalRecord {
     {
         // RDATA first: most are shorter than owners, so comparing them is faster.
         *self.body() == other.body && self.is_of_set(other)
+    }
+}
+
+/// Gives the records of a set a TTL.
+pub(crate) fn retime_each(records: &mut [LocalRecord], set: &Record, ttl: Ttl)
+    ensures { records.new ≡ map (retimed_by (record set.now { ttl = ttl })) records.old }
+{
+    let tag = tag_of(&set.owner);
+    for i in 0..records.len() {
+        let r = &mut records[i];
+        if r.is_of_tagged_set(tag, set) {
+            r.set_ttl(ttl);
+        }
     }
 }
 

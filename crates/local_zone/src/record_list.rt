@@ -17,12 +17,11 @@ ghost use Rattle.local_zone.specs.Show.{data_for, set_of};
 
 use crate::counts_below::CountsBelow;
 use crate::group::Group;
-use crate::groups::{count_in, data_in, move_groups, put_groups, set_in};
+use crate::groups::{data_in, many_in, move_groups, put_groups, set_in};
 use crate::in_place::{moves_in_place, put_few, take_few};
 use crate::passes::{push_gaps, put_pass, take_pass};
-use crate::record::LocalRecord;
+use crate::record::{LocalRecord, retime_each};
 use crate::removed::Removed;
-use crate::tag::tag_of;
 use crate::taken::Taken;
 use dns_name::{Name, NoMemory};
 use dns_text::{Record, Ttl};
@@ -31,13 +30,14 @@ use std::alloc::Global;
 use std::marker::Model;
 use std::mem;
 
-/// Puts a record last in the group of its owner.
+/// Puts a record into the group of its owner.
 fn index_last(
     alloc: Global,
     owners: &mut IndexMap<Name, Group>,
     new: LocalRecord,
 ) -> Result<(), NoMemory>
-    ensures ok { OnOk result ((records : List Record) → AreGrouped records owners.old.entries → AreGrouped (records ++ new ∷ []) owners.new.entries) }
+    ensures ok { OnOk result ((records : List Record) → AreGrouped records owners.old.entries →
+        AreGrouped (records ++ new ∷ []) owners.new.entries) }
     ensures err { OnErr result ((records : List Record) → AreGrouped records owners.old.entries → AreGrouped records owners.new.entries) }
 {
     match owners.get_mut(new.owner()) {
@@ -49,7 +49,8 @@ fn index_last(
 /// Makes the group of an owner with its first record.
 fn index_first(owners: &mut IndexMap<Name, Group>, new: LocalRecord) -> Result<(), NoMemory>
     requires { group_of new.owner owners.old.entries ≡ None }
-    ensures ok { OnOk result ((records : List Record) → AreGrouped records owners.old.entries → AreGrouped (records ++ new ∷ []) owners.new.entries) }
+    ensures ok { OnOk result ((records : List Record) → AreGrouped records owners.old.entries →
+        AreGrouped (records ++ new ∷ []) owners.new.entries) }
     ensures err { OnErr result (owners.new.entries ≡ owners.old.entries) }
 {
     let key = new.owner().clone()?;
@@ -65,19 +66,6 @@ fn has_other_ttl(records: &[LocalRecord], set: &Record, ttl: Ttl) -> bool
     records
         .iter()
         .any(|r| r.ttl().seconds() != ttl.seconds() && r.is_of_set(set))
-}
-
-/// Gives the records of a set a TTL.
-pub(crate) fn retime_each(records: &mut [LocalRecord], set: &Record, ttl: Ttl)
-    ensures { records.new ≡ map (retimed_by (record set.now { ttl = ttl })) records.old }
-{
-    let tag = tag_of(&set.owner);
-    for i in 0..records.len() {
-        let r = &mut records[i];
-        if r.is_of_tagged_set(tag, set) {
-            r.set_ttl(ttl);
-        }
-    }
 }
 
 /// Gives the records of a set in the index a TTL.
@@ -246,18 +234,18 @@ impl RecordList {
     pub(crate) fn count_of(&self, owner: &Name) -> u64
         ensures { result ≡ length (of_owner owner.now self.now) }
     {
-        count_in(&self.owners, owner)
+        many_in(&self.owners, owner)
     }
 
     /// The records of an owner and TYPE, in order. It passes over no others.
-    pub(crate) fn set(&self, owner: &Name, kind: u16) -> &[LocalRecord]
+    pub(crate) fn set_of(&self, owner: &Name, kind: u16) -> &[LocalRecord]
         ensures { result.now ≡ set_of owner.now kind self.now }
     {
         set_in(&self.owners, owner, kind)
     }
 
     /// The CNAME of an owner, else its records of the TYPE.
-    pub(crate) fn data(&self, owner: &Name, kind: u16) -> &[LocalRecord]
+    pub(crate) fn data_for(&self, owner: &Name, kind: u16) -> &[LocalRecord]
         ensures { result.now ≡ data_for owner.now kind self.now }
     {
         data_in(&self.owners, owner, kind)
@@ -294,7 +282,7 @@ impl RecordList {
     pub(crate) fn retime(&mut self, set: &Record, ttl: Ttl)
         ensures { self.new ≡ map (retimed_by (record set.now { ttl = ttl })) self.old }
     {
-        if has_other_ttl(self.set(&set.owner, set.kind), set, ttl) {
+        if has_other_ttl(self.set_of(&set.owner, set.kind), set, ttl) {
             retime_each(self.list.as_mut_slice(), set, ttl);
             retime_index(&mut self.owners, set, ttl);
         }

@@ -41,7 +41,7 @@ pub(crate) fn is_among(records: &[LocalRecord], new: &Record) -> bool
 pub(crate) fn is_there(records: &RecordList, new: &Record) -> bool
     ensures { result ≡ is_there records.now new.now }
 {
-    is_among(records.set(&new.owner, new.kind), new)
+    is_among(records.set_of(&new.owner, new.kind), new)
 }
 
 /// Whether there would be too many records with the new one.
@@ -56,7 +56,7 @@ pub(crate) fn has_no_room(records: &RecordList, new: &Record) -> bool
 fn ttl_of(records: &RecordList, new: &Record) -> Ttl
     ensures { result ≡ ttl_of new.now records.now }
 {
-    match records.set(&new.owner, new.kind).first() {
+    match records.set_of(&new.owner, new.kind).first() {
         Some(r) => r.ttl(),
         None => new.ttl,
     }

@@ -2,7 +2,7 @@
 
 use crate::counts_below::CountsBelow;
 use crate::group::Group;
-use crate::groups::{count_in, set_in};
+use crate::groups::{many_in, set_in};
 use crate::record::LocalRecord;
 use crate::taken::Taken;
 use dns_name::Name;
@@ -45,11 +45,11 @@ impl Removed {
     pub(crate) fn count_of(&self, owner: &Name) -> u64
         ensures { result ≡ length (of_owner owner.now (records_of self.now)) }
     {
-        count_in(&self.groups, owner)
+        many_in(&self.groups, owner)
     }
 
     /// The records of an owner and TYPE, in order.
-    pub(crate) fn set(&self, owner: &Name, kind: u16) -> &[LocalRecord]
+    pub(crate) fn set_of(&self, owner: &Name, kind: u16) -> &[LocalRecord]
         ensures { result.now ≡ set_of owner.now kind (records_of self.now) }
     {
         set_in(&self.groups, owner, kind)

@@ -7,8 +7,7 @@ ghost use Rattle.local_zone.specs.Change.{retimed_by};
 ghost use Rattle.local_zone.specs.Index.{of_kind, HoldSame};
 ghost use Rattle.local_zone.specs.Sets.{AreInOrder};
 
-use crate::record::LocalRecord;
-use crate::record_list::retime_each;
+use crate::record::{LocalRecord, retime_each};
 use dns_name::NoMemory;
 use dns_text::{Record, Ttl};
 use std::alloc::Global;
@@ -34,7 +33,7 @@ fn count_up_to(records: &[LocalRecord], kind: u16) -> usize
     records.partition_point(|r| r.kind() <= kind)
 }
 
-/// Records by TYPE, and those of one TYPE in the order of arrival. So a set is found without reading the others.
+/// Records by TYPE, and those of one TYPE in the order of arrival. So a set is found by halving.
 #[derive(Drop)]
 pub(crate) struct Sets {
     records: Vec<LocalRecord>,
@@ -76,7 +75,7 @@ impl Sets {
     }
 
     /// The records of a TYPE, in order.
-    pub(crate) fn of(&self, kind: u16) -> &[LocalRecord]
+    pub(crate) fn of_kind(&self, kind: u16) -> &[LocalRecord]
         ensures { result.now ≡ of_kind kind self.now }
     {
         let first = count_lower(&self.records, kind);
@@ -89,17 +88,17 @@ impl Sets {
         ensures ok { OnOk result ((all : List Record) → HoldSame self.old all → HoldSame self.new (all ++ new ∷ [])) }
         ensures err { OnErr result (self.new ≡ self.old) }
     {
-        self.records.reserve(1)?;
         let end = count_up_to(&self.records, new.kind());
         Ok(self.records.insert(end, new)?)
     }
 
     /// Takes the last record of a TYPE out. It takes no memory.
     pub(crate) fn pop(&mut self, kind: u16)
-        ensures { (front : List Record) (last : Record) → last.kind ≡ kind → HoldSame self.old (front ++ last ∷ []) → HoldSame self.new front }
+        ensures { (front : List Record) (last : Record) → last.kind ≡ kind → HoldSame self.old (front ++ last ∷ []) →
+            HoldSame self.new front }
     {
         let end = count_up_to(&self.records, kind);
-        if count_lower(&self.records, kind) < end {
+        if end > 0 && self.records[end - 1].kind() == kind {
             self.records.remove(end - 1);
         }
     }

@@ -1,11 +1,10 @@
 //! An answer that shares the table's records, so that it outlives a borrow of the table.
 
-ghost use Rattle.std.specs.Prelude.{◌≡◌, IfOk, map};
-ghost use Rattle.local_zone.specs.OtherSet.{timed_as};
-ghost use Rattle.local_zone.specs.Show.{shown_as};
+ghost use Rattle.std.specs.Prelude.{◌≡◌, ◌≤◌, IfOk, length, map};
+ghost use Rattle.std.specs.Vec.{vec_len, vec_capacity};
+ghost use Rattle.local_zone.specs.Show.{shown_as, timed_as};
 
 use crate::local_answer::LocalSet;
-use crate::other_set::share_timed;
 use crate::record::LocalRecord;
 use dns_name::{Name, NoMemory};
 use dns_text::{Data, Items, Record, Ttl};
@@ -29,7 +28,8 @@ impl Model for SeenRecord {
 }
 
 impl SeenRecord {
-    pub(crate) fn of(owner: &Name, said: LocalRecord) -> Result<SeenRecord, NoMemory>
+    /// A record, shown as one of `owner`.
+    pub(crate) fn new(owner: &Name, said: LocalRecord) -> Result<SeenRecord, NoMemory>
         ensures { IfOk result (λ r. r ≡ shown_as owner.now said) }
     {
         Ok(SeenRecord {
@@ -42,7 +42,7 @@ impl SeenRecord {
     pub fn share(&self) -> Result<SeenRecord, NoMemory>
         ensures { IfOk result (λ r. r ≡ self.now) }
     {
-        SeenRecord::of(&self.owner, self.said.share()?)
+        SeenRecord::new(&self.owner, self.said.share()?)
     }
 
     /// The owner that the answer shows.
@@ -89,18 +89,23 @@ impl PartialEq for SeenRecord {
     }
 }
 
-/// Shares of the records, all with another TTL if there is one, each shown as one of `shown`.
+/// Shares of the records, all with another TTL if there is one, each shown as one of `shown`, in a vector
+/// with this room.
 pub(crate) fn share_set(
     alloc: Global,
     records: &[LocalRecord],
     ttl: Option<Ttl>,
     shown: &Name,
+    room: usize,
 ) -> Result<Vec<SeenRecord>, NoMemory>
-    ensures { IfOk result (λ v. v.items ≡ map (λ r. shown_as shown.now (timed_as ttl r)) records.now) }
+    requires { length records.now ≤ room }
+    ensures items { IfOk result (λ v. v.items ≡ map (λ r. shown_as shown.now (timed_as ttl r)) records.now) }
+    ensures len { IfOk result (λ v. vec_len v ≡ length records.now) }
+    ensures room { IfOk result (λ v. vec_capacity v ≡ room) }
 {
-    let mut seen = Vec::with_capacity(alloc, records.len())?;
+    let mut seen = Vec::with_capacity(alloc, room)?;
     for r in records {
-        seen.push(SeenRecord::of(shown, share_timed(r, ttl)?)?)?;
+        seen.push_reserved(SeenRecord::new(shown, r.share_timed(ttl)?)?);
     }
     Ok(seen)
 }
@@ -110,7 +115,7 @@ impl LocalSet<'_> {
     pub fn to_items(&self, alloc: Global) -> Result<Items<SeenRecord>, NoMemory>
         ensures { IfOk result (λ items. items ≡ self.now) }
     {
-        let seen = share_set(alloc, self.records, None, self.shown)?;
+        let seen = share_set(alloc, self.records, None, self.shown, self.records.len())?;
         Ok(Items::new(seen))
     }
 }

@@ -57,7 +57,7 @@ impl Model for ZoneTable {
 
 impl ZoneTable {
     ghost use Rattle.local_zone.specs.Tables.{Tables};
-    ghost use Rattle.local_zone.specs.Answer.{local_now, local_of};
+    ghost use Rattle.local_zone.specs.Answer.{carries_record, local_now, local_of};
     ghost use Rattle.local_zone.specs.Change.{after_set, after_drop, after_add, after_drop_name, has_zone};
     ghost use Rattle.local_zone.specs.Reason.{reason_of_set, reason_of_add, IsFaultFor};
     ghost use Rattle.local_zone.specs.Saved.{before_of, needs_memory, needs_memory_after, TakesBack};
@@ -310,14 +310,15 @@ impl ZoneTable {
     }
 
     /// The answer to a question as `answer` would give it after `back`, or `again`, with this saved value. Nothing changes. It takes memory
-    /// only for the records that it shares.
+    /// only for the records that it shares, so an answer without records needs none.
     pub fn answer_over(
         &self,
         saved: &SavedTables,
         question: &Question,
     ) -> Result<Local<Items<SeenRecord>, LocalRecord>, NoMemory>
         requires { (other : Tables) × TakesBack saved.now self.now other }
-        ensures { IfOk result (λ answer. answer ≡ local_of (before_of saved.now self.now) question.now) }
+        ensures ok { IfOk result (λ answer. answer ≡ local_of (before_of saved.now self.now) question.now) }
+        ensures free { carries_record (local_of (before_of saved.now self.now) question.now) ≡ false → IsOk result }
     {
         let side = OtherSide {
             zones: &self.zones,

@@ -7,10 +7,10 @@ use Rattle.local_zone.proofs.answer.data_of.Goals as goal
 
 pub returns-then-is_empty : goal.returns-then-is_empty
 returns-then-is_empty c =
-    none_shown c.args.asked.now c.data-set.result.now (sym c.is_empty.ensures ∙ c.if-is_empty.true)
-    ∙ ap (λ (rs : List Record). unless_empty (map (shown_as c.args.asked.now) rs)) c.data-set.ensures
+    none_shown c.args.asked.now c.data_for-set.result.now (sym c.is_empty.ensures ∙ c.if-is_empty.true)
+    ∙ ap (λ (rs : List Record). unless_empty (map (shown_as c.args.asked.now) rs)) c.data_for-set.ensures
 
 pub returns : goal.returns
 returns c =
-    set_shown c.args.asked.now c.data-set.result.now (sym c.is_empty.ensures ∙ c.if-is_empty.false)
-    ∙ ap (λ (rs : List Record). unless_empty (map (shown_as c.args.asked.now) rs)) c.data-set.ensures
+    set_shown c.args.asked.now c.data_for-set.result.now (sym c.is_empty.ensures ∙ c.if-is_empty.false)
+    ∙ ap (λ (rs : List Record). unless_empty (map (shown_as c.args.asked.now) rs)) c.data_for-set.ensures

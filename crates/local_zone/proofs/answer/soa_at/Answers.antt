@@ -6,4 +6,4 @@ use Rattle.local_zone.proofs.SetLaws.{find_first}
 use Rattle.local_zone.proofs.answer.soa_at.Goals as goal
 
 pub returns : goal.returns
-returns c = c.first.ensures.value ∙ ap (λ (rs : List Record). slice_get rs 0) c.set.ensures ∙ sym (find_first (is_for c.args.name.now SOA) c.args.records.now)
+returns c = c.first.ensures.value ∙ ap (λ (rs : List Record). slice_get rs 0) c.set_of.ensures ∙ sym (find_first (is_for c.args.name.now SOA) c.args.records.now)

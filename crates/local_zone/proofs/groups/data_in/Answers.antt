@@ -24,7 +24,7 @@ pub returns-in-Some : goal.returns-in-Some
 returns-in-Some c records h =
     let owner = c.args.owner.now in
     let held = of-found octets items records c.args.owners.now.entries owner (octets_of owner) (Some c.in-Some.group.now) h refl (sym c.in-Some.ensures.value) in
-    c.«data».ensures ∙ data_is owner c.args.kind records (records_held c.in-Some.group.now) held
+    c.data_for.ensures ∙ data_is owner c.args.kind records (records_held c.in-Some.group.now) held
 
 pub returns-in-None : goal.returns-in-None
 returns-in-None c records h =

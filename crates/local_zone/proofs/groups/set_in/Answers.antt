@@ -16,7 +16,7 @@ pub returns-in-Some : goal.returns-in-Some
 returns-in-Some c records h =
     let owner = c.args.owner.now in
     let held = of-found octets items records c.args.owners.now.entries owner (octets_of owner) (Some c.in-Some.group.now) h refl (sym c.in-Some.ensures.value) in
-    c.of.ensures ∙ held.sets c.args.kind ∙ sym (set-of-owner owner c.args.kind records)
+    c.of_kind.ensures ∙ held.sets c.args.kind ∙ sym (set-of-owner owner c.args.kind records)
 
 pub returns-in-None : goal.returns-in-None
 returns-in-None c records h =

@@ -1,20 +1,12 @@
-use Rattle.std.proofs.Common.{List, [], cond, true, false, nat_lt, ap, ◌∙◌}
-use Rattle.dns_text.specs.declared.record.Record.{Record}
+use Rattle.std.proofs.Common.{sym, ◌∙◌, arith}
 use Rattle.local_zone.specs.Gaps.{rest_of}
-use Rattle.local_zone.specs.Index.{of_owner}
-use Rattle.local_zone.proofs.OtherSetLaws.{left_has}
+use Rattle.local_zone.proofs.OtherSetLaws.{left_has, left_without}
 use Rattle.local_zone.proofs.own_records.has_left.Goals as goal
 
-pub returns-then-is_taken : goal.returns-then-is_taken
-returns-then-is_taken c =
-    let records : List Record = c.args.records.now in
-    let taken = c.is_taken.ensures in
-    left_has c.args.owner.now true (rest_of c.args.gaps.now records) records
-    ((rw c.as_slice.ensures at taken) ∙ ap (λ b. cond b [] (of_owner c.args.owner.now records)) c.if-is_taken.true)
+pub returns-then-count-eq0 : goal.returns-then-count-eq0
+returns-then-count-eq0 c is = left_without c.args.owner.now c.args.gaps.now c.args.records.now c.requires.within (sym is ∙ c.if-count-eq0.true)
 
 pub returns : goal.returns
-returns c =
-    let records : List Record = c.args.records.now in
-    let taken = c.is_taken.ensures in
-    ap (nat_lt 0) c.count_of.ensures ∙ left_has c.args.owner.now false (rest_of c.args.gaps.now records) records
-    ((rw c.as_slice.ensures at taken) ∙ ap (λ b. cond b [] (of_owner c.args.owner.now records)) c.if-is_taken.false)
+returns c is =
+    left_has c.args.owner.now c.is_taken.result (rest_of c.args.gaps.now c.args.records.now) c.args.records.now c.is_taken.ensures
+    (omega (arith, is, c.if-count-eq0.false))

@@ -5,7 +5,7 @@ use Rattle.local_zone.proofs.own_records.set_back.Goals as goal
 pub returns-then-is_empty : goal.returns-then-is_empty
 returns-then-is_empty c records apart is =
     c.same.ensures
-    ∙ c.set.ensures
+    ∙ c.set_of.ensures
     ∙ back_none c.args.owner.now c.args.kind c.args.removed.now records apart (sym is ∙ no_items c.args.own.now (sym c.is_empty.ensures ∙ c.if-is_empty.true))
 
 pub returns : goal.returns

@@ -1,10 +1,11 @@
-use Rattle.std.proofs.Common.{List, nat_lt, refl, ap, sym, ◌∙◌}
+use Rattle.std.proofs.Common.{List, length, nat_lt, refl, ap, sym, ◌∙◌}
 use Rattle.dns_text.specs.declared.record.Record.{Record}
 use Rattle.local_zone.specs.declared.added.RecordTurn.{RecordTurn}
 use Rattle.local_zone.specs.declared.added.RecordTurn.TheVariants.{Added, Removes}
 use Rattle.local_zone.specs.Added.{records_other}
 use Rattle.local_zone.specs.Answer.{has_record}
 use Rattle.local_zone.specs.Change.{records_with}
+use Rattle.local_zone.specs.Index.{of_owner}
 use Rattle.local_zone.specs.Tables.{Tables}
 use Rattle.local_zone.proofs.OtherLaws.{side_goes, side_takes}
 use Rattle.local_zone.proofs.OtherSetLaws.{has_many}
@@ -40,19 +41,19 @@ has_left-requires-clause-fits c = c.self.invariant.back.fits
 
 pub has_left-requires-clause-within : goal.has_left-requires-clause-within
 has_left-requires-clause-within c =
-    rw c.deref.ensures.value (side_goes c.self.inside.saved.now.records (Removes c.in-Removes.gaps) c.self.inside.records.now c.in-Removes.is c.self.invariant.back.goes).0
+    rw (c.deref.ensures.value, c.as_slice-all.ensures) (side_goes c.self.inside.saved.now.records (Removes c.in-Removes.gaps) c.self.inside.records.now c.in-Removes.is c.self.invariant.back.goes).0
 
 pub has_left-requires-clause-apart : goal.has_left-requires-clause-apart
 has_left-requires-clause-apart c =
-    rw c.deref.ensures.value (side_goes c.self.inside.saved.now.records (Removes c.in-Removes.gaps) c.self.inside.records.now c.in-Removes.is c.self.invariant.back.goes).1
+    rw (c.deref.ensures.value, c.as_slice-all.ensures) (side_goes c.self.inside.saved.now.records (Removes c.in-Removes.gaps) c.self.inside.records.now c.in-Removes.is c.self.invariant.back.goes).1
 
 pub has_left-requires-clause-removal : goal.has_left-requires-clause-removal
 has_left-requires-clause-removal c =
-    rw c.deref.ensures.value (side_takes c.self.inside.saved.now c.self.inside.zones.now c.self.inside.records.now (Removes c.in-Removes.gaps) c.in-Removes.is refl c.self.invariant.back)
+    rw (c.deref.ensures.value, c.as_slice-all.ensures) (side_takes c.self.inside.saved.now c.self.inside.zones.now c.self.inside.records.now (Removes c.in-Removes.gaps) c.in-Removes.is refl c.self.invariant.back)
 
 pub returns-in-Removes : goal.returns-in-Removes
 returns-in-Removes c =
     let records : List Record = c.self.inside.records.now in
     let over = ap (λ (x : RecordTurn). has_record c.args.owner.now (records_other x records)) (sym c.in-Removes.is) ∙ ap (λ (t : Tables). has_record c.args.owner.now t.records) c.self.view_is in
-    let left = c.has_left.ensures in
-    (rw c.deref.ensures.value at left) ∙ over
+    let left = c.has_left.ensures (c.count_of-count.ensures ∙ ap (λ (rs : List Record). length (of_owner c.args.owner.now rs)) (sym c.as_slice-all.ensures)) in
+    (rw (c.deref.ensures.value, c.as_slice-all.ensures) at left) ∙ over

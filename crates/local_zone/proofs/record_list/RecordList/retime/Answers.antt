@@ -23,7 +23,7 @@ items g = records_held g
 pub returns-else-has_other_ttl : goal.returns-else-has_other_ttl
 returns-else-has_other_ttl c =
     let new : Record = record c.args.set.now { ttl = c.args.ttl } in
-    let none = ap (λ (rs : List Record). list_any (λ r. is_of_set r new && not (r.ttl == new.ttl)) rs) (sym c.set.ensures) ∙ sym c.has_other_ttl.ensures ∙ c.if-has_other_ttl.false in
+    let none = ap (λ (rs : List Record). list_any (λ r. is_of_set r new && not (r.ttl == new.ttl)) rs) (sym c.set_of.ensures) ∙ sym c.has_other_ttl.ensures ∙ c.if-has_other_ttl.false in
     sym (same-times new c.args.self.now none)
 
 pub invariant_of-self : goal.invariant_of-self

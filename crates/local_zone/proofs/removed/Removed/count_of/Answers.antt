@@ -6,4 +6,4 @@ use Rattle.local_zone.proofs.removed.Removed.count_of.Goals as goal
 
 pub returns : goal.returns
 returns c =
-    c.count_in.ensures (records_of c.self.inside.taken.items) c.self.invariant.0.0 ∙ ap (λ (ts : List Taken). length (of_owner c.args.owner.now (records_of ts))) c.self.view_is
+    c.many_in.ensures (records_of c.self.inside.taken.items) c.self.invariant.0.0 ∙ ap (λ (ts : List Taken). length (of_owner c.args.owner.now (records_of ts))) c.self.view_is

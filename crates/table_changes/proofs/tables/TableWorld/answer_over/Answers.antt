@@ -26,7 +26,7 @@ answer_over-requires c = (
 
 pub returns-in-Zones : goal.returns-in-Zones
 returns-in-Zones c =
-    holds_over c.args.self.now c.args.saved.now (Some c.in-Zones.saved) (λ (t : local.Tables). local_of t c.args.question.now) (λ answer. answer) c.answer_over.result (ap of_zones c.in-Zones.is) c.answer_over.ensures
+    holds_over c.args.self.now c.args.saved.now (Some c.in-Zones.saved) (λ (t : local.Tables). local_of t c.args.question.now) (λ answer. answer) c.answer_over.result (ap of_zones c.in-Zones.is) c.answer_over.ensures.ok
 
 pub returns-in-Stubs : goal.returns-in-Stubs
 returns-in-Stubs c =

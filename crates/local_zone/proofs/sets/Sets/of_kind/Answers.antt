@@ -4,7 +4,7 @@ use Rattle.std.proofs.lemmas.List.{take_all}
 use Rattle.dns_text.specs.declared.record.Record.{Record}
 use Rattle.local_zone.specs.Index.{of_kind}
 use Rattle.local_zone.proofs.OrderLaws.{run_of}
-use Rattle.local_zone.proofs.sets.Sets.of.Goals as goal
+use Rattle.local_zone.proofs.sets.Sets.of_kind.Goals as goal
 
 pub returns : goal.returns
 returns c =

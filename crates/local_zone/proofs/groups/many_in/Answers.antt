@@ -4,7 +4,7 @@ use Rattle.dns_name.specs.Labels.{Labels, octets_of}
 use Rattle.local_zone.specs.declared.group.Group.{Group}
 use Rattle.local_zone.specs.Group.{records_held}
 use Rattle.local_zone.proofs.IndexLaws.{of-found}
-use Rattle.local_zone.proofs.groups.count_in.Goals as goal
+use Rattle.local_zone.proofs.groups.many_in.Goals as goal
 
 abbrev octets : Labels → List ℕ
 octets k = octets_of k

@@ -2,8 +2,8 @@ use Rattle.std.proofs.Common.{ap, sym, ◌∙◌, get_or, cond}
 use Rattle.dns_text.specs.declared.record.Record.{Record}
 use Rattle.local_zone.specs.Change.{retimed_by}
 use Rattle.local_zone.proofs.RetimeLaws.{so_far-more}
-use Rattle.local_zone.proofs.record_list.retime_each.Goals as goal
-use Rattle.local_zone.proofs.record_list.retime_each.Goals.{then-is_of_tagged_set, else-is_of_tagged_set}
+use Rattle.local_zone.proofs.record.retime_each.Goals as goal
+use Rattle.local_zone.proofs.record.retime_each.Goals.{then-is_of_tagged_set, else-is_of_tagged_set}
 
 pub loop-i-preserved : goal.loop-i-preserved
 loop-i-preserved c =

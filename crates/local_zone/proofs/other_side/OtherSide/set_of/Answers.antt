@@ -6,52 +6,52 @@ use Rattle.local_zone.specs.Added.{records_other}
 use Rattle.local_zone.specs.Show.{set_of}
 use Rattle.local_zone.specs.Tables.{Tables}
 use Rattle.local_zone.proofs.OtherLaws.{side_goes, side_takes}
-use Rattle.local_zone.proofs.other_side.OtherSide.set.Goals as goal
+use Rattle.local_zone.proofs.other_side.OtherSide.set_of.Goals as goal
 
 pub returns-in-Nothing : goal.returns-in-Nothing
 returns-in-Nothing c =
     let records : List Record = c.self.inside.records.now in
     let over = ap (λ (x : RecordTurn). set_of c.args.owner.now c.args.kind (records_other x records)) (sym c.in-Nothing.is) ∙ ap (λ (t : Tables). set_of c.args.owner.now c.args.kind t.records) c.self.view_is in
-    c.same.ensures ∙ c.set-own.ensures ∙ over
+    c.same.ensures ∙ c.set_of-own.ensures ∙ over
 
 pub returns-in-Added : goal.returns-in-Added
 returns-in-Added c =
     let records : List Record = c.self.inside.records.now in
     let over = ap (λ (x : RecordTurn). set_of c.args.owner.now c.args.kind (records_other x records)) (sym c.in-Added.is) ∙ ap (λ (t : Tables). set_of c.args.owner.now c.args.kind t.records) c.self.view_is in
     let goes = side_goes c.self.inside.saved.now.records (Added c.in-Added.added) records c.in-Added.is c.self.invariant.back.goes in
-    c.set_before.ensures records goes c.set-own.ensures ∙ over
+    c.set_before.ensures records goes c.set_of-own.ensures ∙ over
 
 pub returns-in-Adds : goal.returns-in-Adds
 returns-in-Adds c =
     let records : List Record = c.self.inside.records.now in
     let over = ap (λ (x : RecordTurn). set_of c.args.owner.now c.args.kind (records_other x records)) (sym c.in-Adds.is) ∙ ap (λ (t : Tables). set_of c.args.owner.now c.args.kind t.records) c.self.view_is in
-    c.set_with.ensures records c.set-own.ensures ∙ over
+    c.set_with.ensures records c.set_of-own.ensures ∙ over
 
 pub returns-in-Removed : goal.returns-in-Removed
 returns-in-Removed c =
     let records : List Record = c.self.inside.records.now in
     let over = ap (λ (x : RecordTurn). set_of c.args.owner.now c.args.kind (records_other x records)) (sym c.in-Removed.is) ∙ ap (λ (t : Tables). set_of c.args.owner.now c.args.kind t.records) c.self.view_is in
     let goes = side_goes c.self.inside.saved.now.records (Removed c.in-Removed.removed) records c.in-Removed.is c.self.invariant.back.goes in
-    c.set_back.ensures records goes.1 c.set-own.ensures ∙ over
+    c.set_back.ensures records goes.1 c.set_of-own.ensures ∙ over
 
 pub set_left-requires-clause-fits : goal.set_left-requires-clause-fits
 set_left-requires-clause-fits c = c.self.invariant.back.fits
 
 pub set_left-requires-clause-within : goal.set_left-requires-clause-within
 set_left-requires-clause-within c =
-    rw c.deref.ensures.value (side_goes c.self.inside.saved.now.records (Removes c.in-Removes.gaps) c.self.inside.records.now c.in-Removes.is c.self.invariant.back.goes).0
+    rw (c.deref.ensures.value, c.as_slice-all.ensures) (side_goes c.self.inside.saved.now.records (Removes c.in-Removes.gaps) c.self.inside.records.now c.in-Removes.is c.self.invariant.back.goes).0
 
 pub set_left-requires-clause-apart : goal.set_left-requires-clause-apart
 set_left-requires-clause-apart c =
-    rw c.deref.ensures.value (side_goes c.self.inside.saved.now.records (Removes c.in-Removes.gaps) c.self.inside.records.now c.in-Removes.is c.self.invariant.back.goes).1
+    rw (c.deref.ensures.value, c.as_slice-all.ensures) (side_goes c.self.inside.saved.now.records (Removes c.in-Removes.gaps) c.self.inside.records.now c.in-Removes.is c.self.invariant.back.goes).1
 
 pub set_left-requires-clause-removal : goal.set_left-requires-clause-removal
 set_left-requires-clause-removal c =
-    rw c.deref.ensures.value (side_takes c.self.inside.saved.now c.self.inside.zones.now c.self.inside.records.now (Removes c.in-Removes.gaps) c.in-Removes.is refl c.self.invariant.back)
+    rw (c.deref.ensures.value, c.as_slice-all.ensures) (side_takes c.self.inside.saved.now c.self.inside.zones.now c.self.inside.records.now (Removes c.in-Removes.gaps) c.in-Removes.is refl c.self.invariant.back)
 
 pub returns-in-Removes : goal.returns-in-Removes
 returns-in-Removes c =
     let records : List Record = c.self.inside.records.now in
     let over = ap (λ (x : RecordTurn). set_of c.args.owner.now c.args.kind (records_other x records)) (sym c.in-Removes.is) ∙ ap (λ (t : Tables). set_of c.args.owner.now c.args.kind t.records) c.self.view_is in
-    let left = c.set_left.ensures in
-    (rw c.deref.ensures.value at left) ∙ over
+    let left = c.set_left.ensures (c.set_of-own.ensures ∙ ap (λ (rs : List Record). set_of c.args.owner.now c.args.kind rs) (sym c.as_slice-all.ensures)) in
+    (rw (c.deref.ensures.value, c.as_slice-all.ensures) at left) ∙ over

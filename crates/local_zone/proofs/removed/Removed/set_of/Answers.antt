@@ -2,7 +2,7 @@ use Rattle.std.proofs.Common.{List, ap, ◌∙◌}
 use Rattle.local_zone.specs.Gaps.{records_of}
 use Rattle.local_zone.specs.Show.{set_of}
 use Rattle.local_zone.specs.declared.taken.Taken.{Taken}
-use Rattle.local_zone.proofs.removed.Removed.set.Goals as goal
+use Rattle.local_zone.proofs.removed.Removed.set_of.Goals as goal
 
 pub returns : goal.returns
 returns c =
