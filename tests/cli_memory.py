@@ -267,16 +267,16 @@ look list_local_zones list_local_data list_stubs list_commands list_buried serve
 """.split()
 
 UNTOUCHED = b"0 entries, 0 calls, 0 cells, seen 0, made 0"
-# A full call log (`RECORDED` in `shared_book_drawn`), and the same once its oldest call has left it.
-FULL_LOG, LOG_LESS_ONE = b"60 entries,", b"59 entries,"
+# The calls of a full call log, by the word for what is called: `RECORDED` and `MOVING` in `shared_book_drawn`.
+MOST_CALLS = {"moving": 2}
 WANT = b"out of memory"
 
 
-def fault_of_steps(whole, done):
+def fault_of_steps(whole, done, most):
     """What is wrong with a run in which an allocation was refused.
 
-    Either the program ended before its first call. Or one call got no memory and changed nothing but that a full call log may have lost
-    its oldest call, and all other replies are as if it had not been made.
+    Either the program ended before its first call. Or one call got no memory and changed nothing but that a full call log, of `most` calls,
+    may have lost its oldest one, and all other replies are as if it had not been made.
     """
     if done.status == 1 and not done.out:
         return None
@@ -287,7 +287,7 @@ def fault_of_steps(whole, done):
     for place in wants:
         before = lines[place - 1].split(b": ")[0] if place else UNTOUCHED
         after = lines.pop(place).split(b": ")[0]
-        if after not in (before, before.replace(FULL_LOG, LOG_LESS_ONE)):
+        if after not in (before, before.replace(b"%d entries," % most, b"%d entries," % (most - 1))):
             return f"after {before!r} a call finds no memory, and leaves {after!r}"
     again = b"\n".join(lines)
     return None if again == whole else difference(again, whole)
@@ -305,7 +305,7 @@ def check_steps(checks, words, kinds, least):
         if not refusals(done):
             break
         wants += done.out.count(b": " + WANT + b"\n")
-        checks.check(f"{name}, allocation {nth} refused", fault_of_steps(whole, done))
+        checks.check(f"{name}, allocation {nth} refused", fault_of_steps(whole, done, MOST_CALLS.get(" ".join(words), 60)))
     checks.check(f"{name} that find no memory", None if wants > least else f"are {wants}")
 
 
@@ -402,6 +402,7 @@ def main():
         check_table(checks, word)
     check_steps(checks, [], KINDS, 60)
     check_steps(checks, ["two"], ["local_zone", "list_local_zones", "undo", "admit", "look"], 6)
+    check_steps(checks, ["moving"], ["undo", "list_local_zones"], 2)
     check_threads(checks)
     check_drawn(checks)
     check_counts(checks)

@@ -46,8 +46,8 @@ fn zones(alloc: Global) -> Result<Shared<Event>, AllocError> {
     Shared::new(alloc, Event::Look { moment: 0, ask })
 }
 
-fn set_zone(alloc: Global) -> Result<Shared<Event>, AllocError> {
-    let Ok(name) = Name::from_text(alloc, b"c") else {
+fn set_zone(alloc: Global, text: &[u8]) -> Result<Shared<Event>, AllocError> {
+    let Ok(name) = Name::from_text(alloc, text) else {
         return Err(AllocError);
     };
     let kind = ZoneType::Static;
@@ -85,7 +85,7 @@ fn look_address(alloc: Global) -> Result<Shared<Event>, AllocError> {
 /// The events of the first caller.
 fn of_the_first(alloc: Global) -> Result<Vec<Shared<Event>>, AllocError> {
     let mut events = Vec::new(alloc);
-    events.push(set_zone(alloc)?)?;
+    events.push(set_zone(alloc, b"c")?)?;
     events.push(zones(alloc)?)?;
     events.push(Shared::new(alloc, Event::Undo { moment: 0 })?)?;
     events.push(zones(alloc)?)?;
@@ -98,6 +98,24 @@ fn of_the_second(alloc: Global) -> Result<Vec<Shared<Event>>, AllocError> {
     events.push(admit(alloc)?)?;
     events.push(look_address(alloc)?)?;
     Ok(events)
+}
+
+/// Two zones are set, the second is taken back, and the zones are looked up.
+fn about_zones(alloc: Global) -> Result<Vec<Shared<Event>>, AllocError> {
+    let mut events = Vec::new(alloc);
+    events.push(set_zone(alloc, b"a")?)?;
+    events.push(set_zone(alloc, b"b")?)?;
+    events.push(Shared::new(alloc, Event::Undo { moment: 0 })?)?;
+    events.push(zones(alloc)?)?;
+    Ok(events)
+}
+
+/// Four events about zones, for a window that has two of them.
+pub fn of_four(alloc: Global) -> Result<Vec<Shared<Event>>, Stop> {
+    match about_zones(alloc) {
+        Ok(events) => Ok(events),
+        Err(_) => Err(Stop),
+    }
 }
 
 /// The events of both, those of the first before those of the second.

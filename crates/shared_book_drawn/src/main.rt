@@ -9,7 +9,7 @@
 //!
 //! For tests/cli_memory.py: with the argument `steps` one caller makes such calls of a book that lies under no lock. With `threads
 //! plain` and `threads shelf` two callers, in threads of their own, call a book that replays or one that keeps no history, and with
-//! `steps two` one caller makes their calls.
+//! `steps two` one caller makes their calls. With `steps moving` one caller makes four calls of a book whose window has two.
 #![tactic(auto)]
 
 ghost use Rattle.std.specs.Prelude.{◌≡◌, []};
@@ -27,7 +27,7 @@ use both::both;
 use callers::{Stop, eight};
 use dns_text::Shared;
 use history::{Book, Event};
-use in_threads::{of_both, two_threads};
+use in_threads::{of_both, of_four, two_threads};
 use replayed::{Closing, closed, plains, shelves};
 use shared_book::{Blank, CallLedger, SharedBook};
 use std::alloc::Global;
@@ -35,7 +35,7 @@ use std::marker::Brand;
 use std::sync::Wait;
 use std::thread::Threads;
 use std::{env, io};
-use steps::{drawn_events, steps};
+use steps::{MOVING, RECORDED, drawn_events, steps};
 use undo_book::{PlainBook, ShelfBook};
 
 /// What closing a book comes to, whose window can have so many calls. None if it is not closed.
@@ -117,11 +117,16 @@ fn compared<R: Print>(rt: &R, alloc: Global, pairs: u64, events: u64) -> io::Res
     println!(rt; "events {}, both books replied alike {}", given, same)
 }
 
-fn steps_as<R: Print>(rt: &R, alloc: Global, events: Vec<Shared<Event>>) -> Result<(), Stop> {
+fn steps_as<R: Print>(
+    rt: &R,
+    alloc: Global,
+    limit: u64,
+    events: Vec<Shared<Event>>,
+) -> Result<(), Stop> {
     let Ok((book, opening)) = plains(alloc) else {
         return Err(Stop);
     };
-    steps::<PlainBook, Brand, R>(rt, alloc, Blank::new(1), book, opening, events)
+    steps::<PlainBook, Brand, R>(rt, alloc, Blank::new(1), book, opening, limit, events)
 }
 
 /// The two callers of a book that replays its history.
@@ -145,11 +150,15 @@ fn main(rt: HostRuntime) -> anyhow::Result<()> {
     match words.as_slice() {
         [_, word] if word.as_str() == "steps" => {
             let events = drawn_events(rt.alloc())?;
-            Ok(steps_as(&rt, rt.alloc(), events)?)
+            Ok(steps_as(&rt, rt.alloc(), RECORDED, events)?)
         }
         [_, word, which] if word.as_str() == "steps" && which.as_str() == "two" => {
             let events = of_both(rt.alloc())?;
-            Ok(steps_as(&rt, rt.alloc(), events)?)
+            Ok(steps_as(&rt, rt.alloc(), RECORDED, events)?)
+        }
+        [_, word, which] if word.as_str() == "steps" && which.as_str() == "moving" => {
+            let events = of_four(rt.alloc())?;
+            Ok(steps_as(&rt, rt.alloc(), MOVING, events)?)
         }
         [_, word, which] if word.as_str() == "threads" && which.as_str() == "plain" => {
             Ok(of_plain(&rt, rt.alloc())?)

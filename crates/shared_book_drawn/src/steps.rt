@@ -13,10 +13,13 @@ use rand_pcg::Pcg32;
 use shared_book::{Blank, CallLedger, Kept, Pass};
 use std::alloc::Global;
 
-/// How many calls are made, and how many of them a window can have.
+/// How many drawn calls are made, and how many of them a window can have.
 const CALLS: u32 = 80;
 
 pub const RECORDED: u64 = 60;
+
+/// How many of four calls a window can have that moves on.
+pub const MOVING: u64 = 2;
 
 /// Events of every kind, also among those that the window has at the end. Of these an undo and a redo succeed, with a ticket and without.
 pub fn drawn_events(alloc: Global) -> Result<Vec<Shared<Event>>, Stop> {
@@ -78,23 +81,24 @@ fn step<B: Book, L: CallLedger, R: Print>(
     Ok(found_none)
 }
 
-/// Makes the calls, and shows the window.
+/// Makes the calls, and shows the window, which can have so many of them.
 pub fn steps<B: Book, L: CallLedger, R: Print>(
     rt: &R,
     alloc: Global,
     blank: Blank,
     book: B,
     opening: B,
+    limit: u64,
     events: Vec<Shared<Event>>,
 ) -> Result<(), Stop>
     requires name { blank.name ≡ L.name }
     requires parts { blank.parts ≡ L.parts }
-    requires limit { RECORDED ≡ L.limit }
+    requires limit { limit ≡ L.limit }
     requires settings { B.settings book ≡ L.settings }
     requires lags { B.settings opening ≡ lagging_of L.settings }
     requires fresh { B.stands_for book [] × B.stands_for opening [] }
 {
-    let made = Kept::<B, L>::new(alloc, blank, book, opening, RECORDED);
+    let made = Kept::<B, L>::new(alloc, blank, book, opening, limit);
     let Ok((mut kept, mut pass)) = made else {
         return Err(Stop);
     };
