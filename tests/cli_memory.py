@@ -169,6 +169,28 @@ def check_added(checks):
     checks.equal("without memory after commands that remove nothing", (done.out.splitlines(), done.status), (wanted, 0))
 
 
+# A name with many addresses, a preview of the last one's undo, its redo, and a preview of a removal's undo, each of a type that the name
+# lacks and of a name below it.
+MANY = b"local_zone a. static\n" + b"".join(b"local_data a. 60 A 192.0.%d.%d\n" % divmod(number, 256) for number in range(2_000))
+LACKED = b"look_undo a. TXT\nlook_undo b.a. A\nundo\nlook_redo a. TXT\nlook_redo b.a. A\n"
+REMOVED = b"local_data_remove a.\n"
+LACKED_AFTER = b"look_undo a. TXT\nlook_undo b.a. A\n"
+LACKED_AGAIN = b"look_redo a. TXT\nlook_redo b.a. A\n"
+
+
+def check_previews(checks):
+    """After the commands every allocation is refused. A preview takes memory for the records of its reply alone, whatever else the name has."""
+    for name, commands, previews in (
+        ("a record", MANY, LACKED),
+        ("a removal", MANY + REMOVED, LACKED_AFTER),
+        ("a removal that was undone", MANY + REMOVED + b"undo\n", LACKED_AGAIN),
+    ):
+        wanted = run([RESOLVER, "script"], commands + previews).out
+        done = run([RESOLVER, "script"], commands + previews, preload="refuse", REFUSE_AFTER=len(commands.splitlines()))
+        checks.equal(f"previews of {name} without memory", (done.out == wanted, done.status), (True, 0))
+        checks.check(f"previews of {name}", None if b"error" not in wanted and b"local no" in wanted else f"{wanted[-200:]}")
+
+
 def check_newer_finds(checks):
     """A newer find of a cached pair needs memory to be read, and none to be cached. A find of another name needs both."""
     lines = replied_lines(HELD_TEXT)
@@ -192,6 +214,7 @@ def check_held_set(checks):
         check_script(checks, f"a flushed set{book}", [program, "script"], HELD_TEXT, starts, replay)
     check_ways_back(checks)
     check_added(checks)
+    check_previews(checks)
     check_newer_finds(checks)
 
 

@@ -14,13 +14,13 @@ LEAST_MOVED = 8_000
 
 
 def probe(draw, drawer):
-    """A lookup before a move, the preview, the move, the lookup after it, the move back, and the first lookup again."""
+    """A lookup, the preview of a move, the move, the lookup then, the preview of the way back, that, and the first lookup again."""
     question = " ".join(drawer.question())
     ticket = max(1, drawer.given - draw.choice([0, 1, 1, 2, 3, 5, 8]))
     before, move, back = draw.choice([
         *[("look_undo", "undo", "redo")] * 3, ("look_redo", "redo", "undo"), (f"look_without {ticket}", f"undo {ticket}", f"redo {ticket}"),
     ])
-    return [f"look {question}", f"{before} {question}", move, f"look {question}", back, f"look {question}"]
+    return [f"look {question}", f"{before} {question}", move, f"look {question}", f"look_{back[:4]} {question}", back, f"look {question}"]
 
 
 def given(drawer):
@@ -59,16 +59,18 @@ def replies_in(lines, told):
 
 def fault_in(lines, replies, kinds):
     """What is wrong with the replies to a probe."""
-    shown, preview, moved, then, back, again = (reply[0] for reply in replies)
+    shown, preview, moved, then, preview_back, back, again = (reply[0] for reply in replies)
     if moved.startswith("error"):
         kinds[moved.split(" ")[1]] += 1
         return None if preview == moved else f"{lines[1]} gets {preview!r}, and {lines[2]} {moved!r}"
     kinds["moved" if then != shown else "alike"] += 1
     if preview != then:
         return f"{lines[1]} gets {preview!r}, and after {lines[2]} the lookup {then!r}"
+    if preview_back != again:
+        return f"{lines[4]} gets {preview_back!r}, and after {lines[5]} the lookup {again!r}"
     # An undo by number may not reach what a redo has put back, since a later command is done: then the redo stands.
     if lines[2].startswith("undo") and (back.split(" ")[1] != moved.split(" ")[1] or again != shown):
-        return f"{lines[4]} after {lines[2]} gets {back!r}, and then the lookup {again!r}, before {shown!r}"
+        return f"{lines[5]} after {lines[2]} gets {back!r}, and then the lookup {again!r}, before {shown!r}"
     return None
 
 
