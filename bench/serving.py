@@ -66,6 +66,14 @@ def built(folder, name):
     return program
 
 
+def library(folder, name):
+    """A library to put in front of the C library."""
+    made = os.path.join(folder, name + ".so")
+    compiler = os.environ.get("CC", "cc").split()
+    subprocess.run([*compiler, "-O2", "-shared", "-fPIC", "-o", made, os.path.join(HERE, "network", name + ".c"), "-ldl"], check=True)
+    return made
+
+
 def begun(command):
     """A program, once it has said that it is ready."""
     process = subprocess.Popen(command, stdout=subprocess.PIPE)
@@ -164,13 +172,13 @@ class Programs:
             ended(process)
 
     @contextlib.contextmanager
-    def serving(self, who, late, workers=1, options=(), more=""):
-        """The port of a program that serves, its processes, and where it takes commands. `options` are for ours, `more` is for the
-        configuration of unbound."""
+    def serving(self, who, late, workers=1, options=(), more="", environment=None):
+        """The port of a program that serves, its processes, and where it takes commands. `options` and `environment` are for ours, `more` is
+        for the configuration of unbound."""
         if who in OURS:
             hint = f"{HOST}@{late}"
             given = ["--udp", str(workers), *options]
-            with Service([hint], *given, most_descriptors=DESCRIPTORS, program=self.builds[who]) as service:
+            with Service([hint], *given, environment=environment, most_descriptors=DESCRIPTORS, program=self.builds[who]) as service:
                 yield service.port, [service.process.pid], service.control_port
             return
         port = free_port()
