@@ -1,4 +1,1 @@
-pub mod Fault
-pub mod FirstLines
-pub mod Operator
 pub mod Version

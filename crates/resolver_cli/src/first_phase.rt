@@ -1,12 +1,10 @@
 //! The first phase of a service: it obeys the lines of a file, if there is one, and serves nobody yet.
 
-use crate::fault::CliFault;
-use crate::first_lines::{obey_fifo, obey_file};
-use crate::operator_queue::OperatorQueue;
-use crate::operators::obey_operator;
+use crate::control_socket::obey_operator;
 use crate::worker::Lent;
 use dns_sockets::MonotonicClock;
 use log::Log;
+use operators::{CliFault, OperatorQueue, obey_fifo, obey_file};
 use shared_book::{CallLedger, Pass, Seat};
 use std::alloc::Global;
 use std::fs;

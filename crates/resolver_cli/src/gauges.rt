@@ -1,9 +1,9 @@
 //! What an operator can read of a service while it runs: the replies to `status` and `stats`.
 
-use crate::book_figures::{BookFigures, read};
 use dns_text::Shared;
 use flight_sockets::{Sums, Tally};
 use history::Settings;
+use operators::{BookFigures, read_figure};
 use resolver_args::VERSION;
 use std::alloc::{AllocError, Global};
 use std::sync::atomic::AtomicU64;
@@ -87,16 +87,16 @@ fn exchanges_of(sums: &Sums) -> [(&'static str, u64); 5] {
 /// The figures of a book.
 fn figures_of(book: &BookFigures) -> [(&'static str, u64); 10] {
     [
-        ("cache.cells", read(&book.cells)),
+        ("cache.cells", read_figure(&book.cells)),
         ("cache.cells.max", book.most_cells),
-        ("cache.full", read(&book.full)),
-        ("cache.forgotten", read(&book.forgotten)),
-        ("local.zones", read(&book.zones)),
-        ("local.records", read(&book.records)),
-        ("stubs", read(&book.stubs)),
-        ("commands.done", read(&book.done)),
-        ("commands.undone", read(&book.undone)),
-        ("commands.digest", read(&book.digest)),
+        ("cache.full", read_figure(&book.full)),
+        ("cache.forgotten", read_figure(&book.forgotten)),
+        ("local.zones", read_figure(&book.zones)),
+        ("local.records", read_figure(&book.records)),
+        ("stubs", read_figure(&book.stubs)),
+        ("commands.done", read_figure(&book.done)),
+        ("commands.undone", read_figure(&book.undone)),
+        ("commands.digest", read_figure(&book.digest)),
     ]
 }
 
@@ -126,7 +126,10 @@ impl Gauges {
         push_each(
             alloc,
             &mut out,
-            &[("control.lines", read(&self.lines)), ("time.up", seconds)],
+            &[
+                ("control.lines", read_figure(&self.lines)),
+                ("time.up", seconds),
+            ],
         )?;
         out.push_str("end\n")?;
         Ok(out)
@@ -135,11 +138,11 @@ impl Gauges {
     /// The part of the reply to `status` that says what the book holds.
     fn holdings(&self, alloc: Global) -> Result<String, AllocError> {
         let book = self.book.get();
-        let cells = read(&book.cells);
-        let forgotten = read(&book.forgotten);
-        let zones = read(&book.zones);
-        let records = read(&book.records);
-        let stubs = read(&book.stubs);
+        let cells = read_figure(&book.cells);
+        let forgotten = read_figure(&book.forgotten);
+        let zones = read_figure(&book.zones);
+        let records = read_figure(&book.records);
+        let stubs = read_figure(&book.stubs);
         let mut out = format!(in alloc;
             "cells: {cells} of {}\nforgotten: {forgotten}\n",
             book.most_cells
@@ -147,14 +150,14 @@ impl Gauges {
         out.push_str(format!(in alloc;
             "zones: {zones}\nrecords: {records}\nstubs: {stubs}\n"
         )?.as_str())?;
-        let done = read(&book.done);
-        let undone = read(&book.undone);
+        let done = read_figure(&book.done);
+        let undone = read_figure(&book.undone);
         let most = book.most_commands;
         out.push_str(format!(in alloc;
             "commands: {done} done, {undone} undone, {most} at most\n"
         )?.as_str())?;
-        let ticket = read(&book.ticket);
-        let digest = read(&book.digest);
+        let ticket = read_figure(&book.ticket);
+        let digest = read_figure(&book.digest);
         out.push_str(format!(in alloc; "ticket: {ticket}\ndigest: {digest}\n")?.as_str())?;
         Ok(out)
     }

@@ -2,62 +2,24 @@
 //! until an operator stops it, and `control` sends an operator's lines to a service.
 #![tactic(auto)]
 
-// The end of a run that failed: exit status and message.
-mod fault;
 // The version, for whoever asks for it alone.
 mod version;
 // The mode `script`: lines from standard input.
 mod script;
-// The service to which a client's lines go.
-mod peer;
-// The replies that come to a client.
-mod replies;
-// The conversation of a client with a service.
-mod conversation;
-// The mode `control`: the client of a service's control socket.
-mod client;
 // The listening sockets of a service.
 mod sockets;
-// A book whose figures anyone can read, without its lock.
-mod book_figures;
 // What an operator can read of a service while it runs.
 mod gauges;
 // One worker, in a thread of its own.
 mod worker;
-// The octets with which an operator's line may begin.
-mod first_octet;
-// A connection of an operator, and what it has sent.
-mod operator;
-// The operators that wait for their turn.
-mod operator_queue;
-// The turn of an operator, and the patience with it.
-mod operator_turn;
-// The lines that a service answers by itself.
-mod own_lines;
 // The reply to `what_undo`, with how much a flush hides.
 mod what_undo;
 // The control socket of a service.
-mod operators;
+mod control_socket;
 // Sweeps of a service's cache.
 mod sweeper;
-// The texts that the log wrote lately.
-mod recent_texts;
-// The log of a service.
-mod service_log;
 // The thread that writes the log.
 mod log_writer;
-// The runtime of a service, which logs there.
-mod service_runtime;
-// A reader of a file, which keeps why a read failed.
-mod file_reader;
-// The lookout for an operator who sends `stop` while nobody is served.
-mod lookout;
-// The opening of a FIFO, in a thread of its own.
-mod opening;
-// A FIFO that is read while operators are looked at.
-mod watched_fifo;
-// The lines of a file, which a service obeys before it is ready.
-mod first_lines;
 // The first phase of a service: the lines of a file, and `stop` alone.
 mod first_phase;
 // The mode `serve`: workers and operators over one shared book.
@@ -68,9 +30,7 @@ ghost use Rattle.resolver_args.specs.Mode.{HasNumbers};
 ghost use Rattle.resolver_args.specs.Says.{Says, IsGuarded};
 ghost use Rattle.resolver_cli.specs.Version.{AsksVersion};
 
-use client::send;
-use fault::{CliFault, end_for};
-use peer::Peer;
+use operators::{CliFault, Peer, end_for, send};
 use resolver_args::{Mode, read_args};
 use script::obey_input;
 use service::serve_and_log;

@@ -2,9 +2,9 @@
 
 ghost use Rattle.history.specs.Event.{AreSettings};
 
-use crate::fault::CliFault;
 use command_text::run_script;
 use history::Settings;
+use operators::CliFault;
 use streams::{CountedReader, CountedWriter, ScriptFault};
 use undo_book::ShelfBook;
 

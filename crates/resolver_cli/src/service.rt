@@ -6,15 +6,10 @@ ghost use Rattle.resolver_args.specs.declared.mode.TheConstants.{MOST_WORKERS};
 ghost use Rattle.resolver_args.specs.Mode.{IsService};
 ghost use Rattle.history.specs.Event.{lagging_of};
 
-use crate::book_figures::{BookFigures, WatchedBook};
-use crate::fault::CliFault;
+use crate::control_socket::obey_operators;
 use crate::first_phase::obey_first;
 use crate::gauges::Gauges;
 use crate::log_writer::write_often;
-use crate::operator_queue::OperatorQueue;
-use crate::operators::obey_operators;
-use crate::service_log::ServiceLog;
-use crate::service_runtime::ServiceRuntime;
 use crate::sockets::{Bound, share_descriptors, wake_all};
 use crate::sweeper::sweep_often;
 use crate::worker::{
@@ -26,6 +21,7 @@ use dns_text::Shared;
 use flight_sockets::{Asking, Permits, Waker, ZoneShares};
 use history::{Book, MakeFault, Settings};
 use log::{Log, info};
+use operators::{BookFigures, CliFault, OperatorQueue, ServiceLog, ServiceRuntime, WatchedBook};
 use resolver_args::Service;
 use shared_book::{Blank, CallLedger, Pass, Seat, SharedBook};
 use std::alloc::Global;

@@ -3,12 +3,12 @@
 ghost use Rattle.std.specs.Prelude.{◌≡◌, ◌+◌, ◌≤◌, Ok, IfOk, vec_len};
 ghost use Rattle.resolver_args.specs.declared.mode.TheConstants.{MOST_WORKERS};
 
-use crate::fault::CliFault;
 use dns_sockets::{bind_tcp, bind_with_backlog, descriptor_limit, place_of};
 use dns_text::Addr;
 use flight_sockets::{
     TcpPoll, UdpListener, Waker, listen_each, most_connections, most_exchanges, share_listener,
 };
+use operators::CliFault;
 use std::alloc::Global;
 use std::io;
 use std::io::ErrorKind;

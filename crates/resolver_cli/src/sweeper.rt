@@ -1,11 +1,11 @@
 //! The sweeper: it removes expired data from the cache, so that the cache takes memory only for live data.
 
-use crate::book_figures::{BookFigures, read};
 use crate::worker::Lent;
 use command_text::Clock;
 use dns_sockets::MonotonicClock;
 use history::{Desk, Event};
 use log::{Log, info, warn};
+use operators::{BookFigures, read_figure};
 use shared_book::{CallLedger, Pass, Seat};
 use std::sync::Wait;
 use std::sync::atomic::Ordering;
@@ -90,8 +90,8 @@ impl Room {
 
     /// Logs that the cache is full if data found no room since the last sweep, and that it is not if none did and there is room.
     fn tell<R: Log>(&mut self, rt: &R, book: &BookFigures) {
-        let full = read(&book.full);
-        let cells = read(&book.cells);
+        let full = read_figure(&book.full);
+        let cells = read_figure(&book.cells);
         let most = book.most_cells;
         if full > self.seen {
             self.seen = full;
@@ -101,7 +101,7 @@ impl Room {
             }
         } else if self.is_full && cells < most {
             self.is_full = false;
-            let forgotten = read(&book.forgotten);
+            let forgotten = read_figure(&book.forgotten);
             let names = forgotten.saturating_sub(self.forgotten);
             self.forgotten = forgotten;
             info!(rt; "resolver: the cache is not full any more: {cells} of {most} cells are in use, {names} names were forgotten");

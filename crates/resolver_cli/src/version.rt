@@ -3,7 +3,7 @@
 ghost use Rattle.std.specs.Prelude.{◌≡◌, ◌↔◌, codes, map, IsTrue};
 ghost use Rattle.resolver_cli.specs.Version.{AsksVersion};
 
-use crate::fault::CliFault;
+use operators::CliFault;
 use resolver_args::VERSION;
 
 /// Whether a word is the option that asks for the version.

@@ -3,13 +3,12 @@
 ghost use Rattle.std.specs.Prelude.{◌≡◌, ◌+◌, ◌≤◌, vec_len};
 ghost use Rattle.resolver_args.specs.declared.mode.TheConstants.{MOST_WORKERS};
 
-use crate::book_figures::WatchedBook;
-use crate::fault::CliFault;
 use crate::gauges::Gauges;
 use crate::sockets::{Shares, Sockets};
 use dns_sockets::MonotonicClock;
 use flight_sockets::{Asking, Tally, TcpPoll, TcpWorker, UdpListener, UdpWorker, fly_tcp, fly_udp};
 use log::Log;
+use operators::{CliFault, WatchedBook};
 use rand::rngs::StdRng;
 use rand_core::{Rng, SeedableRng};
 use shared_book::{CallLedger, Pass, Seat, SharedBook};

@@ -4,8 +4,8 @@ use Rattle.std.specs.Str.{bytes_eq}
 use Rattle.streams.specs.declared.held_line.TheConstants.{LONGEST_LINE}
 use Rattle.dns_name.specs.Options.{◌>>=◌}
 use Rattle.dns_text.specs.Word.{next_word}
-use Rattle.resolver_cli.specs.declared.own_lines.OwnLine.{OwnLine}
-use Rattle.resolver_cli.specs.declared.own_lines.OwnLine.TheVariants.{Status, Stats, WhatUndo, ExtraWord}
+use Rattle.operators.specs.declared.own_lines.OwnLine.{OwnLine}
+use Rattle.operators.specs.declared.own_lines.OwnLine.TheVariants.{Status, Stats, WhatUndo, ExtraWord}
 
 -- A line may begin with this octet: a small letter, as every command does, `#` as comments do, a blank, or an end of line.
 abbrev pub BeginsLine : ℕ → Type 0

@@ -1,8 +1,8 @@
 //! The lines that a service answers by itself: `status` and `stats`, without its book, and `what_undo`, which counts in turns.
 
 ghost use Rattle.std.specs.Prelude.{◌≡◌, ◌≤◌, length, IfOk};
-ghost use Rattle.resolver_cli.specs.declared.own_lines.TheConstants.{ROOM};
-ghost use Rattle.resolver_cli.specs.Operator.{own_line, own_word};
+ghost use Rattle.operators.specs.declared.own_lines.TheConstants.{ROOM};
+ghost use Rattle.operators.specs.Operator.{own_line, own_word};
 
 use crate::replies::is_silent;
 use dns_text::next_word;
@@ -16,9 +16,12 @@ const ROOM: usize = 4096;
 
 /// A line that a service answers by itself.
 #[derive(Clone, Copy, PartialEq, Eq)]
-pub(crate) enum OwnLine {
+pub enum OwnLine {
+    /// `status`.
     Status,
+    /// `stats`.
     Stats,
+    /// `what_undo`.
     WhatUndo,
     /// One of them, and a word too many.
     ExtraWord,
@@ -70,7 +73,7 @@ enum Stage {
 ///
 /// After a line of its own it goes on with the next line. A line that is too long is cut, and still too long.
 #[derive(Drop)]
-pub(crate) struct OwnLines<'a, R> {
+pub struct OwnLines<'a, R> {
     reader: R,
     /// The lines so far that were neither empty nor a comment.
     lines: &'a AtomicU64,

@@ -138,7 +138,7 @@ impl Kept {
 
 /// The log of a service.
 #[derive(Drop)]
-pub(crate) struct ServiceLog<'a, R> {
+pub struct ServiceLog<'a, R> {
     rt: &'a R,
     start: Instant,
     kept: Mutex<Kept>,

@@ -15,7 +15,7 @@ use std::time::Duration;
 
 /// A runtime that logs to the log of a service. It passes on all else that a service needs of the system.
 #[derive(Drop)]
-pub(crate) struct ServiceRuntime<'a, R> {
+pub struct ServiceRuntime<'a, R> {
     rt: &'a R,
     log: &'a ServiceLog<'a, R>,
 }

@@ -6,8 +6,8 @@ ghost use Rattle.streams.specs.Split.{lines_of};
 ghost use Rattle.streams.specs.Transcript.{Transcript, paired};
 ghost use Rattle.streams.specs.declared.fault.Ended.TheVariants.{EndOfInput};
 ghost use Rattle.command_text.specs.Control.{Controls};
-ghost use Rattle.resolver_cli.specs.Fault.{CannotObey};
-ghost use Rattle.resolver_cli.specs.FirstLines.{AcceptsInput, AcceptsLine, IsAccepted, refusal_of};
+ghost use Rattle.operators.specs.Fault.{CannotObey};
+ghost use Rattle.operators.specs.FirstLines.{AcceptsInput, AcceptsLine, IsAccepted, refusal_of};
 
 use crate::fault::CliFault;
 use crate::file_reader::FileReader;
@@ -256,7 +256,7 @@ fn obey_reader<D: Desk, C: Clock + Drop, I: Read + Drop>(
 
 /// Obeys the lines of a file in order, each as if an operator had sent it. It fails if the file cannot be read to its end, or at
 /// the first line that is refused.
-pub(crate) fn obey_file<D: Desk, C: Clock + Drop, R: Files>(
+pub fn obey_file<D: Desk, C: Clock + Drop, R: Files>(
     rt: &R,
     alloc: Global,
     path: &str,
@@ -275,7 +275,7 @@ pub(crate) fn obey_file<D: Desk, C: Clock + Drop, R: Files>(
 
 /// Obeys the lines of a FIFO as `obey_file` does those of a file, while operators are looked at. It also fails once one of them has
 /// sent `stop`.
-pub(crate) fn obey_fifo<D: Desk, C: Clock + Drop, R: Threads + Wait + std::rt::Clock, L: Lookout>(
+pub fn obey_fifo<D: Desk, C: Clock + Drop, R: Threads + Wait + std::rt::Clock, L: Lookout>(
     rt: &R,
     alloc: Global,
     path: &str,

@@ -1,9 +1,5 @@
 //! The control socket, which serves one operator at a time.
 
-use crate::operator::Operator;
-use crate::operator_queue::OperatorQueue;
-use crate::operator_turn::{Turn, TurnEnd};
-use crate::own_lines::{OwnLine, OwnLines};
 use crate::what_undo::what_undo;
 use crate::worker::{Lent, ServiceBook};
 use command_text::{Clock, serve_control};
@@ -12,6 +8,7 @@ use flight_sockets::cause_of;
 use front_workers::DEVICE_FAULT;
 use history::Desk;
 use log::{Log, warn};
+use operators::{Operator, OperatorQueue, OwnLine, OwnLines, Turn, TurnEnd};
 use shared_book::{CallLedger, Seat};
 use std::alloc::{AllocError, Global};
 use std::io::{Read, Write};

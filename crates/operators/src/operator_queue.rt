@@ -44,7 +44,7 @@ impl Waiting {
 
 /// The operators that wait for their turn, in the order in which they came.
 #[derive(Drop)]
-pub(crate) struct OperatorQueue<'a, R: Clock> {
+pub struct OperatorQueue<'a, R: Clock> {
     rt: &'a R,
     alloc: Global,
     listener: &'a TcpListener,
@@ -150,13 +150,13 @@ impl<'a, R: Clock> OperatorQueue<'a, R> {
     }
 
     /// Takes in the connections that have come in, and returns whether any waits for its turn.
-    pub fn gather(&mut self) -> io::Result<bool> {
+    pub(crate) fn gather(&mut self) -> io::Result<bool> {
         self.take_in(MOST_WAITING)?;
         Ok(!self.waiting.is_empty())
     }
 
     /// Takes in the connections that have come in, and returns whether any that waits has sent a whole line.
-    pub fn gather_lines(&mut self) -> bool {
+    pub(crate) fn gather_lines(&mut self) -> bool {
         // If none can be accepted, those that wait already count.
         let _ = self.take_in(MOST_WAITING);
         for waiting in &self.waiting {

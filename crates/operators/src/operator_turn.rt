@@ -2,7 +2,7 @@
 
 ghost use Rattle.std.specs.Prelude.{◌≡◌, ◌≤◌, length, if◌then◌else◌};
 ghost use Rattle.std.specs.Io.BufRead.{take_through};
-ghost use Rattle.resolver_cli.specs.declared.operator_turn.TheConstants.{TURN_SECONDS, PATIENCE_SECONDS};
+ghost use Rattle.operators.specs.declared.operator_turn.TheConstants.{TURN_SECONDS, PATIENCE_SECONDS};
 
 use crate::first_octet::begins_as_line;
 use crate::operator::Operator;
@@ -61,7 +61,7 @@ fn patience(another_waits: bool) -> u64
 
 /// How the turn of an operator ends.
 #[derive(Drop)]
-pub(crate) enum TurnEnd {
+pub enum TurnEnd {
     /// One of the lines was `stop`.
     Stop,
     /// The connection is to be closed.
@@ -76,7 +76,7 @@ pub(crate) enum TurnEnd {
 /// connection in the middle of a line, where an end of the input would have the begun line obeyed. The input seems to end between
 /// two lines if the turn has been long and another operator waits with a whole line.
 #[derive(Drop)]
-pub(crate) struct Turn<'a, 'q, R: Clock + Log> {
+pub struct Turn<'a, 'q, R: Clock + Log> {
     rt: &'a R,
     operator: &'a Operator,
     queue: RefCell<&'a mut OperatorQueue<'q, R>>,

@@ -11,11 +11,11 @@ use std::time::Duration;
 
 /// The service to which lines go.
 #[derive(Drop)]
-pub(crate) struct Peer {
+pub struct Peer {
     /// The address of its control socket.
-    pub addr: Addr,
+    pub(crate) addr: Addr,
     /// How long it may take to accept a connection, and then to reply.
-    pub seconds: u64,
+    pub(crate) seconds: u64,
 }
 
 impl Peer {
@@ -28,12 +28,12 @@ impl Peer {
     }
 
     /// The time that it has.
-    pub fn patience(&self) -> Duration {
+    pub(crate) fn patience(&self) -> Duration {
         Duration::from_secs(self.seconds)
     }
 
     /// A connection to it.
-    pub fn connect<R: Net<Stream = TcpStream>>(
+    pub(crate) fn connect<R: Net<Stream = TcpStream>>(
         &self,
         rt: &R,
         alloc: Global,
@@ -50,7 +50,7 @@ impl Peer {
     }
 
     /// The fault of a connection that failed, or of the input.
-    pub fn fault_of(&self, alloc: Global, error: &io::Error) -> CliFault {
+    pub(crate) fn fault_of(&self, alloc: Global, error: &io::Error) -> CliFault {
         match error.kind() {
             ErrorKind::OutOfMemory => CliFault::no_memory(),
             ErrorKind::WouldBlock | ErrorKind::TimedOut => CliFault::no_reply(alloc, &self.addr),

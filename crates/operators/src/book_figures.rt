@@ -16,21 +16,26 @@ use stub_table::StubTable;
 /// The figures of a book. The book writes them at each event that may change them, under its lock. Anyone reads them, and neither
 /// waits for the other.
 #[derive(Drop)]
-pub(crate) struct BookFigures {
-    /// The cells that are stored, and the most that may be.
+pub struct BookFigures {
+    /// The cells that are stored.
     pub cells: AtomicU64,
+    /// The most cells that may be stored.
     pub most_cells: u64,
     /// The admissions that found all cells full.
     pub full: AtomicU64,
     /// The names that were forgotten to make room.
     pub forgotten: AtomicU64,
-    /// The local zones, their records, and the stubs.
+    /// The local zones.
     pub zones: AtomicU64,
+    /// The records of local data.
     pub records: AtomicU64,
+    /// The stubs.
     pub stubs: AtomicU64,
-    /// The commands in the journal that are done and undone, and the most that it may have.
+    /// The commands in the journal that are done.
     pub done: AtomicU64,
+    /// The commands in the journal that are undone.
     pub undone: AtomicU64,
+    /// The most commands that the journal may have.
     pub most_commands: u64,
     /// The ticket of the newest command, or 0.
     pub ticket: AtomicU64,
@@ -41,7 +46,7 @@ pub(crate) struct BookFigures {
 }
 
 /// The value of a figure.
-pub(crate) fn read(figure: &AtomicU64) -> u64 {
+pub fn read_figure(figure: &AtomicU64) -> u64 {
     figure.load(Ordering::SeqCst)
 }
 
@@ -86,8 +91,8 @@ impl BookFigures {
 
     /// Notes what a reply says of the journal. After a new command none can be redone.
     fn note_journal(&self, reply: &Reply) {
-        let done = read(&self.done);
-        let undone = read(&self.undone);
+        let done = read_figure(&self.done);
+        let undone = read_figure(&self.undone);
         match reply {
             Reply::Done { ticket } => {
                 set(&self.ticket, *ticket);
@@ -105,7 +110,7 @@ impl BookFigures {
 
     /// Notes that a change with this text was accepted, and whether it may have changed the stubs.
     fn note_change(&self, text: &[u8], may_change_stubs: bool) {
-        set(&self.digest, digest_with(read(&self.digest), text));
+        set(&self.digest, digest_with(read_figure(&self.digest), text));
         if may_change_stubs {
             let _ = self.renewals.fetch_add(1, Ordering::SeqCst);
         }
@@ -186,7 +191,7 @@ fn is_accepted(replied: &Result<Reply, StepFault>) -> bool {
 
 /// A book that keeps its figures. It is that book in all else.
 #[derive(Drop)]
-pub(crate) struct WatchedBook<B: Book> {
+pub struct WatchedBook<B: Book> {
     book: B,
     figures: Shared<BookFigures>,
     /// The text of the last change.

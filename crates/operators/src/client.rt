@@ -105,7 +105,7 @@ where
 }
 
 /// Sends the line, or each line of the input if there is none, and writes the replies. It returns whether all of them were obeyed.
-pub(crate) fn send<R, B: BufRead + Drop>(
+pub fn send<R, B: BufRead + Drop>(
     rt: &R,
     alloc: Global,
     peer: &Peer,

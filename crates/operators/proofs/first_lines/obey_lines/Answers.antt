@@ -1,5 +1,5 @@
-use Rattle.resolver_cli.proofs.Accepting.{accepts_if}
-use Rattle.resolver_cli.proofs.first_lines.obey_lines.Goals as goal
+use Rattle.operators.proofs.Accepting.{accepts_if}
+use Rattle.operators.proofs.first_lines.obey_lines.Goals as goal
 
 pub returns : goal.returns
 returns g c = λ is. accepts_if (λ lines. lines.clock) _ _ _ _ _ _ _ _ _ c.run_lines.ensures.runs is

@@ -20,10 +20,10 @@ const MOST_DRAINED: usize = 64;
 
 /// An operator's connection.
 #[derive(Drop)]
-pub(crate) struct Operator {
-    pub stream: TcpStream,
+pub struct Operator {
+    pub(crate) stream: TcpStream,
     /// Whether an octet of it was read.
-    pub has_begun: Cell<bool>,
+    pub(crate) has_begun: Cell<bool>,
 }
 
 /// Looks at the octets that a connection has sent, without waiting. Returns how many fill the front of the room: 0 if it has ended.
@@ -45,7 +45,7 @@ fn is_stop(alloc: Global, line: &[u8]) -> bool
 
 impl Operator {
     /// A connection of which nothing was read.
-    pub fn new(stream: TcpStream) -> Operator {
+    pub(crate) fn new(stream: TcpStream) -> Operator {
         Operator {
             stream,
             has_begun: Cell::new(false),
@@ -75,7 +75,7 @@ impl Operator {
     }
 
     /// Whether the first line is `stop`. It has to have come whole.
-    pub fn begins_with_stop(&self, alloc: Global) -> bool {
+    pub(crate) fn begins_with_stop(&self, alloc: Global) -> bool {
         let mut room = [0u8; LOOK];
         let Ok(count) = look(&self.stream, &mut room) else {
             return false;
@@ -88,13 +88,13 @@ impl Operator {
     }
 
     /// Whether it has ended, and nothing that it sent is left to read.
-    pub fn has_ended(&self) -> bool {
+    pub(crate) fn has_ended(&self) -> bool {
         let mut room = [0u8; 1];
         matches!(look(&self.stream, &mut room), Ok(0))
     }
 
     /// Whether it has sent a whole line.
-    pub fn has_line(&self) -> bool {
+    pub(crate) fn has_line(&self) -> bool {
         let mut room = [0u8; LOOK];
         match look(&self.stream, &mut room) {
             Ok(count) => {
@@ -106,7 +106,7 @@ impl Operator {
     }
 
     /// Whether serving it would wait for nothing: it has sent a whole line, begins as no line does, or has ended.
-    pub fn is_ready(&self) -> bool {
+    pub(crate) fn is_ready(&self) -> bool {
         let mut room = [0u8; LOOK];
         match look(&self.stream, &mut room) {
             Ok(count) => {

@@ -3,7 +3,7 @@
 ghost use Rattle.std.specs.Prelude.{◌↔◌, IsTrue};
 ghost use Rattle.std.specs.List.{AllByRecursion};
 ghost use Rattle.command_text.specs.Words.{commands};
-ghost use Rattle.resolver_cli.specs.Operator.{BeginsLine, BeginsAsLine};
+ghost use Rattle.operators.specs.Operator.{BeginsLine, BeginsAsLine};
 
 /// Whether a line may begin with this octet: every command begins with a small letter. What browsers send begins with a capital
 /// letter (HTTP), or with an octet that is no character (TLS, WebRTC).

@@ -8,7 +8,7 @@ use Rattle.streams.specs.declared.fault.Ended.{Ended}
 use Rattle.streams.specs.declared.fault.Ended.TheVariants.{EndOfInput}
 use Rattle.streams.specs.declared.fault.ScriptFault.{ScriptFault}
 use Rattle.command_text.specs.Control.{Calls, Controls, Ticks}
-use Rattle.resolver_cli.specs.FirstLines.{AcceptsInput, AcceptsLine}
+use Rattle.operators.specs.FirstLines.{AcceptsInput, AcceptsLine}
 
 all_read : (unread left : Option (List ℕ)) (input : List ℕ) → Consumes unread left input → IsAtEnd left → IfSome unread (λ octets. input ≡ octets)
 all_read None left input reads end = tt

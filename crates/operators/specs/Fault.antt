@@ -4,7 +4,7 @@ use Rattle.dns_text.specs.declared.addr.Addr.{Addr}
 use Rattle.dns_text.specs.Addr.{addr_text}
 use Rattle.resolver_args.specs.declared.fault.ArgsFault.{ArgsFault}
 use Rattle.resolver_args.specs.declared.fault.ArgsFault.TheVariants.{NoMemory, Usage, BadArguments, NotLoopback}
-use Rattle.resolver_cli.specs.declared.fault.CliFault.{CliFault}
+use Rattle.operators.specs.declared.fault.CliFault.{CliFault}
 use Rattle.streams.specs.Split.{with_end}
 use Rattle.streams.specs.Text.{octets_in}
 

@@ -3,7 +3,7 @@
 use std::io;
 
 /// Whoever can look at the operators that wait.
-pub(crate) trait Lookout {
+pub trait Lookout {
     /// Looks at the operators. It is an error if one has sent `stop`.
     fn look(&mut self) -> io::Result<()>;
 }

@@ -3,9 +3,9 @@
 ghost use Rattle.std.specs.Prelude.{◌≡◌, ◌++◌, ◌⊎◌, ℕ, List, IfOk, OnOk, codes};
 ghost use Rattle.dns_text.specs.Addr.{addr_text};
 ghost use Rattle.streams.specs.Split.{with_end};
-ghost use Rattle.resolver_cli.specs.Fault.{ProgramEnds, EndsFor, IsNoMemory, IsBadArguments, IsNotLoopback, HasWhy};
-ghost use Rattle.resolver_cli.specs.Fault.{IsFailedRead, IsFailedWrite, shown, why_line, CannotStart, CannotListen};
-ghost use Rattle.resolver_cli.specs.Fault.{HasNoService, HasNoReply, IsRefused, IsUnread, file_reason};
+ghost use Rattle.operators.specs.Fault.{ProgramEnds, EndsFor, IsNoMemory, IsBadArguments, IsNotLoopback, HasWhy};
+ghost use Rattle.operators.specs.Fault.{IsFailedRead, IsFailedWrite, shown, why_line, CannotStart, CannotListen};
+ghost use Rattle.operators.specs.Fault.{HasNoService, HasNoReply, IsRefused, IsUnread, file_reason};
 
 use dns_name::NoMemory;
 use dns_text::{Addr, push_addr};
@@ -150,7 +150,7 @@ impl CliFault {
 }
 
 /// The end of a run whose arguments select no mode.
-pub(crate) fn end_for(alloc: Global, fault: ArgsFault) -> CliFault
+pub fn end_for(alloc: Global, fault: ArgsFault) -> CliFault
     ensures { EndsFor fault result }
 {
     match fault {

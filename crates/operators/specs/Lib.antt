@@ -1,0 +1,3 @@
+pub mod Fault
+pub mod FirstLines
+pub mod Operator
