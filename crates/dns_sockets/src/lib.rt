@@ -33,6 +33,7 @@ pub use clients::udp_binding::bind_each;
 pub use deadline::{REST_SECONDS, glance};
 pub use monotonic::{Elapsing, MonotonicClock};
 pub use name_servers::fitting::{MOST_MISFITS, fits};
+pub use name_servers::framed_query::MOST_QUERY;
 pub use name_servers::framed_reply::octets_wanting;
 pub use name_servers::heard::Heard;
 pub use name_servers::one_socket::OneSocket;

@@ -9,7 +9,7 @@ mod Looking
 mod Keeping
 pub mod Leaving
 pub mod Settling
-mod Summing
+pub mod Summing
 mod Bounds
 mod Places
 mod Relieving

@@ -1,5 +1,6 @@
 -- How a question begins.
-use Rattle.std.proofs.Common.{◌≡◌, ℕ, List, [], ◌∷◌, Option, Some, None, MatchOption, ap, refl, subst}
+use Rattle.std.proofs.Common.{◌≡◌, ◌≢◌, ℕ, List, [], ◌∷◌, Option, Some, None, MatchOption, ap, refl, subst, sym}
+use Rattle.std.specs.Prelude.{IfSome}
 use Rattle.dns_text.specs.declared.record.Question.{Question}
 use Rattle.history.specs.declared.event.Ask.TheVariants.{Answer as Asked}
 use Rattle.history.specs.declared.event.Event.{Event}
@@ -16,9 +17,13 @@ use Rattle.iterate.specs.Resolved.{IsNoAnswer, IsResolved}
 use Rattle.iterate.specs.Wanted.{id_drawn}
 use Rattle.rand_core.specs.Stream.{Stream}
 use Rattle.front_workers.specs.Leads.{Calls, Ticks, Draws}
+use Rattle.flight.specs.declared.outside.Listened.{Listened}
+use Rattle.flight.specs.declared.outside.Listened.TheVariants.{Anew}
 use Rattle.flight.specs.Asking.{HasLooked}
-use Rattle.flight.specs.FirstLook.{IsSilence}
+use Rattle.flight.specs.FirstLook.{HearsOut, HeedsFirstLook, IsSilence, ListensTo}
 use Rattle.flight.specs.Flight.{Hears, Answered, Flies, begins, goes_on, Lands}
+use Rattle.flight.specs.Origin.{zone_of}
+use Rattle.flight.specs.Waiting.{FlightState, UnderWay, exchange_at}
 use Rattle.flight.proofs.Flying.{suits}
 
 -- the first step of a task
@@ -88,3 +93,28 @@ module _ {D C : Type 0} {calls : Calls D} {seen : D → ℕ} {hears : Hears} {ti
   pub looked_silent : HasLooked calls seen hears ticks since question moment came n → (port : ℕ) (words : Stream) → IsSilence came → Lands calls seen hears ticks since port question Silent
   looked_silent looked port words is =
       looked_lands looked port words Silent (record { moment = moment; rest = []; begins = ap (λ (i : Input). exchange (Book (Look moment (Asked question))) i ∷ []) is })
+
+module _ {D W L O : Type 0} (calls : Calls D) (listens : W → L → Listened → W → Type 0) (outbox : W → O) where
+  -- A call listened to the line of an exchange. Nothing left by that, and if the question was to begin anew, it did.
+  pub hears_out : (exchange : UnderWay) (desk desk' : D) (without flight' : FlightState) (old between after new : W) (question : Question) (line : L) (heard : Listened)
+      → exchange.origin.zone ≡ zone_of question.owner → listens old line heard between → outbox after ≡ outbox old
+      → (heard ≡ Anew → HeedsFirstLook calls question desk without (outbox after) desk' flight' (outbox new))
+      → HearsOut calls listens outbox exchange desk without old desk' flight' new
+  hears_out exchange desk desk' without flight' old between after new question line heard zone listened silent heeds = record {
+    line = line;
+    heard = heard;
+    between = between;
+    listened = listened;
+    question = question;
+    zone = zone;
+    anew = λ is. subst (λ (out : O). HeedsFirstLook calls question desk without out desk' flight' (outbox new)) silent (heeds is);
+  }
+
+  -- The exchange under a key was taken out before.
+  pub listens_there : (key : ℕ) (exchange : UnderWay) (desk desk' : D) (flight without flight' : FlightState) (old new : W)
+      → exchange_at flight key ≡ Some exchange → exchange_at without key ≡ None → ((other : ℕ) → other ≢ key → exchange_at without other ≡ exchange_at flight other)
+      → HearsOut calls listens outbox exchange desk without old desk' flight' new
+      → IfSome (exchange_at flight key) (λ exchange. ListensTo calls listens outbox key exchange desk flight old desk' flight' new)
+  listens_there key exchange desk desk' flight without flight' old new here gone others hears =
+      subst (λ (slot : Option UnderWay). IfSome slot (λ exchange. ListensTo calls listens outbox key exchange desk flight old desk' flight' new)) (sym here)
+      (record { without = without; gone = gone; others = others; hears = hears })

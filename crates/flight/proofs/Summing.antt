@@ -1,8 +1,7 @@
--- Sums over the exchanges under way, as exchanges begin and end.
+-- Sums over the slots of a table, as slots are filled and emptied.
 use Rattle.std.proofs.Common.{◌≡◌, ◌≢◌, ◌≤◌, ◌+◌, ℕ, zero, suc, List, [], ◌∷◌, get_or, Option, Some, None, refl, sym, ap, arith}
 use Rattle.std.specs.List.{sum_by}
 use Rattle.std.proofs.lemmas.List.Sums.{sum_by-cons}
-use Rattle.flight.specs.Waiting.{UnderWay}
 
 after_first : (key : ℕ) → suc key ≢ 0
 after_first key is = omega arith
@@ -13,39 +12,39 @@ before_others key is = omega arith
 apart : (other key : ℕ) → other ≢ key → suc other ≢ suc key
 apart other key differs is = differs (omega arith)
 
-module _ (f : Option UnderWay → ℕ) (nothing : f None ≡ 0) where
-  -- The sum is 0 if none is under way,
-  none_summed : (exchanges : List (Option UnderWay)) → ((key : ℕ) → get_or exchanges key None ≡ None) → sum_by f exchanges ≡ 0
+module _ {A : Type 0} (f : Option A → ℕ) (nothing : f None ≡ 0) where
+  -- The sum is 0 if all are empty,
+  none_summed : (slots : List (Option A)) → ((key : ℕ) → get_or slots key None ≡ None) → sum_by f slots ≡ 0
   none_summed [] none = refl
   none_summed (first ∷ rest) none = omega (arith, none_summed rest (λ key. none (suc key)), sum_by-cons f first rest, ap f (none 0), nothing)
 
   -- or if each adds nothing.
-  pub zero_summed : (exchanges : List (Option UnderWay)) → ((key : ℕ) → f (get_or exchanges key None) ≤ 0) → sum_by f exchanges ≡ 0
+  pub zero_summed : (slots : List (Option A)) → ((key : ℕ) → f (get_or slots key None) ≤ 0) → sum_by f slots ≡ 0
   zero_summed [] none = refl
   zero_summed (first ∷ rest) none = omega (arith, zero_summed rest (λ key. none (suc key)), sum_by-cons f first rest, none 0)
 
-  -- It is the same if the same are under way.
-  same_summed : (old new : List (Option UnderWay)) → ((key : ℕ) → get_or new key None ≡ get_or old key None) → sum_by f new ≡ sum_by f old
+  -- It is the same if the same are filled.
+  same_summed : (old new : List (Option A)) → ((key : ℕ) → get_or new key None ≡ get_or old key None) → sum_by f new ≡ sum_by f old
   same_summed [] new same = none_summed new same
   same_summed (first ∷ rest) [] same = sym (none_summed (first ∷ rest) (λ key. sym (same key)))
   same_summed (first ∷ rest) (first' ∷ rest') same =
       omega (arith, same_summed rest rest' (λ key. same (suc key)), sum_by-cons f first rest, sum_by-cons f first' rest', ap f (same 0))
 
-  -- One that begins is added.
-  pub one_summed : (old new : List (Option UnderWay)) (key : ℕ) (exchange : UnderWay) → get_or old key None ≡ None → get_or new key None ≡ Some exchange
-      → ((other : ℕ) → other ≢ key → get_or new other None ≡ get_or old other None) → sum_by f new ≡ sum_by f old + f (Some exchange)
-  one_summed old [] key exchange vacant begins others = absurd (cc begins)
-  one_summed [] (first' ∷ rest') zero exchange vacant begins others =
+  -- One that is filled is added.
+  pub one_summed : (old new : List (Option A)) (key : ℕ) (value : A) → get_or old key None ≡ None → get_or new key None ≡ Some value
+      → ((other : ℕ) → other ≢ key → get_or new other None ≡ get_or old other None) → sum_by f new ≡ sum_by f old + f (Some value)
+  one_summed old [] key value vacant begins others = absurd (cc begins)
+  one_summed [] (first' ∷ rest') zero value vacant begins others =
       omega (arith, none_summed rest' (λ at. others (suc at) (after_first at)), sum_by-cons f first' rest', ap f begins)
-  one_summed [] (first' ∷ rest') (suc key) exchange vacant begins others =
+  one_summed [] (first' ∷ rest') (suc key) value vacant begins others =
       omega (
         arith,
-        one_summed [] rest' key exchange refl begins (λ at differs. others (suc at) (apart at key differs)),
+        one_summed [] rest' key value refl begins (λ at differs. others (suc at) (apart at key differs)),
         sum_by-cons f first' rest',
         ap f (others 0 (before_others key)),
         nothing,
       )
-  one_summed (first ∷ rest) (first' ∷ rest') zero exchange vacant begins others =
+  one_summed (first ∷ rest) (first' ∷ rest') zero value vacant begins others =
       omega (
         arith,
         same_summed rest rest' (λ at. others (suc at) (after_first at)),
@@ -55,17 +54,17 @@ module _ (f : Option UnderWay → ℕ) (nothing : f None ≡ 0) where
         ap f begins,
         nothing,
       )
-  one_summed (first ∷ rest) (first' ∷ rest') (suc key) exchange vacant begins others =
+  one_summed (first ∷ rest) (first' ∷ rest') (suc key) value vacant begins others =
       omega (
         arith,
-        one_summed rest rest' key exchange vacant begins (λ at differs. others (suc at) (apart at key differs)),
+        one_summed rest rest' key value vacant begins (λ at differs. others (suc at) (apart at key differs)),
         sum_by-cons f first rest,
         sum_by-cons f first' rest',
         ap f (others 0 (before_others key)),
       )
 
   -- What one adds is no more than the sum.
-  pub part_of_sum : (exchanges : List (Option UnderWay)) (key : ℕ) → f (get_or exchanges key None) ≤ sum_by f exchanges
+  pub part_of_sum : (slots : List (Option A)) (key : ℕ) → f (get_or slots key None) ≤ sum_by f slots
   part_of_sum [] key = omega (arith, nothing)
   part_of_sum (first ∷ rest) zero = omega (arith, sum_by-cons f first rest)
   part_of_sum (first ∷ rest) (suc key) = omega (arith, part_of_sum rest key, sum_by-cons f first rest)

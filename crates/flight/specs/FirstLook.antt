@@ -1,5 +1,5 @@
 -- The first lookup of a question, and what it settles.
-use Rattle.std.specs.Prelude.{◌≡◌, ℕ, Result}
+use Rattle.std.specs.Prelude.{◌≡◌, ◌≢◌, ℕ, None, Some, Result}
 use Rattle.local_zone.specs.declared.local_answer.Local.TheVariants as local
 use Rattle.dns_text.specs.declared.record.Question.{Question}
 use Rattle.history.specs.declared.desk.DeskFault.{DeskFault}
@@ -12,8 +12,11 @@ use Rattle.iterate.specs.declared.want.Input.{Input}
 use Rattle.iterate.specs.declared.want.Input.TheVariants.{Reply as Replied}
 use Rattle.iterate.specs.Resolved.{IsNoAnswer}
 use Rattle.front_workers.specs.Leads.{Calls}
+use Rattle.flight.specs.declared.outside.Listened.{Listened}
+use Rattle.flight.specs.declared.outside.Listened.TheVariants.{Anew}
 use Rattle.flight.specs.Asking.{input_of}
-use Rattle.flight.specs.Waiting.{FlightState}
+use Rattle.flight.specs.Origin.{zone_of}
+use Rattle.flight.specs.Waiting.{FlightState, UnderWay, exchange_at}
 
 -- A local zone says that the question gets no reply.
 abbrev pub IsSilence : Input → Type 0
@@ -29,3 +32,28 @@ pub data HeedsFirstLook {D O : Type 0} (calls : Calls D) (question : Question) (
   uncalled : desk' ≡ desk → HeedsFirstLook calls question desk flight outbox desk' flight' outbox'
   looked : {moment : ℕ} {answer : Result Reply DeskFault} {mid : D} → calls desk (Look moment (Asked question)) answer mid
       → HeedsInput question (input_of answer) mid flight outbox desk' flight' outbox' → HeedsFirstLook calls question desk flight outbox desk' flight' outbox'
+
+-- A call listened to an exchange. If its question is to begin anew, what comes of its first lookup is heeded. These are the questions in flight without it, before and after.
+pub record HearsOut {D W L O : Type 0} (calls : Calls D) (listens : W → L → Listened → W → Type 0) (outbox : W → O) (exchange : UnderWay) (desk : D) (without : FlightState) (old : W) (desk' : D) (flight' : FlightState) (new : W) : Type 0 where
+  pub line : L
+  pub heard : Listened
+  pub between : W
+  pub listened : listens old line heard between
+  pub question : Question
+  pub zone : exchange.origin.zone ≡ zone_of question.owner
+  pub anew : heard ≡ Anew → HeedsFirstLook calls question desk without (outbox old) desk' flight' (outbox new)
+
+-- So it is with the exchange under a key, which is taken out first.
+pub record ListensTo {D W L O : Type 0} (calls : Calls D) (listens : W → L → Listened → W → Type 0) (outbox : W → O) (key : ℕ) (exchange : UnderWay) (desk : D) (flight : FlightState) (old : W) (desk' : D) (flight' : FlightState) (new : W) : Type 0 where
+  pub without : FlightState
+  pub gone : exchange_at without key ≡ None
+  pub others : (other : ℕ) → other ≢ key → exchange_at without other ≡ exchange_at flight other
+  pub hears : HearsOut calls listens outbox exchange desk without old desk' flight' new
+
+-- Some exchanges are listened to so, one after another. The queue may name fewer of them meanwhile.
+pub data ListensToEach {D W L O : Type 0} (calls : Calls D) (listens : W → L → Listened → W → Type 0) (outbox : W → O) (desk : D) (flight : FlightState) (old : W) : D → FlightState → W → Type 0 where
+  stays : ListensToEach calls listens outbox desk flight old desk flight old
+  passes : {desk' : D} {between flight' : FlightState} {mid : W} → ListensToEach calls listens outbox desk flight old desk' between mid → flight'.exchanges ≡ between.exchanges
+      → ListensToEach calls listens outbox desk flight old desk' flight' mid
+  listens_to : {desk' desk'' : D} {between flight' : FlightState} {mid new : W} {key : ℕ} {exchange : UnderWay} → ListensToEach calls listens outbox desk flight old desk' between mid
+      → exchange_at between key ≡ Some exchange → ListensTo calls listens outbox key exchange desk' between mid desk'' flight' new → ListensToEach calls listens outbox desk flight old desk'' flight' new

@@ -54,8 +54,10 @@ impl<D: Numbered, L: InFlight, C: Clock, G: Rng, K: Client> Flight<D, L, C, G, K
         octets: &[u8],
     )
         requires asked { IsAskedBy K.sent asking.port octets.now asking.client asking.query asking.task }
-        ensures { SettlesOrWaits K.sent O.server_port O.counts O.outbox O.posts now asking.client
+        ensures settles { SettlesOrWaits K.sent O.server_port O.counts O.outbox O.posts now asking.client
             (λ origin. origin ≡ origin_in K.network asking) self.old outside.old self.new outside.new }
+        ensures heeds { HeedsFirstLook D.calls asking.query.question
+            desk.old self.old (O.outbox outside.old) desk.new self.new (O.outbox outside.new) }
     {
         let Asking {
             client,

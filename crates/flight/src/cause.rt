@@ -137,7 +137,7 @@ impl Cause {
         }
     }
 
-    /// The desk knows of fewer calls than a question does, or the port of name servers is another than that with which it began.
+    /// The desk knows of fewer calls than a question in flight does, or the port of name servers is another than that with which it began.
     pub(crate) fn elsewhere<
         D: Numbered,
         L: InFlight,
@@ -146,7 +146,8 @@ impl Cause {
         K: Client,
         O: Outside<D, L, C, K>,
     >(desk: &D, outside: &O, asking: &Asking<G, K>) -> Cause
-        requires { (D.seen desk.now < asking.now.seen) ⊎ (asking.now.port ≢ O.server_port outside.now) }
+        requires sends { WantsSend D.calls D.seen L.hears C.ticks K.since asking.now }
+        requires other { (D.seen desk.now < asking.now.seen) ⊎ (asking.now.port ≢ O.server_port outside.now) }
         ensures { result.why ≡ Elsewhere }
     {
         let _ = desk;

@@ -3,7 +3,9 @@
 ghost use Rattle.std.specs.Prelude.{◌≡◌, ◌≤◌, ◌+◌};
 ghost use Rattle.front_workers.specs.Counts.{Rises};
 ghost use Rattle.flight.specs.Asking.{origin_in, HasHeard, IsAskedBy};
+ghost use Rattle.flight.specs.declared.outside.Listened.TheVariants.{Anew};
 ghost use Rattle.flight.specs.Bounds.{IsBounded};
+ghost use Rattle.flight.specs.FirstLook.{HearsOut, HeedsFirstLook};
 ghost use Rattle.flight.specs.Flight.{Flies};
 ghost use Rattle.flight.specs.Leaving.{Ends};
 ghost use Rattle.flight.specs.Clients.{SettlesOrWaits};
@@ -43,6 +45,7 @@ impl<D: Numbered, L: InFlight, C: Clock, G: Rng, K: Client> Flight<D, L, C, G, K
         ensures waits { WaitsFrom now (λ origin. origin ≡ job.origin) self.old self.new }
         ensures bounded { IsBounded self.old → IsBounded self.new }
         ensures limit { self.new.limit ≡ self.old.limit }
+        ensures anew { HearsOut D.calls O.listens O.outbox job desk.old self.old outside.old desk.new self.new outside.new }
     {
         let Job {
             asking,
@@ -72,8 +75,12 @@ impl<D: Numbered, L: InFlight, C: Clock, G: Rng, K: Client> Flight<D, L, C, G, K
         requires asked { IsAskedBy K.sent asking.port octets asking.client asking.query asking.task }
         requires heard { HasHeard D.calls D.seen L.hears C.ticks (K.since asking.client) asking.port asking.query.question
             asking.task.steps.items (listened_of heard) asking.seen }
-        ensures { SettlesOrWaits K.sent O.server_port O.counts O.outbox O.posts now asking.client
+        ensures settles { SettlesOrWaits K.sent O.server_port O.counts O.outbox O.posts now asking.client
             (λ origin. origin ≡ origin_in K.network asking) self.old outside.old self.new outside.new }
+
+        // A question that begins anew heeds its first lookup.
+        ensures anew { listened_of heard ≡ Anew → HeedsFirstLook D.calls asking.query.question
+            desk.old self.old (O.outbox outside.old) desk.new self.new (O.outbox outside.new) }
     {
         let input = match heard {
             Heard::Came(reply) => {

@@ -8,8 +8,9 @@ ghost use Rattle.front_workers.specs.Counts.{Rises};
 ghost use Rattle.flight.specs.Bounds.{AllGoOn, EachIsSmall, EndsLargest, Relieves, kept_all};
 ghost use Rattle.flight.specs.Clients.{LosesNone, SettlesOrWaits};
 ghost use Rattle.flight.specs.Origin.{IsOriginOf};
-ghost use Rattle.flight.specs.FirstLook.{HeedsFirstLook};
-ghost use Rattle.flight.specs.Waiting.{EarlyGoOn, IsPatient, IsPatientUntil, IsTimely, OthersGoOn, outstanding, since_at, time_left};
+ghost use Rattle.flight.specs.FirstLook.{HeedsFirstLook, ListensTo, ListensToEach};
+ghost use Rattle.flight.specs.Waiting.{EarlyGoOn, IsPatient, IsPatientUntil, IsTimely, OthersGoOn};
+ghost use Rattle.flight.specs.Waiting.{exchange_at, outstanding, since_at, time_left};
 
 use crate::cause::Cause;
 use crate::job::Job;
@@ -142,6 +143,10 @@ impl<D: Numbered, L: InFlight, C: Clock, G: Rng, K: Client> Flight<D, L, C, G, K
         ensures others { OthersGoOn key self.old self.new }
         ensures unexpired { (O.counts outside.new).expired ≡ (O.counts outside.old).expired }
         ensures loses_none { LosesNone K.sent O.server_port O.counts O.outbox O.posts now self.old outside.old self.new outside.new }
+
+        // A question that begins anew heeds its first lookup: if that shows silence, nothing leaves.
+        ensures anew { IfSome (exchange_at self.old key) (λ exchange. ListensTo D.calls O.listens O.outbox key exchange
+            desk.old self.old outside.old desk.new self.new outside.new) }
     {
         let Some(job) = self.table.take(key) else {
             return;
@@ -179,6 +184,9 @@ impl<D: Numbered, L: InFlight, C: Clock, G: Rng, K: Client> Flight<D, L, C, G, K
         ensures timely { IsTimely QUESTION_PATIENCE now self.new }
         ensures early { EarlyGoOn PATIENCE now self.old self.new }
         ensures loses_none { LosesNone K.sent O.server_port O.counts O.outbox O.posts now self.old outside.old self.new outside.new }
+
+        // So does each question here that begins anew.
+        ensures anew { ListensToEach D.calls O.listens O.outbox desk.old self.old outside.old desk.new self.new outside.new }
     {
         while let Some(wait) = self.table.next_due(now) {
             if let Some(job) = self.table.pass(wait, now) {

@@ -29,6 +29,7 @@ pub(crate) struct Job<D: Numbered, L: InFlight, C: Clock, G: Rng, K: Client> {
 impl<D: Numbered, L: InFlight, C: Clock, G: Rng, K: Client> Model for Job<D, L, C, G, K> {
     ghost use Rattle.std.specs.Prelude.{◌≡◌};
     ghost use Rattle.flight.specs.Asking.{origin_in, IsAskedBy};
+    ghost use Rattle.iterate.specs.Task.{hunt_in};
     ghost use Rattle.flight.specs.Flight.{Awaits};
     ghost use Rattle.flight.specs.Kept.{kept_in};
     ghost use Rattle.flight.specs.Waiting.{UnderWay};
@@ -46,7 +47,8 @@ impl<D: Numbered, L: InFlight, C: Clock, G: Rng, K: Client> Model for Job<D, L, 
     ghost invariant = { λ job. IsAskedBy K.sent job.asking.port job.octets job.asking.client job.asking.query job.asking.task
         × Awaits D.calls D.seen L.hears C.ticks (K.since job.asking.client) job.asking.port job.asking.query.question
         job.asking.task.steps.items (L.asked job.line) job.asking.seen
-        × (job.kept ≡ kept_in job.asking.task.steps.items) };
+        × (job.kept ≡ kept_in job.asking.task.steps.items)
+        × L.listed job.line (hunt_in job.asking.task.phase) };
 }
 
 impl<D: Numbered, L: InFlight, C: Clock, G: Rng, K: Client> Job<D, L, C, G, K> {

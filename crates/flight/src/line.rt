@@ -1,6 +1,7 @@
 //! An exchange under way with a name server.
 
 ghost use Rattle.std.specs.Prelude.{◌≡◌, ℕ, List, Option};
+ghost use Rattle.iterate.specs.declared.search.Hunt.{Hunt};
 ghost use Rattle.flight.specs.Flight.{Sent};
 
 use dns_text::Addr;
@@ -15,6 +16,9 @@ pub trait InFlight: Drop {
 
     /// What may come of a query: these octets as its reply, or None if its exchange could not begin, broke, or had no time left.
     ghost hears: { Sent → Option (List ℕ) → Type 0 };
+
+    /// The exchange began with this list of servers, or with none.
+    ghost listed: { Self → Option Hunt → Type 0 };
 
     /// The server that is asked.
     fn server(&self) -> Addr

@@ -1,10 +1,13 @@
 //! The clients of a worker, and its sockets.
 
-ghost use Rattle.std.specs.Prelude.{◌≡◌, ◌≤◌, ℕ, List, None, Some, length, IfNone, IfSome, OnSome};
+ghost use Rattle.std.specs.Prelude.{◌≡◌, ◌≤◌, ℕ, List, None, Option, Some, length, IfNone, IfSome, OnSome};
+ghost use Rattle.std.specs.Option.{option_copied};
+ghost use Rattle.iterate.specs.declared.search.Hunt.{Hunt};
 ghost use Rattle.dns_wire.specs.Server.Asking.{IsGood};
 ghost use Rattle.dns_query.specs.declared.over.Over.{Over};
 ghost use Rattle.front_workers.specs.Serves.{fault_octets, most_octets};
 ghost use Rattle.flight.specs.declared.counts.Counts.{Counts};
+ghost use Rattle.flight.specs.declared.outside.Listened.{Listened};
 ghost use Rattle.flight.specs.Clients.{Settles};
 ghost use Rattle.flight.specs.Counted.{CountsAbandoned, CountsExpired, CountsListened, CountsOpened};
 ghost use Rattle.flight.specs.Flight.{query_to};
@@ -81,6 +84,9 @@ pub trait Outside<D: Numbered, L: InFlight, C: Clock, K: Client> {
     /// after.
     ghost posts: { Sending → K → List ℕ → Sending → Type 0 };
 
+    /// A call listened to an exchange, and this was heard: the sockets before, the exchange, what was heard, the sockets after.
+    ghost listens: { Self → L → Listened → Self → Type 0 };
+
     /// The port of name servers that are known by name.
     fn server_port(&self) -> u16
         ensures { result ≡ server_port self.now };
@@ -109,6 +115,7 @@ pub trait Outside<D: Numbered, L: InFlight, C: Clock, K: Client> {
     ) -> Option<L>
         ensures asked { IfSome result (λ line. L.asked line ≡ query_to server.now over query) }
         ensures watched { IfSome result (λ line. L.key line ≡ key) }
+        ensures listed { (line : L) → result ≡ Some line → L.listed line (option_copied hunt.entry) }
         ensures opened { OnSome result (CountsOpened (counts self.old) (counts self.new)) }
         ensures unopened { IfNone result (counts self.new ≡ counts self.old) }
         ensures failed { IfNone result (L.hears (query_to server.now over query) None) }
@@ -119,6 +126,8 @@ pub trait Outside<D: Numbered, L: InFlight, C: Clock, K: Client> {
         ensures heard { IsHeard (L.hears (L.asked line.old)) result }
         ensures asked { L.asked line.new ≡ L.asked line.old }
         ensures watched { L.key line.new ≡ L.key line.old }
+        ensures listed { (hunt : Option Hunt) → L.listed line.old hunt → L.listed line.new hunt }
+        ensures listens { listens self.old line.old result self.new }
         ensures listened { CountsListened result (counts self.old) (counts self.new) }
         ensures keeps { Keeps server_port outbox self.old self.new };
 

@@ -1,7 +1,7 @@
 //! The calls of this crate that want memory, those of a task in the module below. Each returns a `Refused` if it got none, and nothing
 //! else makes one.
 
-ghost use Rattle.std.specs.Prelude.{◌≡◌, ◌<◌, ◌≤◌, [], ℕ, List, length, option_map, IfErr, IfOk, IfSome, MatchOption, OnOk};
+ghost use Rattle.std.specs.Prelude.{◌≡◌, ◌<◌, ◌≤◌, [], ℕ, List, Option, length, option_map, IfErr, IfOk, IfSome, MatchOption, OnOk};
 ghost use Rattle.std.specs.VecDeque.{deque_capacity, deque_len};
 ghost use Rattle.slab.specs.Slab.{HasRoomFor};
 ghost use Rattle.dns_wire.specs.declared.server.query.Asked.TheVariants.{Good};
@@ -9,6 +9,7 @@ ghost use Rattle.dns_wire.specs.Server.Asking.{AsksFor, IsGood};
 ghost use Rattle.front_workers.specs.Serves.{most_octets, Tells};
 ghost use Rattle.history.specs.declared.event.Ask.TheVariants.{Answer as Asks};
 ghost use Rattle.history.specs.declared.event.Event.TheVariants.{Look};
+ghost use Rattle.iterate.specs.declared.search.Hunt.{Hunt};
 ghost use Rattle.iterate.specs.declared.want.Want.TheVariants.{Book};
 ghost use Rattle.iterate.specs.Exchanges.{AddsLook, Exchange};
 ghost use Rattle.iterate.specs.Phase.{Suits};
@@ -60,6 +61,8 @@ pub(crate) fn hear<D: Numbered, L: InFlight, C: Clock, K: Client, O: Outside<D, 
     ensures heard { IsHeard (L.hears (L.asked line.old)) (listened_of result) }
     ensures asked { L.asked line.new ≡ L.asked line.old }
     ensures watched { L.key line.new ≡ L.key line.old }
+    ensures listed { (hunt : Option Hunt) → L.listed line.old hunt → L.listed line.new hunt }
+    ensures listens { O.listens outside.old line.old (listened_of result) outside.new }
     ensures listened { CountsListened (listened_of result) (O.counts outside.old) (O.counts outside.new) }
     ensures keeps { Keeps O.server_port O.outbox outside.old outside.new }
 {

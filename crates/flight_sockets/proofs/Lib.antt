@@ -4,6 +4,7 @@ mod Durations
 mod Filling
 mod Flowing
 mod Hearing
+mod Memory
 mod Moving
 mod Outboxes
 mod Passing

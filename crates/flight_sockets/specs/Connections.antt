@@ -3,6 +3,11 @@ use Rattle.std.specs.Prelude.{◌≡◌, ◌≢◌, ◌⊎◌, ℕ, ◌+◌, ◌
 use Rattle.front_workers.specs.Framing.{framed, HasLength}
 use Rattle.flight_sockets.specs.Passages.{AllPassed, Passage, Passes, read_in, written_in}
 
+-- the replies that a connection is owed
+pub record OwedState : Type 0 where
+  pub octets : List ℕ  -- those of their octets that have not left, with the lengths before them
+  pub kept : ℕ  -- how many octets of memory they take
+
 -- the visible state of a client's connection
 pub record ConnectionState (S : Type 0) : Type 0 where
   pub stream : S  -- the connection itself
@@ -10,10 +15,11 @@ pub record ConnectionState (S : Type 0) : Type 0 where
   pub network : ℕ  -- the network of its client
   pub begun : List ℕ  -- what has come of the next message, with the length before it
   pub owed : List ℕ  -- the octets of replies that have not left, with the lengths before them
+  pub kept : ℕ  -- how many octets of memory it keeps, for the message that has begun and for what is owed
 
 -- a connection by which nothing has passed
 abbrev pub fresh : {S : Type 0} → S → ℕ → ℕ → ConnectionState S
-fresh stream serial network = record { stream = stream; serial = serial; network = network; begun = []; owed = [] }
+fresh stream serial network = record { stream = stream; serial = serial; network = network; begun = []; owed = []; kept = 0 }
 
 -- By a connection just these messages came whole, and just these replies came to be owed, each preceded by its length. What was read is those messages one after another, with what has come of the next. What was written is the first of what is owed, in order, and nothing else.
 pub record Serves {S : Type 0} (reads writes : Passes S) (messages replies : List (List ℕ)) (old new : ConnectionState S) : Type 0 where

@@ -1,11 +1,12 @@
 -- The exchanges of a worker, each over a socket of its own.
-use Rattle.std.specs.Prelude.{◌≡◌, ◌⊎◌, ℕ, Bool, true, false, Option, Some, List}
+use Rattle.std.specs.Prelude.{◌≡◌, ◌⊎◌, ◌<◌, ℕ, Bool, true, false, Option, Some, List, length}
 use Rattle.std.specs.declared.net.SocketAddr.{SocketAddr}
 use Rattle.mio.specs.declared.token.Token.{Token}
 use Rattle.dns_name.specs.Labels.{Labels}
 use Rattle.dns_text.specs.declared.addr.Addr.{Addr}
 use Rattle.dns_query.specs.declared.over.Over.{Over}
 use Rattle.dns_query.specs.declared.over.Over.TheVariants.{Udp as OverUdp, Tcp as OverTcp}
+use Rattle.dns_sockets.specs.declared.name_servers.framed_query.TheConstants.{MOST_QUERY}
 use Rattle.dns_sockets.specs.Fits.{Fits}
 use Rattle.dns_sockets.specs.Place.{IsPlaceOf}
 use Rattle.front_workers.specs.Framing.{framed}
@@ -108,10 +109,15 @@ pub record TellsOf {S : Type 0} (may : Option (List ℕ) → Type 0) (sent came 
   pub anew : heard ≡ Anew → exchange.waits ≡ true
   pub broken : heard ≡ Broken → IsBroken may sent came failed exchange
 
--- Over UDP no exchange with a server could begin: the network failed, its address belongs to no host, a socket that is connected to it failed, or the address is the service's own.
-abbrev pub IsNotToBeHad : {S : Type 0} → Type 0 → (S → SocketAddr → Type 0) → (S → SocketAddr → Type 0) → (S → Type 0) → SocketAddr → Addr → Over → Type 0
-IsNotToBeHad {S} failed opened is_at failed' service server over =
-    over ≡ OverUdp → (place : SocketAddr) × IsPlaceOf server place × IsNoLine failed opened is_at failed' service place
+-- By such a socket no exchange with a server could begin: the network failed, the server's address belongs to no host, a socket that is connected to it failed, or the address is the service's own.
+abbrev pub HasNoLine : {S : Type 0} → Type 0 → (S → SocketAddr → Type 0) → (S → SocketAddr → Type 0) → (S → Type 0) → SocketAddr → Addr → Type 0
+HasNoLine {S} failed opened is_at failed' service server = (place : SocketAddr) × IsPlaceOf server place × IsNoLine failed opened is_at failed' service place
+
+-- No exchange with a server could begin, by a socket or by a connection. Over TCP the query may also be longer than one may be.
+pub record IsNotToBeHad {S C : Type 0} (failed : Type 0) (opened is_at : S → SocketAddr → Type 0) (failed' : S → Type 0) (connected is_from : C → SocketAddr → Type 0) (broken : C → Type 0)
+    (service : SocketAddr) (server : Addr) (over : Over) (query : List ℕ) : Type 0 where
+  pub udp : over ≡ OverUdp → HasNoLine failed opened is_at failed' service server
+  pub tcp : over ≡ OverTcp → (MOST_QUERY < length query) ⊎ HasNoLine failed connected is_from broken service server
 
 -- The fact holds if nothing came yet, or a reply did.
 abbrev pub OnUnbroken : Listened → Type 0 → Type 0

@@ -9,6 +9,7 @@ pub mod Exchanges
 pub mod Hashing
 pub mod Kept
 pub mod Looked
+pub mod Memory
 pub mod Moves
 pub mod Networks
 pub mod Outgoing

@@ -65,6 +65,10 @@ mod filled_cells;
 mod zone_shares;
 // How the workers of a service ask name servers.
 mod asking;
+// The seed of a worker's tables.
+mod table_seed;
+// The replies that report a fault.
+mod report;
 // The zones that servers refused lately, each at its server.
 mod refused_zones;
 // The refusals that a worker remembers.
@@ -88,6 +92,7 @@ pub use listener::{UdpListener, listen_each};
 pub use mio::Waker;
 pub use permits::{MOST_EQUAL, Permits};
 pub use service_socket::ServiceSocket;
+pub use table_seed::TableSeed;
 pub use tally::{Sums, Tally};
 pub use tcp::client_stream::ClientStream;
 pub use tcp::listener::{ClientListener, TcpPoll, share_listener};

@@ -1,6 +1,6 @@
 //! The permits of exchanges: a few for each question, over all workers.
 
-ghost use Rattle.std.specs.Prelude.{◌≡◌, IfErr, IfOk};
+ghost use Rattle.std.specs.Prelude.{◌≡◌, ◌<◌, IfOk, MatchResult};
 
 use cell_store::NameSeed;
 use dns_text::NoMemory;
@@ -16,10 +16,11 @@ pub const MOST_EQUAL: u64 = 4;
 /// The counters of permits. Where four workers have all their exchanges under way, two in 100,000 wait though no equal one does.
 pub(crate) const COUNTERS: usize = 16_384;
 
-/// The right to begin one exchange. It cannot be cloned, and only `Permits::take` makes one.
+/// The right to begin the exchange under one key. It cannot be cloned, and only `Permits::take` makes one.
 #[derive(Drop)]
 pub(crate) struct Permit {
     counter: usize,
+    key: usize,
 }
 
 impl Permit {
@@ -29,12 +30,21 @@ impl Permit {
     {
         self.counter
     }
+
+    /// The key of its exchange.
+    pub fn key(&self) -> usize
+        ensures { result ≡ self.now.key }
+    {
+        self.key
+    }
 }
 
-/// No permit was free. Only `Permits::take` makes one, so an exchange waits only if it was refused a permit.
+/// No permit was free for the exchange under one key. Only `Permits::take` makes one, so an exchange waits only if it was refused a
+/// permit.
 #[derive(Drop)]
 pub(crate) struct NoPermit {
     counter: usize,
+    key: usize,
 }
 
 impl NoPermit {
@@ -67,7 +77,9 @@ impl Permits {
     }
 
     /// The number of the counter for the question of a query. Names that differ in the case of letters are equal (RFC 1035, section 2.3.3).
-    pub(crate) fn counter_of(&self, query: &[u8]) -> usize {
+    pub(crate) fn counter_of(&self, query: &[u8]) -> usize
+        ensures { result < COUNTERS }
+    {
         let mut hasher = self.seed.build_hasher();
         for octet in query.iter().skip(HEADER_OCTETS) {
             hasher.write(&[octet.to_ascii_lowercase()]);
@@ -83,19 +95,19 @@ impl Permits {
         }
     }
 
-    /// Takes a permit, if one is free. Where there is no such counter, one is.
-    pub(crate) fn take(&self, counter: usize) -> Result<Permit, NoPermit>
-        ensures taken { IfOk result (λ permit. permit.counter ≡ counter) }
-        ensures refused { IfErr result (λ refused. refused.counter ≡ counter) }
+    /// Takes a permit for the exchange under a key, if one is free. Where there is no such counter, one is.
+    pub(crate) fn take(&self, counter: usize, key: usize) -> Result<Permit, NoPermit>
+        ensures counter { MatchResult result (λ permit. permit.counter ≡ counter) (λ refused. refused.counter ≡ counter) }
+        ensures key { MatchResult result (λ permit. permit.key ≡ key) (λ refused. refused.key ≡ key) }
     {
         let Some(held) = self.held.get(counter) else {
-            return Ok(Permit { counter });
+            return Ok(Permit { counter, key });
         };
         if held.fetch_add(1, Ordering::SeqCst) < MOST_EQUAL {
-            return Ok(Permit { counter });
+            return Ok(Permit { counter, key });
         }
         self.give_back(counter);
-        Err(NoPermit { counter })
+        Err(NoPermit { counter, key })
     }
 
     /// Gives a permit back that was taken.

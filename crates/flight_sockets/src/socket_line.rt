@@ -99,6 +99,9 @@ impl<R: ReadyNet> InFlight for SocketLine<R> {
     ghost hears = { MayCome R.Datagrams.opened R.Datagrams.sent R.Datagrams.came
         R.Connection.connected R.Connection.contents R.Connection.remaining };
 
+    // Of the list only the zone is kept, if strangers may have named the servers.
+    ghost listed = { λ _ _. Unit {0} };
+
     fn server(&self) -> Addr {
         self.server
     }
@@ -129,7 +132,7 @@ impl<R: ReadyNet> SocketLine<R> {
         ensures may_ask { OnOk result (MayAskServer R.Datagrams.opened R.Datagrams.is_at R.Connection.connected R.Connection.is_at
             over service server.now) }
         ensures failed { OnErr result (IsNotToBeHad R.failed R.Datagrams.opened R.Datagrams.is_at R.Datagrams.failed
-            service server.now over) }
+            R.Connection.connected R.Connection.is_at R.Connection.failed service server.now over query) }
     {
         let place = place_of(server);
         let octets = query.get().as_slice();
@@ -152,8 +155,8 @@ impl<R: ReadyNet> SocketLine<R> {
         })
     }
 
-    /// An exchange that was refused a permit, and waits for one. It sends nothing, and its question begins anew once it is listened to. It
-    /// is counted as one that begins.
+    /// An exchange that was refused its permit, and waits for one. It sends nothing, and its question begins anew once it is listened to.
+    /// It is counted as one that begins.
     pub fn waiting(
         refused: NoPermit,
         token: Token,
@@ -163,6 +166,7 @@ impl<R: ReadyNet> SocketLine<R> {
         query: Shared<Octets>,
         counts: &mut Counts,
     ) -> SocketLine<R>
+        requires { refused.key ≡ token.0 }
         ensures asked { result.asked ≡ query_to server.now over query }
         ensures token { result.token ≡ token }
         ensures waits { result.waits ≡ true }

@@ -25,6 +25,7 @@ use crate::outbox::Outbox;
 use crate::reply_sender::ReplySender;
 use crate::service_socket::ServiceSocket;
 use crate::socket_line::SocketLine;
+use crate::table_seed::TableSeed;
 use crate::tally::Tally;
 use crate::worker_sockets::WorkerSockets;
 use command_text::Clock;
@@ -107,7 +108,7 @@ impl<'a, R: ReadyNet + Log + Elapsing + Wait, S: ServiceSocket> Turns<'a, R, S> 
         alloc: Global,
         listener: UdpListener<S>,
         asking: Asking<'a>,
-        seed: u64,
+        seed: TableSeed,
         start: Instant,
     ) -> Result<Turns<'a, R, S>, NoMemory>
         ensures { IfOk result (λ turns. turns ≡ fresh_worker listener.socket (asking_at listener.place asking.entry) start) }

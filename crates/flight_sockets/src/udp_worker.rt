@@ -15,6 +15,7 @@ use crate::fault_line::cause_of;
 use crate::inbox::Inbox;
 use crate::listener::UdpListener;
 use crate::service_socket::ServiceSocket;
+use crate::table_seed::TableSeed;
 use crate::tally::Tally;
 use crate::turns::Turns;
 use command_text::Clock;
@@ -54,7 +55,7 @@ impl<'a, R: ReadyNet + Log + Elapsing + Wait, S: ServiceSocket> UdpWorker<'a, R,
         alloc: Global,
         listener: UdpListener<S>,
         asking: Asking<'a>,
-        seed: u64,
+        seed: TableSeed,
         start: Instant,
     ) -> Result<UdpWorker<'a, R, S>, NoMemory>
         ensures { IfOk result (λ worker. worker ≡ fresh_worker listener.socket (asking_at listener.place asking.entry) start) }

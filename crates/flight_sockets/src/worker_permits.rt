@@ -1,5 +1,9 @@
 //! The permits of one worker's exchanges.
 
+ghost use Rattle.std.specs.Prelude.{◌≡◌, ◌<◌, vec_len, IfOk, MatchResult};
+ghost use Rattle.flight_sockets.specs.declared.limit.TheConstants.{MOST_EXCHANGES};
+ghost use Rattle.flight_sockets.specs.declared.permits.TheConstants.{COUNTERS};
+
 use crate::limit::MOST_EXCHANGES;
 use crate::permits::{COUNTERS, NoPermit, Permit, Permits};
 use dns_text::NoMemory;
@@ -32,6 +36,7 @@ pub(crate) struct WorkerPermits<'a> {
     gave_back: bool,
     /// The moment of the last look that found none, in milliseconds.
     looked: u64,
+    ghost each: { vec_len stands ≡ MOST_EXCHANGES },
 }
 
 impl<'a> WorkerPermits<'a> {
@@ -49,11 +54,14 @@ impl<'a> WorkerPermits<'a> {
 
     /// Asks for a permit for the exchange of a query, under this key. If none is free, the exchange waits. Beyond the last key no permit
     /// is counted.
-    pub fn ask(&mut self, key: usize, query: &[u8]) -> Result<Permit, NoPermit> {
+    pub fn ask(&mut self, key: usize, query: &[u8]) -> Result<Permit, NoPermit>
+        ensures key { MatchResult result (λ permit. permit.key ≡ key) (λ refused. refused.key ≡ key) }
+        ensures counted { key < MOST_EXCHANGES → IfOk result (λ permit. permit.counter < COUNTERS) }
+    {
         let Some(stand) = self.stands.get_mut(key) else {
-            return self.permits.take(COUNTERS);
+            return self.permits.take(COUNTERS, key);
         };
-        match self.permits.take(self.permits.counter_of(query)) {
+        match self.permits.take(self.permits.counter_of(query), key) {
             Ok(permit) => {
                 *stand = Stand::Holds(permit.counter());
                 Ok(permit)

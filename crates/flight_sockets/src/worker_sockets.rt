@@ -37,8 +37,10 @@ use crate::permits::Permit;
 use crate::refusals::Refusals;
 use crate::refused_zones::list_of_strangers;
 use crate::reply_sender::ReplySender;
+use crate::report::{is_too_long, report_of};
 use crate::service_socket::ServiceSocket;
 use crate::socket_line::SocketLine;
+use crate::table_seed::TableSeed;
 use crate::tally::Tally;
 use crate::tcp::client_stream::ClientStream;
 use crate::tcp::front::TcpFront;
@@ -49,7 +51,7 @@ use dns_name::Name;
 use dns_query::Over;
 use dns_sockets::{AddressRange, MonotonicClock, OneSocket, ReadyNet, glance, is_withheld};
 use dns_text::{Addr, NoMemory, Octets, Shared};
-use dns_wire::{HEADER_OCTETS, Rcode, fault_reply};
+use dns_wire::Rcode;
 use flight::{Cause, Client, Counts, InFlight, Listened, Numbered, Outside, ReplyOctets, Unserved};
 use front_workers::{DEVICE_FAULT, MOST_MESSAGE, wants_reply};
 use history::{Event, Servers};
@@ -65,23 +67,6 @@ use std::time::Duration;
 
 /// The cause of an exchange that fails because its server is withheld, in words.
 const WITHHELD: &str = "withheld";
-
-/// The reply that reports a fault, by the header alone.
-fn report_of(front: &[u8], rcode: Rcode) -> ReplyOctets
-    requires { 12 ≤ length front.now }
-    ensures octets { octets_of result ≡ fault_octets front.now rcode }
-    ensures short { length (octets_of result) ≡ 12 }
-{
-    ReplyOctets::Header(fault_reply(front, rcode).unwrap())
-}
-
-/// Whether a reply reports that no message holds the answer: it is a message, and a header alone. Faults of a query are no messages.
-fn is_too_long(reply: &ReplyOctets) -> bool {
-    match reply {
-        ReplyOctets::Message(octets) => octets.len() == HEADER_OCTETS,
-        ReplyOctets::Header(_) => false,
-    }
-}
 
 /// The sockets of one worker: those by which replies leave, and those of its exchanges.
 #[derive(Drop)]
@@ -132,7 +117,7 @@ impl<'a, R: Log, B: Drop> WorkerSockets<'a, R, B> {
         place: SocketAddr,
         outbox: B,
         asking: Asking<'a>,
-        seed: u64,
+        seed: TableSeed,
     ) -> Result<WorkerSockets<'a, R, B>, NoMemory>
         ensures asks { IfOk result (λ sockets. asking_of sockets ≡ asking_at place asking.entry) }
         ensures counts { IfOk result (λ sockets. sockets.counts ≡ no_counts) }
@@ -150,8 +135,8 @@ impl<'a, R: Log, B: Drop> WorkerSockets<'a, R, B> {
             server_port: asking.server_port,
             room: Vec::from_elem(alloc, 0u8, MOST_MESSAGE)?,
             do_not_query: asking.do_not_query,
-            pauses: Pauses::new(alloc, seed)?,
-            refusals: Refusals::new(alloc, seed)?,
+            pauses: Pauses::new(alloc, seed.number())?,
+            refusals: Refusals::new(alloc, seed.number())?,
             permits: WorkerPermits::new(alloc, asking.permits)?,
             shares: asking.shares,
             renewals: asking.renewals,
@@ -326,18 +311,17 @@ impl<'a, R: Log, S: ServiceSocket> WorkerSockets<'a, R, Outbox<S>> {
 impl<'a, R: ReadyNet + Log, B: Drop> WorkerSockets<'a, R, B> {
     ghost use Rattle.flight_sockets.specs.Sockets.{sockets_of};
 
-    /// Begins an exchange, for its permit. Returns `None` if it could not begin.
+    /// Begins an exchange, for its permit and under the key of that. Returns `None` if it could not begin.
     fn begin(
         &mut self,
         permit: Permit,
-        key: usize,
         server: &Addr,
         list: Option<Shared<Servers>>,
         over: Over,
         query: Shared<Octets>,
     ) -> Option<SocketLine<R>>
         ensures asked { IfSome result (λ line. line.asked ≡ query_to server.now over query) }
-        ensures watched { IfSome result (λ line. line.token.0 ≡ key) }
+        ensures watched { IfSome result (λ line. line.token.0 ≡ permit.key) }
         ensures sent { IfSome result (λ line. line.waits ≡ false) }
         ensures opened { OnSome result (CountsOpened self.old.counts self.new.counts) }
         ensures unopened { IfNone result (self.new.counts ≡ self.old.counts) }
@@ -345,9 +329,10 @@ impl<'a, R: ReadyNet + Log, B: Drop> WorkerSockets<'a, R, B> {
         ensures may_ask { OnSome result (MayAskServer R.Datagrams.opened R.Datagrams.is_at R.Connection.connected R.Connection.is_at
             over self.old.place server.now) }
         ensures failed { IfNone result (IsNotToBeHad R.failed R.Datagrams.opened R.Datagrams.is_at R.Datagrams.failed
-            self.old.place server.now over) }
+            R.Connection.connected R.Connection.is_at R.Connection.failed self.old.place server.now over query) }
         ensures unnoted { (self.new.pauses ≡ self.old.pauses) × (self.new.refusals ≡ self.old.refusals) }
     {
+        let key = permit.key();
         self.tally.ask(over);
         let asked = query.share();
         match SocketLine::open(
@@ -415,6 +400,9 @@ impl<'a, D: Numbered, C: Clock, R: ReadyNet + Log + Wait, K: Client, B: ReplySen
 
     ghost posts = { PostsBy B.posts };
 
+    // What was heard is counted.
+    ghost listens = { λ old _ heard new. CountsListened heard old.counts new.counts };
+
     fn server_port(&self) -> u16 {
         self.server_port
     }
@@ -440,8 +428,8 @@ impl<'a, D: Numbered, C: Clock, R: ReadyNet + Log + Wait, K: Client, B: ReplySen
         query: Shared<Octets>,
     ) -> Option<SocketLine<R>>
         // As for any `Outside`. Also, the server is not withheld and has not refused the zone lately, and if a query left, the service
-        // may ask that server. Over UDP there is an exchange unless that is so, the server is passed over, for every question or for
-        // this one, the network failed, the address belongs to no host, or the server is the service itself.
+        // may ask that server. There is an exchange unless that is so, the server is passed over, for every question or for this one, the
+        // network failed, the address belongs to no host, the server is the service itself, or over TCP the query is too long.
         ensures asked { IfSome result (λ line. line.asked ≡ query_to server.now over query) }
         ensures watched { IfSome result (λ line. line.token.0 ≡ key) }
         ensures opened { OnSome result (CountsOpened self.old.counts self.new.counts) }
@@ -455,7 +443,8 @@ impl<'a, D: Numbered, C: Clock, R: ReadyNet + Log + Wait, K: Client, B: ReplySen
         ensures failed { IfNone result (
             IsLeftAlone self.old.do_not_query.now server.now over (option_copied hunt.entry) self.old.moment self.old.refusals
             ⊎ (IsPassedOver server.now (others_in (option_copied hunt.entry)) over query self.old.moment self.old.pauses
-            ⊎ IsNotToBeHad R.failed R.Datagrams.opened R.Datagrams.is_at R.Datagrams.failed self.old.place server.now over)) }
+            ⊎ IsNotToBeHad R.failed R.Datagrams.opened R.Datagrams.is_at R.Datagrams.failed
+            R.Connection.connected R.Connection.is_at R.Connection.failed self.old.place server.now over query)) }
         ensures pauses { (self.new.refusals ≡ self.old.refusals)
             × HeedsPause
             (IsLeftAlone self.old.do_not_query.now server.now over (option_copied hunt.entry) self.old.moment self.old.refusals)
@@ -498,7 +487,7 @@ impl<'a, D: Numbered, C: Clock, R: ReadyNet + Log + Wait, K: Client, B: ReplySen
             self.permits.end(key);
             return None;
         }
-        self.begin(permit, key, server, shared, over, query)
+        self.begin(permit, server, shared, over, query)
     }
 
     fn hear(&mut self, line: &mut SocketLine<R>) -> Listened

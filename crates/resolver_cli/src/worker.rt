@@ -6,11 +6,13 @@ ghost use Rattle.resolver_args.specs.declared.mode.TheConstants.{MOST_WORKERS};
 use crate::gauges::Gauges;
 use crate::sockets::{Shares, Sockets};
 use dns_sockets::MonotonicClock;
-use flight_sockets::{Asking, Tally, TcpPoll, TcpWorker, UdpListener, UdpWorker, fly_tcp, fly_udp};
+use flight_sockets::{
+    Asking, TableSeed, Tally, TcpPoll, TcpWorker, UdpListener, UdpWorker, fly_tcp, fly_udp,
+};
 use log::Log;
 use operators::{CliFault, WatchedBook};
 use rand::rngs::StdRng;
-use rand_core::{Rng, SeedableRng};
+use rand_core::SeedableRng;
 use shared_book::{CallLedger, Pass, Seat, SharedBook};
 use std::alloc::Global;
 use std::io;
@@ -81,9 +83,13 @@ fn generator<R: RandomSource>(rt: &R, seed: Option<u32>, number: u8) -> Result<S
 }
 
 /// The seed of a worker's tables. It is drawn apart, so that a fixed seed still gives the same query identifiers.
-fn table_seed<R: RandomSource>(rt: &R, seed: Option<u32>, number: u8) -> Result<u64, CliFault> {
+fn table_seed<R: RandomSource>(
+    rt: &R,
+    seed: Option<u32>,
+    number: u8,
+) -> Result<TableSeed, CliFault> {
     let mut drawn = generator(rt, seed, number)?;
-    Ok(drawn.next_u64())
+    Ok(TableSeed::draw(&mut drawn))
 }
 
 /// A pass to the book for one thread.

@@ -16,6 +16,8 @@ use Rattle.history.specs.History.{past_of}
 use Rattle.history.specs.Reply.{reply_of}
 use Rattle.shared_book.specs.declared.fault.CallFault.{CallFault}
 use Rattle.shared_book.specs.declared.fault.CallFault.TheVariants.{Behind as CallBehind, Step as CallStep}
+use Rattle.shared_book.specs.declared.fault.SplitFault.{SplitFault}
+use Rattle.shared_book.specs.declared.fault.SplitFault.TheVariants.{CountEnded as SplitEnded}
 use Rattle.shared_book.specs.declared.receipt.Receipt.{Receipt}
 use Rattle.shared_book.specs.declared.shared.TheConstants.{MOST_TURNS}
 use Rattle.shared_book.specs.Pass.{PassState, after_call}
@@ -108,6 +110,6 @@ abbrev pub SweepsOn : {B : Type 0} → (B → List Event → Type 0) → (B → 
 SweepsOn stands_for made_with stored unswept settings whole (Ok Swept) = IsSweepThere stands_for made_with stored unswept settings whole MOST_TURNS
 SweepsOn stands_for made_with stored unswept settings whole answer = Unit {0}
 
--- A pass was not split because it has one part, or because as many callers were numbered under the lock as there may be.
-abbrev pub IsUnsplit : {B : Type 0} → (B → List Event → Type 0) → (B → Settings) → PassState → Type 0
-IsUnsplit {B} stands_for made_with pass = (pass.parts ≡ 1) ⊎ ((kept : KeptState B) × IsKept stands_for made_with kept × (2 ^ 62 ≤ kept.callers))
+-- A pass was not split because it has one part, or because as many callers were numbered under the lock as there may be. The fault has the parts of this pass.
+abbrev pub IsUnsplit : PassState → SplitFault → Type 0
+IsUnsplit pass (SplitEnded ended) = (ended.parts ≡ pass.parts) × ((ended.parts ≡ 1) ⊎ (2 ^ 62 ≤ ended.callers))

@@ -34,6 +34,11 @@ pub record IsJoined (all : ℕ) (first second joined : PassState) : Type 0 where
   pub parts : first.parts + second.parts < 2 ^ 64 → joined.parts ≡ first.parts + second.parts
   pub within : first.parts + second.parts ≤ all
 
+-- what a split found that counts no caller more
+pub record EndedState : Type 0 where
+  pub parts : ℕ  -- the parts of the pass
+  pub callers : ℕ  -- how many callers were numbered
+
 -- how many calls the passes count
 abbrev pub calls_of : List PassState → ℕ
 calls_of passes = sum (map (λ pass. pass.made) passes)

@@ -1,12 +1,12 @@
 //! The calls to a book under the lock, by callers with a pass.
 
-ghost use Rattle.std.specs.Prelude.{◌≡◌, ◌+◌, ◌<◌, ◌≤◌, ◌^◌, ◌↔◌, ◌⊎◌, IfOk, OnOk, OnErr, IsErr, IsErrOf};
+ghost use Rattle.std.specs.Prelude.{◌≡◌, ◌+◌, ◌<◌, ◌≤◌, ◌^◌, ◌↔◌, ◌⊎◌, IfOk, IfErr, OnOk, OnErr, IsErr, IsErrOf};
 ghost use Rattle.shared_book.specs.Pass.{IsSplit, IsJoined, calls_of, parts_of};
 ghost use Rattle.history.specs.Desk.{IsStep as IsBookStep};
 ghost use Rattle.shared_book.specs.Kept.{HasFreeRoom, IsFreeCall, IsKept};
-ghost use Rattle.shared_book.specs.Calling.{IsCall};
+ghost use Rattle.shared_book.specs.Calling.{IsCall, IsUnsplit};
 
-use crate::fault::{CallFault, SplitFault};
+use crate::fault::{CallFault, Ended, SplitFault};
 use crate::kept::Kept;
 use crate::ledger::CallLedger;
 use crate::pass::Pass;
@@ -44,17 +44,16 @@ impl<B: Book, L: CallLedger> Kept<B, L> {
     pub(crate) fn split(&mut self, pass: &mut Pass<L>) -> Result<Pass<L>, SplitFault>
         ensures kept { IsKept B.stands_for B.settings self.old }
         ensures refused { IsErr result ↔ ((pass.old.parts ≡ 1) ⊎ (2 ^ 62 ≤ self.old.callers)) }
+        ensures unsplit { IfErr result (IsUnsplit pass.old) }
         ensures split { IfOk result (λ new. IsSplit pass.old new pass.new) }
         ensures caller { IfOk result (λ new. new.caller ≡ self.old.callers) }
         ensures numbered { OnOk result (self.new ≡ record self.old { callers = self.old.callers + 1 }) }
         ensures err { OnErr result ((self.new ≡ self.old) × (pass.new ≡ pass.old)) }
     {
-        if pass.parts() < 2 || self.callers >= 1 << 62 {
-            return Err(SplitFault::CountEnded);
+        if pass.parts() < 2 || self.callers.count() >= 1 << 62 {
+            return Err(SplitFault::CountEnded(Ended::of(self, pass)));
         }
-        let new = pass.halve(self.callers);
-        self.callers += 1;
-        Ok(new)
+        Ok(pass.halve(self.callers.next()))
     }
 
     /// Both passes in one.

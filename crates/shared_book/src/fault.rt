@@ -1,6 +1,12 @@
 //! The faults of calls, splits and closings. After each, nothing has changed.
 
-use history::StepFault;
+ghost use Rattle.std.specs.Prelude.{◌≡◌, ◌⊎◌, ◌≤◌, ◌^◌};
+
+use crate::kept::Kept;
+use crate::ledger::CallLedger;
+use crate::pass::Pass;
+use history::{Book, StepFault};
+use std::marker::Model;
 use thiserror::Error;
 
 /// The reason that a call gets no reply.
@@ -15,11 +21,41 @@ pub enum CallFault {
 }
 
 /// The reason that a pass is not split.
-#[derive(Clone, Copy, Debug, PartialEq, Eq, Error)]
+#[derive(Debug, Drop, Error)]
 pub enum SplitFault {
     /// It has one part left, or caller numbers have run out.
     #[error("no more callers are counted")]
-    CountEnded,
+    CountEnded(Ended),
+}
+
+/// What a split found under the lock: the parts of its pass, and how many callers were numbered. Only `Ended::of` makes one, and requires
+/// that no caller more is counted.
+#[derive(Debug, Drop)]
+pub struct Ended {
+    parts: u64,
+    callers: u64,
+}
+
+impl Model for Ended {
+    ghost use Rattle.shared_book.specs.Pass.{EndedState};
+
+    ghost Value = { EndedState };
+
+    ghost view = { λ ended. record { parts = ended.parts; callers = ended.callers } };
+}
+
+impl Ended {
+    /// A pass has one part, or as many callers were numbered as there may be.
+    pub(crate) fn of<B: Book, L: CallLedger>(kept: &Kept<B, L>, pass: &Pass<L>) -> Ended
+        requires { (pass.now.parts ≡ 1) ⊎ (2 ^ 62 ≤ kept.now.callers) }
+        ensures parts { result.parts ≡ pass.now.parts }
+        ensures ended { (result.parts ≡ 1) ⊎ (2 ^ 62 ≤ result.callers) }
+    {
+        Ended {
+            parts: pass.parts(),
+            callers: kept.callers.count(),
+        }
+    }
 }
 
 /// The reason that a book is not closed.

@@ -10,6 +10,7 @@ ghost use Rattle.shared_book.specs.Pass.{PassState, first_pass};
 ghost use Rattle.shared_book.specs.Kept.{first_kept, IsFreed, IsKept, MovesOn, IsTaken, IsTurn, IsTurnFor, IsStep, IsCopiedStep, IsSameRecord};
 ghost use Rattle.shared_book.specs.Kept.{HasFreeRoom, IsFreeCall};
 
+use crate::callers::Callers;
 use crate::copies::copies;
 use crate::ledger::{Blank, CallLedger};
 use crate::next_reply::tell;
@@ -37,7 +38,7 @@ pub struct Kept<B: Book, L: CallLedger> {
     pub(crate) opening: B,
     pub(crate) window: Window,
     pub(crate) total: u64,
-    pub(crate) callers: u64,
+    pub(crate) callers: Callers,
     pub(crate) calls: Calls<L>,
     pub(crate) none: Share<L>,
 }
@@ -108,7 +109,7 @@ impl<B: Book, L: CallLedger> Kept<B, L> {
             opening,
             window,
             total: 0,
-            callers: 1,
+            callers: Callers::one(),
             calls,
             none,
         };

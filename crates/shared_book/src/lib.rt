@@ -7,6 +7,8 @@ mod fault;
 mod receipt;
 // The ledger of the calls of one book.
 mod ledger;
+// The numbers of callers.
+mod callers;
 // A caller's right to call, with what it has seen.
 mod pass;
 // The window: the last calls, oldest first.
@@ -35,7 +37,7 @@ mod shared;
 mod seat;
 
 pub use close::NotClosed;
-pub use fault::{CallFault, CloseFault, SplitFault};
+pub use fault::{CallFault, CloseFault, Ended, SplitFault};
 pub use kept::{Kept, MOST_RECORDED};
 pub use laws::{limits_law, one_history, one_verdict};
 pub use ledger::{Blank, CallLedger};

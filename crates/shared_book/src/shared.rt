@@ -76,7 +76,7 @@ impl<B: Book, L: CallLedger> SharedBook<B, L> {
         ensures split { IfOk result (λ new. IsSplit pass.old new pass.new) }
         ensures err { OnErr result (pass.new ≡ pass.old) }
         ensures one_part { pass.old.parts ≡ 1 → IsErr result }
-        ensures refused { IsErr result → IsUnsplit B.stands_for B.settings pass.old }
+        ensures unsplit { IfErr result (IsUnsplit pass.old) }
     {
         self.kept.hold(rt).split(pass)
     }

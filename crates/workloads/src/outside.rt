@@ -78,6 +78,8 @@ impl InFlight for Wire {
 
     ghost hears = { λ _ _. Unit {0} };
 
+    ghost listed = { λ _ _. Unit {0} };
+
     fn server(&self) -> Addr {
         self.server
     }
@@ -157,6 +159,8 @@ impl<D: Numbered> Outside<D, Wire, SetClock, Asker> for Network {
     ghost outbox = { λ _. tt };
 
     ghost posts = { λ _ _ _ _. Unit {0} };
+
+    ghost listens = { λ _ _ _ _. Unit {0} };
 
     fn server_port(&self) -> u16 {
         self.port

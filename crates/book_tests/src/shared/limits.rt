@@ -5,7 +5,7 @@ ghost use Rattle.history.specs.Event.{lagging_of};
 
 use crate::books::books;
 use history::{Book, MakeFault};
-use shared_book::{Blank, CallLedger, MOST_RECORDED, SharedBook, SplitFault};
+use shared_book::{Blank, CallLedger, MOST_RECORDED, SharedBook};
 use std::alloc::Global;
 use std::marker::Brand;
 use std::sync::Wait;
@@ -20,7 +20,7 @@ fn made<B: Book, L: CallLedger, R: Wait>(
     book: B,
     opening: B,
     limit: u64,
-) -> Result<Option<SplitFault>, MakeFault>
+) -> Result<bool, MakeFault>
     requires name { blank.name ≡ L.name }
     requires parts { blank.parts ≡ L.parts }
     requires limit { limit ≡ L.limit }
@@ -29,15 +29,10 @@ fn made<B: Book, L: CallLedger, R: Wait>(
     requires fresh { B.stands_for book [] × B.stands_for opening [] }
 {
     let (book, mut pass) = SharedBook::<B, L>::new(alloc, blank, book, opening, limit)?;
-    Ok(book.split(rt, &mut pass).err())
+    Ok(book.split(rt, &mut pass).is_ok())
 }
 
-fn made_as<R: Wait>(
-    rt: &R,
-    alloc: Global,
-    parts: u64,
-    limit: u64,
-) -> Result<Option<SplitFault>, MakeFault> {
+fn made_as<R: Wait>(rt: &R, alloc: Global, parts: u64, limit: u64) -> Result<bool, MakeFault> {
     let (book, opening) = books(alloc, 64, 100)?;
     made::<PlainBook, Brand, R>(rt, alloc, Blank::new(parts), book, opening, limit)
 }
@@ -48,10 +43,10 @@ fn settings_have_ranges(rt: HostRuntime) {
     for (parts, limit) in [(2, 0), (2, MOST_RECORDED + 1), (0, 1)] {
         assert!(rt; made_as(&rt, alloc, parts, limit) == Err(MakeFault::BadSettings));
     }
-    assert!(rt; made_as(&rt, alloc, 2, MOST_RECORDED) == Ok(None));
+    assert!(rt; made_as(&rt, alloc, 2, MOST_RECORDED) == Ok(true));
 }
 
 #[test]
 fn one_part_is_not_split(rt: HostRuntime) {
-    assert!(rt; made_as(&rt, rt.alloc(), 1, 1) == Ok(Some(SplitFault::CountEnded)));
+    assert!(rt; made_as(&rt, rt.alloc(), 1, 1) == Ok(false));
 }

@@ -1,15 +1,14 @@
 //! A query and its reply over TCP, without waiting.
 
-ghost use Rattle.std.specs.Prelude.{◌≡◌, ◌↔◌, ◌<◌, ◌≤◌, ◌⊎◌, [], length, IsTrue, IfErr, IfOk, IfSome, IsNone, OnOk};
+ghost use Rattle.std.specs.Prelude.{◌≡◌, ◌↔◌, ◌<◌, ◌≤◌, ◌⊎◌, [], length, IsTrue, IfOk, IfSome, IsNone, OnErr, OnOk};
 ghost use Rattle.std.specs.Io.{StartsWith};
-ghost use Rattle.std.specs.IoError.{error_kind};
 ghost use Rattle.front_workers.specs.declared.limits.TheConstants.{MOST_MESSAGE};
 ghost use Rattle.front_workers.specs.Framing.{framed};
 ghost use Rattle.dns_sockets.specs.Own.{IsNoLine, MayAsk};
 ghost use Rattle.dns_sockets.specs.Line.{IsDone, Moves, WentFrom, WentOn};
 ghost use Rattle.dns_sockets.specs.Wanting.{IsWholeFrame};
 
-use crate::name_servers::framed_query::FramedQuery;
+use crate::name_servers::framed_query::{FramedQuery, MOST_QUERY};
 use crate::name_servers::framed_reply::FramedReply;
 use crate::name_servers::one_socket::OneSocket;
 use crate::name_servers::own::{check_host, check_other};
@@ -17,7 +16,6 @@ use crate::name_servers::ready_net::{ReadyConnection, ReadyNet};
 use mio::{Registry, Token};
 use std::alloc::Global;
 use std::io;
-use std::io::ErrorKind;
 use std::marker::Model;
 use std::net::SocketAddr;
 
@@ -44,9 +42,9 @@ impl<S> Model for TcpLine<S> {
 }
 
 impl<S: ReadyConnection> TcpLine<S> {
-    /// Begins to connect, watched by the poll. It can open no other connection. It fails if the query is longer than a message may be,
-    /// if no memory or no descriptor is left, if the system knows no way to the place, if the address belongs to no host, or if the
-    /// service, which listens at `service`, would ask itself.
+    /// Begins to connect, watched by the poll. It can open no other connection, and takes no memory. It fails if the query is longer than
+    /// one may be, if no descriptor is left, if the system knows no way to the place, if the address belongs to no host, or if the service,
+    /// which listens at `service`, would ask itself.
     pub fn begin<R: ReadyNet<Connection = S>, P: Drop>(
         right: OneSocket<'_, R, P>,
         alloc: Global,
@@ -63,11 +61,11 @@ impl<S: ReadyConnection> TcpLine<S> {
         ensures came { IfOk result (λ line. line.came ≡ []) }
         ensures went { IfOk result (λ line. WentFrom S.contents S.remaining line.stream line) }
         ensures may_ask { IfOk result (λ line. MayAsk S.is_at service place line.stream) }
-        ensures failed { IfErr result (λ error. (MOST_MESSAGE < length query.now) ⊎ ((error_kind error ≡ ErrorKind.OutOfMemory)
-            ⊎ IsNoLine R.failed S.connected S.is_at S.failed service place)) }
+        ensures failed { OnErr result ((MOST_QUERY < length query.now)
+            ⊎ IsNoLine R.failed S.connected S.is_at S.failed service place) }
     {
         check_host(place)?;
-        let query = FramedQuery::new(alloc, query)?;
+        let query = FramedQuery::new(query)?;
         let stream = right.begin_connection(registry, token, place)?;
         check_other(service, stream.place()?, place)?;
         Ok(TcpLine {

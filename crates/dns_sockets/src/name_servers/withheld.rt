@@ -6,6 +6,7 @@ ghost use Rattle.dns_sockets.specs.Ranges.{IsInRange};
 ghost use Rattle.dns_sockets.specs.Withheld.{IsAskedUp, IsOfStrangers, IsWithheld};
 
 use crate::name_servers::fitting::MOST_MISFITS;
+use crate::name_servers::framed_query::MOST_QUERY;
 use crate::name_servers::range::AddressRange;
 use dns_text::{Addr, Ip};
 use history::Origin;
@@ -15,10 +16,12 @@ use iterate::Hunt;
 /// victim: without this limit, each question about the zone would send the victim 64 packets.
 pub const MOST_LISTED: usize = 16;
 
-/// At most 16 addresses of one list are asked for one question, and the second datagram that does not fit a query ends its exchange.
+/// At most 16 addresses of one list are asked for one question, and the second datagram that does not fit a query ends its exchange. A
+/// query has at most 512 octets.
 pub fn limits_law()
     ensures listed { MOST_LISTED ≡ 16 }
     ensures misfits { MOST_MISFITS ≡ 2 }
+    ensures query { MOST_QUERY ≡ 512 }
 {}
 
 /// Whether strangers may have named the addresses of a list: it is none of the operator's.

@@ -1,6 +1,6 @@
 //! The message of a connection that has begun to come.
 
-ghost use Rattle.std.specs.Prelude.{◌≡◌, ◌<◌, ◌≤◌, ◌++◌, [], None, length, IfOk, IfSome, OnErr};
+ghost use Rattle.std.specs.Prelude.{◌≡◌, ◌<◌, ◌≤◌, ◌++◌, [], None, length, vec_capacity, IfOk, IfSome, OnErr};
 ghost use Rattle.front_workers.specs.Framing.{framed, HasLength};
 ghost use Rattle.dns_sockets.specs.Wanting.{framed_size, octets_wanting};
 
@@ -49,7 +49,8 @@ pub(crate) struct BegunMessage {
 impl BegunMessage {
     /// A message of which nothing has come.
     pub fn new(alloc: Global) -> BegunMessage
-        ensures { result.octets.items ≡ [] }
+        ensures octets { result.octets.items ≡ [] }
+        ensures kept { vec_capacity result.octets ≡ 0 }
     {
         BegunMessage {
             octets: Vec::new(alloc),
@@ -62,7 +63,9 @@ impl BegunMessage {
     }
 
     /// The octets of memory that it keeps.
-    pub fn kept(&self) -> usize {
+    pub fn kept(&self) -> usize
+        ensures { result ≡ vec_capacity self.now.octets }
+    {
         self.octets.capacity()
     }
 

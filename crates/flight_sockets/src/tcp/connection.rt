@@ -1,14 +1,15 @@
 //! The connection of a client.
 
-ghost use Rattle.std.specs.Prelude.{◌≡◌, ◌<◌, ◌≤◌, ◌↔◌, [], ◌∷◌, false, length, IfOk, IsTrue, OnOk};
+ghost use Rattle.std.specs.Prelude.{◌≡◌, ◌<◌, ◌≤◌, ◌↔◌, ◌-◌, [], ◌∷◌, false, length, IfOk, IsTrue, OnOk};
 ghost use Rattle.front_workers.specs.declared.limits.TheConstants.{MOST_MESSAGE};
 ghost use Rattle.flight_sockets.specs.Arrivals.{Arrives, OnNothing};
 ghost use Rattle.flight_sockets.specs.Connections.{IsFlushed, Serves, fresh};
+ghost use Rattle.flight_sockets.specs.declared.tcp.owed_replies.TheConstants.{MOST_AT_REST};
 
 use crate::tcp::arrived::Arrived;
 use crate::tcp::begun_message::BegunMessage;
 use crate::tcp::client_stream::ClientStream;
-use crate::tcp::owed_replies::OwedReplies;
+use crate::tcp::owed_replies::{MOST_AT_REST, OwedReplies};
 use crate::tcp::times::Times;
 use dns_sockets::would_wait;
 use dns_text::NoMemory;
@@ -21,7 +22,7 @@ use std::marker::Model;
 const MOST_WRITES: u32 = 70_000;
 
 /// The connection of a client. Contracts see the connection itself, its number, the network of its client, what has come of the next
-/// message, and what is owed. It closes when it is dropped.
+/// message, what is owed, and how many octets of memory it keeps. It closes when it is dropped.
 #[derive(Drop)]
 pub(crate) struct Connection<S: ClientStream> {
     stream: S,
@@ -33,6 +34,8 @@ pub(crate) struct Connection<S: ClientStream> {
 }
 
 impl<S: ClientStream> Model for Connection<S> {
+    ghost use Rattle.std.specs.Prelude.{◌+◌, vec_capacity};
+    ghost use Rattle.front_workers.specs.Sizing.{capped};
     ghost use Rattle.flight_sockets.specs.Connections.{ConnectionState};
 
     ghost Value = { ConnectionState S };
@@ -42,7 +45,8 @@ impl<S: ClientStream> Model for Connection<S> {
       serial = connection.serial;
       network = connection.network;
       begun = connection.begun.octets.items;
-      owed = connection.owed;
+      owed = connection.owed.octets;
+      kept = capped (vec_capacity connection.begun.octets + connection.owed.kept);
     } };
 }
 
@@ -93,8 +97,17 @@ impl<S: ClientStream> Connection<S> {
     }
 
     /// The octets of memory that it keeps, for the message that has begun and for what is owed.
-    pub fn kept(&self) -> usize {
+    fn kept(&self) -> usize
+        ensures { result ≡ self.now.kept }
+    {
         self.begun.kept().saturating_add(self.owed.kept())
+    }
+
+    /// How many of them it keeps beyond what it may keep at rest.
+    pub fn beyond(&self) -> usize
+        ensures { result ≡ self.now.kept - MOST_AT_REST }
+    {
+        self.kept().saturating_sub(MOST_AT_REST)
     }
 
     /// Whether its time is up at this moment: a message has been coming for too long, what is owed is not taken, or it has been idle for
@@ -150,6 +163,7 @@ impl<S: ClientStream> Connection<S> {
     fn write_next(&mut self, alloc: Global, now: u64) -> io::Result<bool>
         ensures serves { OnOk result (Serves S.reads S.writes [] [] self.old self.new) }
         ensures flushed { IfOk result (λ more. more ≡ false → IsFlushed S.drained self.new) }
+        ensures no_more { self.new.kept ≤ self.old.kept }
     {
         if self.owed.is_empty() {
             return Ok(false);
@@ -168,6 +182,7 @@ impl<S: ClientStream> Connection<S> {
     pub fn write_on(&mut self, alloc: Global, now: u64) -> io::Result<()>
         ensures serves { OnOk result (Serves S.reads S.writes [] [] self.old self.new) }
         ensures flushed { OnOk result (IsFlushed S.drained self.new) }
+        ensures no_more { self.new.kept ≤ self.old.kept }
     {
         for _ in 0..MOST_WRITES {
             if !self.write_next(alloc, now)? {

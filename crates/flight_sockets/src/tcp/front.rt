@@ -1,9 +1,10 @@
 //! The connections of a worker's clients.
 
-ghost use Rattle.std.specs.Prelude.{◌≡◌, ◌≤◌, false, length, true, IfOk, IfSome, IsSomeAnd};
+ghost use Rattle.std.specs.Prelude.{◌≡◌, ◌≤◌, false, length, true, IfOk, IfSome, IsSomeAnd, IsTrue};
 ghost use Rattle.flight.specs.Told.{octets_of};
 ghost use Rattle.front_workers.specs.declared.limits.TheConstants.{MOST_MESSAGE};
 ghost use Rattle.flight_sockets.specs.Connections.{IsFlushed, IsGone, Owes, Tends, connection_at, no_connections};
+ghost use Rattle.flight_sockets.specs.Memory.{KeepLittle, KeepsTooMuch, MayKeep};
 ghost use Rattle.flight_sockets.specs.Reading.{TakesFrom};
 
 use crate::reply_sender::ReplySender;
@@ -12,7 +13,6 @@ use crate::tcp::client::TcpClient;
 use crate::tcp::client_stream::ClientStream;
 use crate::tcp::connection::Connection;
 use crate::tcp::marks::{MOST_WAITING, Marks};
-use crate::tcp::owed_replies::MOST_AT_REST;
 use crate::tcp::table::Table;
 use crate::tcp::taken::Taken;
 use dns_text::NoMemory;
@@ -34,8 +34,8 @@ const FIRST_TOKEN: usize = 1 << 32;
 /// The greatest part of all places that one network holds while others want places: one in so many.
 const NETWORK_PART: usize = 4;
 
-/// The most octets of memory that the connections of a worker keep, for messages that have begun and for what is owed. A connection that
-/// would go beyond it ends, unless it keeps only what it may at rest.
+/// The most octets of memory that the connections of a worker keep beyond what each may keep at rest, for messages that have begun and for
+/// what is owed. A connection that would go beyond it ends.
 const MOST_KEPT: usize = 24 << 20;
 
 /// The connections of a worker's clients. Contracts see those that are open, and the number of the next.
@@ -124,10 +124,19 @@ impl<S: ClientStream> TcpFront<S> {
         }
     }
 
-    /// Whether a connection may be kept. If it keeps memory, all of them together keep no more than they may.
-    fn may_keep(&self, connection: &Connection<S>) -> bool {
-        let kept = connection.kept();
-        kept <= MOST_AT_REST || self.table.kept().saturating_add(kept) <= MOST_KEPT
+    /// Whether a connection may be kept beside these: all of them together keep no more than they may, beyond what each may keep at rest.
+    fn may_keep(&self, connection: &Connection<S>) -> bool
+        ensures yes { IsTrue result → MayKeep connection.now.kept self.now.slots }
+        ensures no { ¬ (IsTrue result) → KeepsTooMuch connection.now.kept self.now.slots }
+    {
+        connection.beyond() <= MOST_KEPT - self.table.beyond()
+    }
+
+    /// The law of what its connections keep. It does nothing.
+    pub fn keep_little(&self)
+        ensures { KeepLittle self.now }
+    {
+        let _ = self.table.beyond();
     }
 
     /// Writes what a connection is owed, as far as it takes octets. It ends if that fails.

@@ -17,7 +17,7 @@ use std::marker::Model;
 pub(crate) const MOST_AT_REST: usize = 512;
 
 /// The replies that a connection is owed, each preceded by its length (RFC 1035, section 4.2.2). Contracts see the octets that have not
-/// left, in order.
+/// left, in order, and how many octets of memory they take.
 #[derive(Drop)]
 pub(crate) struct OwedReplies {
     octets: Vec<u8>,
@@ -26,11 +26,12 @@ pub(crate) struct OwedReplies {
 }
 
 impl Model for OwedReplies {
-    ghost use Rattle.std.specs.Prelude.{◌≤◌, ℕ, List, drop, vec_len};
+    ghost use Rattle.std.specs.Prelude.{◌≤◌, drop, vec_capacity, vec_len};
+    ghost use Rattle.flight_sockets.specs.Connections.{OwedState};
 
-    ghost Value = { List ℕ };
+    ghost Value = { OwedState };
 
-    ghost view = { λ owed. drop owed.left owed.octets.items };
+    ghost view = { λ owed. record { octets = drop owed.left owed.octets.items; kept = vec_capacity owed.octets } };
 
     ghost invariant = { λ owed. owed.left ≤ vec_len owed.octets };
 }
@@ -38,7 +39,8 @@ impl Model for OwedReplies {
 impl OwedReplies {
     /// No reply.
     pub fn new(alloc: Global) -> OwedReplies
-        ensures { result ≡ [] }
+        ensures octets { result.octets ≡ [] }
+        ensures kept { result.kept ≡ 0 }
     {
         OwedReplies {
             octets: Vec::new(alloc),
@@ -48,20 +50,22 @@ impl OwedReplies {
 
     /// Whether all has left.
     pub fn is_empty(&self) -> bool
-        ensures { IsTrue result ↔ (self.now ≡ []) }
+        ensures { IsTrue result ↔ (self.now.octets ≡ []) }
     {
         self.octets[self.left..].is_empty()
     }
 
     /// The octets of memory that it keeps.
-    pub fn kept(&self) -> usize {
+    pub fn kept(&self) -> usize
+        ensures { result ≡ self.now.kept }
+    {
         self.octets.capacity()
     }
 
     /// Adds a reply behind the others. After an error some of its octets may be there, and the connection is of no more use.
     pub fn add(&mut self, reply: &[u8]) -> Result<(), NoMemory>
         requires { length reply.now ≤ MOST_MESSAGE }
-        ensures { OnOk result (self.new ≡ self.old ++ framed reply.now) }
+        ensures { OnOk result (self.new.octets ≡ self.old.octets ++ framed reply.now) }
     {
         let size = reply.len();
         self.octets.push((size / 256) as u8)?;
@@ -72,7 +76,8 @@ impl OwedReplies {
 
     /// Frees the memory of what has left, if all has and it is not little.
     fn forget_left(&mut self, alloc: Global)
-        ensures { self.new ≡ self.old }
+        ensures octets { self.new.octets ≡ self.old.octets }
+        ensures no_more { self.new.kept ≤ self.old.kept }
     {
         if self.left < self.octets.len() {
             return;
@@ -91,10 +96,11 @@ impl OwedReplies {
         alloc: Global,
         stream: &mut S,
     ) -> io::Result<usize>
-        ensures within { IfOk result (λ count. count ≤ length self.old) }
-        ensures written { IfOk result (λ count. S.writes stream.old (take count self.old) stream.new) }
-        ensures left { IfOk result (λ count. self.new ≡ drop count self.old) }
+        ensures within { IfOk result (λ count. count ≤ length self.old.octets) }
+        ensures written { IfOk result (λ count. S.writes stream.old (take count self.old.octets) stream.new) }
+        ensures left { IfOk result (λ count. self.new.octets ≡ drop count self.old.octets) }
         ensures kept { OnErr result (self.new ≡ self.old) }
+        ensures no_more { self.new.kept ≤ self.old.kept }
         ensures none { OnErr result (stream.new ≡ stream.old) }
         ensures drained { IfErr result (λ error. error_kind error ≡ ErrorKind.WouldBlock → S.drained) }
     {

@@ -2,7 +2,9 @@
 
 ghost use Rattle.std.specs.Prelude.{◌≡◌, ◌≢◌, ◌+◌, ◌<◌, ◌≤◌, ◌^◌, [], ℕ, None, Some, IfNone, IfOk, IfSome, OnOk};
 ghost use Rattle.slab.specs.Slab.{HasRoomFor, Updates, get};
+ghost use Rattle.flight_sockets.specs.declared.tcp.front.TheConstants.{MOST_KEPT};
 ghost use Rattle.flight_sockets.specs.Connections.{AreNumbered};
+ghost use Rattle.flight_sockets.specs.Memory.{AreWithin, MayKeep, beyond_all};
 
 use crate::tcp::client_stream::ClientStream;
 use crate::tcp::connection::Connection;
@@ -15,9 +17,10 @@ use std::alloc::Global;
 pub(crate) struct Table<S: ClientStream> {
     connections: Slab<Connection<S>>,
     next: u64,
-    /// The octets of memory that the connections keep.
-    kept: usize,
+    /// The octets of memory that the connections keep beyond what each may keep at rest, together.
+    beyond: usize,
     ghost numbered: { AreNumbered connections.slots next },
+    ghost within: { AreWithin connections.slots beyond },
 }
 
 impl<S: ClientStream> Table<S> {
@@ -29,7 +32,7 @@ impl<S: ClientStream> Table<S> {
         Table {
             connections: Slab::new(alloc),
             next: 0,
-            kept: 0,
+            beyond: 0,
         }
     }
 
@@ -38,9 +41,13 @@ impl<S: ClientStream> Table<S> {
         self.connections.len()
     }
 
-    /// The octets of memory that the connections keep, for messages that have begun and for what is owed.
-    pub fn kept(&self) -> usize {
-        self.kept
+    /// The octets of memory that the connections keep beyond what each may keep at rest, together. They are kept for messages that have
+    /// begun and for what is owed.
+    pub fn beyond(&self) -> usize
+        ensures sum { result ≡ beyond_all self.now.connections.slots }
+        ensures most { result ≤ MOST_KEPT }
+    {
+        self.beyond
     }
 
     /// The connections, each with its key.
@@ -77,12 +84,13 @@ impl<S: ClientStream> Table<S> {
         requires room { HasRoomFor self.old.connections 1 }
         requires number { connection.serial ≡ self.old.next }
         requires last { self.old.next + 1 < 2 ^ 64 }
+        requires small { MayKeep connection.kept self.old.connections.slots }
         ensures free { get self.old.connections self.old.connections.vacant_key ≡ None }
         ensures updates { Updates self.old.connections self.new.connections self.old.connections.vacant_key (Some connection) }
         ensures next { self.new.next ≡ self.old.next + 1 }
     {
         self.next += 1;
-        self.kept = self.kept.saturating_add(connection.kept());
+        self.beyond += connection.beyond();
         let _ = self.connections.insert_reserved(connection);
     }
 
@@ -92,24 +100,24 @@ impl<S: ClientStream> Table<S> {
         ensures updates { Updates self.old.connections self.new.connections key None }
         ensures room { IfSome result (λ _. HasRoomFor self.new.connections 1 × (self.new.connections.vacant_key ≡ key)) }
         ensures number { IfSome result (λ connection. connection.serial < self.old.next) }
+        ensures small { IfSome result (λ connection. MayKeep connection.kept self.new.connections.slots) }
         ensures none { IfNone result (self.new.connections ≡ self.old.connections) }
         ensures next { self.new.next ≡ self.old.next }
     {
-        let taken = self.connections.try_remove(key);
-        if let Some(connection) = &taken {
-            self.kept = self.kept.saturating_sub(connection.kept());
-        }
-        taken
+        let connection = self.connections.get(key)?;
+        self.beyond -= connection.beyond();
+        self.connections.try_remove(key)
     }
 
     /// Puts back the connection that was taken out last.
     pub fn put_back(&mut self, connection: Connection<S>)
         requires room { HasRoomFor self.old.connections 1 }
         requires number { connection.serial < self.old.next }
+        requires small { MayKeep connection.kept self.old.connections.slots }
         ensures updates { Updates self.old.connections self.new.connections self.old.connections.vacant_key (Some connection) }
         ensures next { self.new.next ≡ self.old.next }
     {
-        self.kept = self.kept.saturating_add(connection.kept());
+        self.beyond += connection.beyond();
         let _ = self.connections.insert_reserved(connection);
     }
 }

@@ -11,11 +11,13 @@ ghost use Rattle.flight_sockets.specs.Asking.{asking_at};
 ghost use Rattle.flight_sockets.specs.Sockets.{asking_of};
 ghost use Rattle.flight_sockets.specs.Connections.{Tends};
 ghost use Rattle.flight_sockets.specs.Looked.{AllLookedAt, LooksAtAll};
+ghost use Rattle.flight_sockets.specs.Memory.{KeepLittle};
 ghost use Rattle.flight_sockets.specs.Streaming.{BeginsClient, StreamEndsOverdue, StreamGoesOn, fresh_worker};
 
 use crate::asking::Asking;
 use crate::listener::SERVICE;
 use crate::socket_line::SocketLine;
+use crate::table_seed::TableSeed;
 use crate::tally::Tally;
 use crate::tcp::client::TcpClient;
 use crate::tcp::client_stream::ClientStream;
@@ -58,6 +60,12 @@ const REST: u64 = 1_000;
 
 /// The questions of a worker that are in flight.
 pub(crate) type Questions<D, C, G, R, S> = Flight<D, SocketLine<R>, C, G, TcpClient<S>>;
+
+/// A turn that did not fail. Only `TcpTurns::turn` makes one, so whoever has one took a turn.
+#[derive(Drop)]
+pub(crate) struct TcpTurned {
+    made: (),
+}
 
 /// The state of a worker between its turns. Contracts see how it asks name servers, its counters, its clock, what its poll reported last,
 /// and the connections of its clients.
@@ -110,7 +118,7 @@ impl<'a, R: ReadyNet + Log + Elapsing + Wait, S: ClientStream, L: ClientListener
         listener: TcpPoll<L>,
         connections: usize,
         asking: Asking<'a>,
-        seed: u64,
+        seed: TableSeed,
         start: Instant,
     ) -> Result<TcpTurns<'a, R, S, L>, NoMemory>
         ensures { IfOk result (λ turns. turns ≡ fresh_worker (asking_at listener.place asking.entry) start) }
@@ -144,6 +152,13 @@ impl<'a, R: ReadyNet + Log + Elapsing + Wait, S: ClientStream, L: ClientListener
         ensures asks { self.new.asking ≡ self.old.asking }
     {
         self.failures = self.failures.saturating_add(1);
+    }
+
+    /// The law of what its connections keep. It does nothing.
+    pub fn keep_little(&self)
+        ensures { KeepLittle self.now.connections }
+    {
+        self.sockets.outbox.keep_little();
     }
 
     /// Reads the clock, in milliseconds. What happens from now on happens at this moment.
@@ -444,7 +459,7 @@ impl<'a, R: ReadyNet + Log + Elapsing + Wait, S: ClientStream, L: ClientListener
         &mut self,
         desk: &mut D,
         questions: &mut Questions<D, C, G, R, S>,
-    ) -> io::Result<()>
+    ) -> io::Result<TcpTurned>
         ensures goes_on { StreamGoesOn S.reads S.writes S.drained questions.old self.old questions.new self.new }
         ensures overdue { OnOk result (StreamEndsOverdue S.reads S.writes S.drained questions.old self.old questions.new self.new) }
     {
@@ -452,7 +467,8 @@ impl<'a, R: ReadyNet + Log + Elapsing + Wait, S: ClientStream, L: ClientListener
         self.go_on(desk, questions);
         let tended = self.tend();
         self.serve_queued(desk, questions);
-        tended
+        tended?;
+        Ok(TcpTurned { made: () })
     }
 }
 

@@ -9,10 +9,12 @@ ghost use Rattle.flight.specs.Waiting.{FlightState, outstanding};
 ghost use Rattle.flight_sockets.specs.Accounts.{KeepsTime};
 ghost use Rattle.flight_sockets.specs.Asking.{asking_at};
 ghost use Rattle.flight_sockets.specs.Begun.{none_in_flight};
+ghost use Rattle.flight_sockets.specs.Memory.{KeepLittle};
 ghost use Rattle.flight_sockets.specs.Streaming.{AreAccounted, StreamRuns, fresh_worker};
 
 use crate::asking::Asking;
 use crate::fault_line::cause_of;
+use crate::table_seed::TableSeed;
 use crate::tally::Tally;
 use crate::tcp::client_stream::ClientStream;
 use crate::tcp::listener::{ClientListener, TcpPoll};
@@ -60,7 +62,7 @@ impl<'a, R: ReadyNet + Log + Elapsing + Wait, S: ClientStream, L: ClientListener
         listener: TcpPoll<L>,
         connections: usize,
         asking: Asking<'a>,
-        seed: u64,
+        seed: TableSeed,
         start: Instant,
     ) -> Result<TcpWorker<'a, R, S, L>, NoMemory>
         ensures { IfOk result (λ worker. worker ≡ fresh_worker (asking_at listener.place asking.entry) start) }
@@ -103,6 +105,8 @@ pub fn fly_tcp<
         × (outstanding flight ≤ limit) × IsBounded flight
         × AreAccounted 0 worker.old.taken worker.old.counts (outstanding flight) worker.new.taken worker.new.counts
         × KeepsTime worker.old.clock (none_in_flight limit) worker.new.clock flight }
+    // Beyond what each may keep at rest, the connections keep no more memory than all may.
+    ensures kept { KeepLittle worker.new.connections }
     // It asked name servers in one way throughout.
     ensures asks { worker.new.asking ≡ worker.old.asking }
     ensures ended { result ≡ Ended → F.stopped }
@@ -111,11 +115,12 @@ pub fn fly_tcp<
     let mut questions = Flight::new(alloc, clock, ids, limit);
     let mut failed = 0u8;
     for _ in rt.forever() {
+        worker.turns.keep_little();
         if stop.is_set() {
             return WorkEnd::Ended;
         }
         match worker.turns.turn(desk, &mut questions) {
-            Ok(()) => failed = 0,
+            Ok(_turned) => failed = 0,
             Err(error) => {
                 let cause = cause_of(&error);
                 warn!(rt; "{DEVICE_FAULT}: no connection is accepted: {cause}");
@@ -126,6 +131,7 @@ pub fn fly_tcp<
                 worker.turns.count_failure();
                 failed += 1;
                 if failed == MOST_FAILURES {
+                    worker.turns.keep_little();
                     warn!(rt; "{WORKER_ENDED}");
                     return WorkEnd::Failing;
                 }

@@ -63,6 +63,8 @@ impl InFlight for Wire {
 
     ghost hears = { λ _ _. Unit {0} };
 
+    ghost listed = { λ _ _. Unit {0} };
+
     fn server(&self) -> Addr {
         self.server
     }
@@ -178,6 +180,8 @@ impl<D: Numbered> Outside<D, Wire, LineClock, Peer> for Sockets {
 
     // What is told is written down for the rows, which judge it.
     ghost posts = { λ _ _ _ _. Unit {0} };
+
+    ghost listens = { λ _ _ _ _. Unit {0} };
 
     fn server_port(&self) -> u16 {
         self.port

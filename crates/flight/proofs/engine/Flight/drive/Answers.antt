@@ -1,4 +1,5 @@
 use Rattle.std.proofs.Common.{◌≡◌, ◌∙◌, ◌+◌, ℕ, List, [], Option, Some, is_some, cond, count_by, ap, inr, map, max, refl, subst, sym, arith, rules}
+use Rattle.iterate.specs.declared.search.Hunt.{Hunt}
 use Rattle.flight.specs.Flight.{failed}
 use Rattle.flight.specs.Asking.{origin_in}
 use Rattle.flight.specs.Bounds.{MayKeep}
@@ -79,8 +80,12 @@ invariant_of-keep g c =
     let before = c.loop-want.invariant in
     let task = c.loop-want.asking.task in
     let is = open_on task.port task.question task.steps.items c.now-moment.result (g.G.Rng.stream c.loop-want.self-inside.ids) before.asked.port_is before.asked.question
-    before.flies c.now-moment.ensures c.in-Ok.ensures.ok.steps c.in-Ok.ensures.ok.wants c.in-Ok.ensures.ok.drawn c.in-Send.is in
-    (asked_on (rw (sym c.in-Ok-make_room.ensures.takes.0) at before.asked) c.step.ensures.same.question c.step.ensures.same.port, awaits_at c.in-Some.ensures.asked is, c.in-Ok-make_room.ensures.takes.1)
+    before.flies c.now-moment.ensures c.in-Ok.ensures.ok.steps c.in-Ok.ensures.ok.wants c.in-Ok.ensures.ok.drawn c.in-Send.is in (
+      asked_on (rw (sym c.in-Ok-make_room.ensures.takes.0) at before.asked) c.step.ensures.same.question c.step.ensures.same.port,
+      awaits_at c.in-Some.ensures.asked is,
+      c.in-Ok-make_room.ensures.takes.1,
+      subst (λ (hunt : Option Hunt). g.L.InFlight.listed c.in-Some.line hunt) c.hunt.ensures (c.in-Some.ensures.listed c.in-Some.line refl),
+    )
 
 pub returns-in-Finish : goal.returns-in-Finish
 returns-in-Finish g c =

@@ -1,6 +1,9 @@
-use Rattle.std.proofs.Common.{◌≡◌, ◌∙◌, arith, subst}
+use Rattle.std.proofs.Common.{◌≡◌, ◌∙◌, arith, refl, subst}
+use Rattle.flight.specs.Origin.{zone_of}
+use Rattle.flight.specs.Told.{listened_of}
 use Rattle.flight.specs.Waiting.{UnderWay, WaitsFrom}
 use Rattle.flight.proofs.Leaving.{ends_behind, ends_of}
+use Rattle.flight.proofs.Looking.{hears_out}
 use Rattle.flight.proofs.engine.Flight.end.Goals as goal
 use Rattle.flight.proofs.engine.Flight.end.Goals.{in-Nothing, in_default}
 
@@ -10,7 +13,19 @@ returns-clause-ends g c =
       | in-Nothing w ↦ rw w.outside-is (w.expire.ensures.keeps.silent ∙ c.hear-heard.ensures.keeps.silent)
       | in_default w ↦ rw w.outside-is c.hear-heard.ensures.keeps.silent
     ] in
-    ends_of 0 _ (omega arith) (ends_behind silent c.go_on.ensures.ends)
+    ends_of 0 _ (omega arith) (ends_behind silent c.go_on.ensures.settles.ends)
 
 pub returns-clause-waits : goal.returns-clause-waits
-returns-clause-waits g c = subst (λ (job : UnderWay). WaitsFrom c.args.now (λ o. o ≡ job.origin) c.args.self.now c.go_on.new.self) c.job.view_is c.go_on.ensures.waits
+returns-clause-waits g c = subst (λ (job : UnderWay). WaitsFrom c.args.now (λ o. o ≡ job.origin) c.args.self.now c.go_on.new.self) c.job.view_is c.go_on.ensures.settles.waits
+
+pub returns-clause-anew : goal.returns-clause-anew
+returns-clause-anew g c =
+    let silent : g.O.Outside.outbox c.match-heard.outside ≡ g.O.Outside.outbox c.args.outside.now = elim c.match-heard.branch [
+      | in-Nothing w ↦ rw w.outside-is (w.expire.ensures.keeps.silent ∙ c.hear-heard.ensures.keeps.silent)
+      | in_default w ↦ rw w.outside-is c.hear-heard.ensures.keeps.silent
+    ] in
+    let question = c.job.inside.asking.query.question in
+    let of : UnderWay → Type 0 = λ job. job.origin.zone ≡ zone_of question.owner in
+    hears_out g.D.Desk.calls g.O.Outside.listens g.O.Outside.outbox c.args.job c.args.desk.now c.go_on.new.desk c.args.self.now c.go_on.new.self
+    c.args.outside.now c.hear-heard.new.outside c.match-heard.outside c.go_on.new.outside question c.job.inside.line (listened_of c.hear-heard.result)
+    (subst of c.job.view_is refl) c.hear-heard.ensures.listens silent c.go_on.ensures.anew

@@ -1,5 +1,6 @@
 use Rattle.std.proofs.Common.{◌≢◌, ◌∙◌, ℕ, List, Option, ap, map, refl, subst, sym, arith}
 use Rattle.slab.specs.Slab.{Slab}
+use Rattle.flight.specs.FirstLook.{ListensTo, listens_to, passes, stays}
 use Rattle.flight.specs.Waiting.{FlightState, IsAccounted, UnderWay, exchange_at, outstanding, since_at, since_in, since_of, waiting_for}
 use Rattle.flight.proofs.Accounting.{accounted_then}
 use Rattle.flight.proofs.Flights.{begun_or_not, early_then, less_over, no_more_then, on_or_begun_then, origins_on, origins_then, taken_out}
@@ -9,7 +10,7 @@ use Rattle.flight.proofs.Settling.{loses_as_before, none_lost}
 use Rattle.flight.proofs.engine.Flight.expire.Goals as goal
 
 pub loop-wait-init : goal.loop-wait-init
-loop-wait-init g c = record { early = λ key since here left. here; so_far = none_lost c.args.now c.args.self.now c.args.self.now c.args.outside.now refl }
+loop-wait-init g c = record { early = λ key since here left. here; anew = stays; so_far = none_lost c.args.now c.args.self.now c.args.self.now c.args.outside.now refl }
 
 pub loop-wait-smaller-in-Some-pass : goal.loop-wait-smaller-in-Some-pass
 loop-wait-smaller-in-Some-pass g c =
@@ -24,6 +25,7 @@ loop-wait-preserved g c =
     let exchanges = ap (λ (jobs : Slab UnderWay). jobs.slots) same ∙ ap (λ (state : FlightState). state.exchanges) was in
     record {
       early = λ key since here left. ap (λ (list : List (Option UnderWay)). since_in list key) exchanges ∙ before.early key since here left;
+      anew = passes before.anew exchanges;
       so_far = loses_as_before c.args.now c.args.self.now c.loop-wait.self _ c.args.outside.now c.loop-wait.outside before.so_far exchanges
           (c.pass.ensures.latest ∙ ap (λ (state : FlightState). state.latest) was) (c.pass.ensures.limit ∙ ap (λ (state : FlightState). state.limit) was);
     }
@@ -39,12 +41,18 @@ loop-wait-preserved-in-Some-pass g c =
     let others = λ (other : ℕ) (differs : other ≢ key). c.in-Some-pass.ensures.taken.others other differs ∙ ap (λ (state : FlightState). exchange_at state other) was in
     let here = ap (λ (state : FlightState). exchange_at state key) (sym was) ∙ due.0 in
     let waits = c.end.ensures.waits in
+    let table = c.pass.new.self in
+    let without : FlightState = record { exchanges = table.jobs.slots; begun = map (λ wait. wait.since) table.waits.items; latest = table.latest; limit = table.limit } in
+    let there : ListensTo g.D.Desk.calls g.O.Outside.listens g.O.Outside.outbox key c.in-Some-pass.job c.loop-wait.desk c.loop-wait.self c.loop-wait.outside c.end.new.desk c.end.new.self c.end.new.outside =
+    record { without = without; gone = c.in-Some-pass.ensures.taken.changed; others = others; hears = c.end.ensures.anew }
+    in
     let out = taken_out c.args.now key c.loop-wait.self _ c.in-Some-pass.ensures.taken.changed others
     (c.in-Some-pass.ensures.latest ∙ ap (λ (state : FlightState). state.latest) was)
     in
     record {
       early = early_then 2000 c.args.now key c.in-Some-pass.job.since _ c.args.self.now c.loop-wait.self _ c.end.new.self before.early (ap (λ (state : FlightState). since_at state key) (sym was) ∙ ap since_of due.0) due.1
           (λ other differs. ap since_of (c.in-Some-pass.ensures.taken.others other differs) ∙ ap (λ (state : FlightState). since_at state other) was) c.end.ensures.waits;
+      anew = listens_to {key = key} {exchange = c.in-Some-pass.job} before.anew here there;
       so_far = record {
         port = c.end.ensures.port ∙ before.so_far.port;
         ends = ends_then before.so_far.ends (ends_of 0 _ (omega (arith, fewer)) c.end.ensures.ends);

@@ -1,4 +1,5 @@
 use Rattle.flight.specs.Clients.{LosesNone}
+use Rattle.flight.specs.FirstLook.{ListensToEach}
 use Rattle.flight.specs.Waiting.{EarlyGoOn}
 use Rattle.flight.proofs.Counting.{time_over}
 use Rattle.flight.proofs.engine.Flight.expire.Given as goal
@@ -7,6 +8,7 @@ use Rattle.flight.proofs.engine.Flight.expire.Given as goal
 abbrev pub invariant-loop-wait : goal.invariant-loop-wait
 invariant-loop-wait g l = record {
   early : EarlyGoOn 2000 l.now l.fn.self l.self;
+  anew : ListensToEach g.D.Desk.calls g.O.Outside.listens g.O.Outside.outbox l.fn.desk l.fn.self l.fn.outside l.desk l.self l.outside;
   so_far : LosesNone g.K.Client.sent g.O.Outside.server_port g.O.Outside.counts g.O.Outside.outbox g.O.Outside.posts l.now l.fn.self l.fn.outside l.self l.outside;
 }
 

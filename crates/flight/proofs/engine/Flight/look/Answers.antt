@@ -5,11 +5,13 @@ use Rattle.flight.specs.Flight.{Sent}
 use Rattle.flight.specs.Kept.{kept_in}
 use Rattle.flight.specs.Table.{OneMore}
 use Rattle.flight.specs.Asking.{origin_in}
-use Rattle.flight.specs.Origin.{Origin}
+use Rattle.flight.specs.Origin.{Origin, zone_of}
+use Rattle.flight.specs.declared.outside.Listened.TheVariants.{Nothing}
 use Rattle.flight.specs.Waiting.{FlightState, UnderWay, exchange_at, outstanding, waiting_for}
 use Rattle.flight.proofs.Bounds.{may_keep_again}
 use Rattle.flight.proofs.Flights.{as_it_was, begun_or_not, no_more_then, on_or_begun_then, origins_same, origins_then, put_back_same, taken_out, waits_as}
 use Rattle.flight.proofs.Leaving.{ends_behind, ends_of, none_ends}
+use Rattle.flight.proofs.Looking.{hears_out, listens_there}
 use Rattle.flight.proofs.Places.{joins_none_then}
 use Rattle.flight.proofs.Settling.{none_lost, same_state}
 use Rattle.flight.proofs.engine.Flight.look.Goals as goal
@@ -53,18 +55,18 @@ returns-in_default-hear-clause-loses_none g c =
     let out = taken_out c.args.now c.args.key c.args.self.now _ updates.changed others
     (c.in-Some.ensures.latest ∙ ap (λ (state : FlightState). state.latest) was)
     in
-    let waits = waits_as c.args.now (λ o. o ≡ origin_in g.K.Client.network c.job.inside.asking) (λ o. o ≡ c.in-Some.job.origin) _ c.go_on.new.self c.go_on.ensures.waits (λ o is. is ∙ ap (λ (job : UnderWay). job.origin) c.job.view_is) in
+    let waits = waits_as c.args.now (λ o. o ≡ origin_in g.K.Client.network c.job.inside.asking) (λ o. o ≡ c.in-Some.job.origin) _ c.go_on.new.self c.go_on.ensures.settles.waits (λ o is. is ∙ ap (λ (job : UnderWay). job.origin) c.job.view_is) in
     let here = ap (λ (state : FlightState). exchange_at state c.args.key) (sym was) ∙ sym c.in-Some.ensures.job in
     record {
-      port = c.go_on.ensures.port ∙ c.hear.ensures.keeps.port;
-      ends = ends_of 0 _ (omega (arith, taken.len, ap outstanding was)) (ends_behind c.hear.ensures.keeps.silent c.go_on.ensures.ends);
+      port = c.go_on.ensures.settles.port ∙ c.hear.ensures.keeps.port;
+      ends = ends_of 0 _ (omega (arith, taken.len, ap outstanding was)) (ends_behind c.hear.ensures.keeps.silent c.go_on.ensures.settles.ends);
       accounted = search rules;
-      begins = on_or_begun_then c.args.now c.args.self.now _ c.go_on.new.self out (begun_or_not c.args.now _ _ c.go_on.new.self c.go_on.ensures.waits);
-      no_more = no_more_then c.args.now (outstanding c.args.self.now) _ _ c.go_on.new.self (taken.len ∙ ap outstanding was) c.go_on.ensures.waits;
+      begins = on_or_begun_then c.args.now c.args.self.now _ c.go_on.new.self out (begun_or_not c.args.now _ _ c.go_on.new.self c.go_on.ensures.settles.waits);
+      no_more = no_more_then c.args.now (outstanding c.args.self.now) _ _ c.go_on.new.self (taken.len ∙ ap outstanding was) c.go_on.ensures.settles.waits;
       origins = origins_then c.args.now c.args.key c.in-Some.job c.args.self.now _ c.go_on.new.self here updates.changed others waits;
       joins_none = joins_none_then c.args.now c.in-Some.job c.args.self.now _ c.go_on.new.self (λ test. ap (waiting_for test) (sym was) ∙ taken.counts test) waits;
-      bounded = λ few. c.go_on.ensures.bounded (omega (arith, c.take.new.self.within.sum, c.take.new.self.within.all));
-      limit = c.go_on.ensures.limit ∙ c.in-Some.ensures.limit ∙ ap (λ (state : FlightState). state.limit) was;
+      bounded = λ few. c.go_on.ensures.settles.bounded (omega (arith, c.take.new.self.within.sum, c.take.new.self.within.all));
+      limit = c.go_on.ensures.settles.limit ∙ c.in-Some.ensures.limit ∙ ap (λ (state : FlightState). state.limit) was;
     }
 
 pub returns-in_default-clause-loses_none : goal.returns-in_default-clause-loses_none
@@ -90,3 +92,37 @@ put_back-requires-clause-small g c =
     let table = c.self.inside.table in
     subst (λ (kept : ℕ). MayKeep kept c.take.new.self.jobs.slots) (sym (ap (λ (job : UnderWay). job.kept) c.job.view_is))
     (may_keep_again table.jobs.slots c.take.new.self.jobs.slots c.args.key table.kept c.in-Some.job table.within (sym c.in-Some.ensures.job) c.in-Some.ensures.frees.kept)
+
+pub returns-in-Nothing-clause-anew : goal.returns-in-Nothing-clause-anew
+returns-in-Nothing-clause-anew g c =
+    let was = c.self.view_is in
+    let updates = c.in-Some.ensures.updates in
+    let question = c.job.inside.asking.query.question in
+    let of : UnderWay → Type 0 = λ job. job.origin.zone ≡ zone_of question.owner in
+    let table = c.take.new.self in
+    let without : FlightState = record { exchanges = table.jobs.slots; begun = map (λ wait. wait.since) table.waits.items; latest = table.latest; limit = table.limit } in
+    let back = c.put_back.new.self in
+    let new : FlightState = record { exchanges = back.jobs.slots; begun = map (λ wait. wait.since) back.waits.items; latest = back.latest; limit = back.limit } in
+    let outbox = g.O.Outside.outbox in
+    let hears = hears_out g.D.Desk.calls g.O.Outside.listens outbox c.in-Some.job c.args.desk.now c.args.desk.now without new c.args.outside.now c.hear.new.outside c.hear.new.outside c.hear.new.outside
+    question c.job.inside.line Nothing (subst of c.job.view_is refl) c.in-Nothing.ensures.listens c.hear.ensures.keeps.silent (λ anew. absurd (cc anew))
+    in
+    listens_there g.D.Desk.calls g.O.Outside.listens outbox c.args.key c.in-Some.job c.args.desk.now c.args.desk.now c.args.self.now without new c.args.outside.now c.hear.new.outside
+    (ap (λ (state : FlightState). exchange_at state c.args.key) (sym was) ∙ sym c.in-Some.ensures.job)
+    updates.changed (λ other differs. updates.others other differs ∙ ap (λ (state : FlightState). exchange_at state other) was) hears
+
+pub returns-in_default-hear-clause-anew : goal.returns-in_default-hear-clause-anew
+returns-in_default-hear-clause-anew g c =
+    let was = c.self.view_is in
+    let updates = c.in-Some.ensures.updates in
+    let question = c.job.inside.asking.query.question in
+    let of : UnderWay → Type 0 = λ job. job.origin.zone ≡ zone_of question.owner in
+    let table = c.take.new.self in
+    let without : FlightState = record { exchanges = table.jobs.slots; begun = map (λ wait. wait.since) table.waits.items; latest = table.latest; limit = table.limit } in
+    let outbox = g.O.Outside.outbox in
+    let hears = hears_out g.D.Desk.calls g.O.Outside.listens outbox c.in-Some.job c.args.desk.now c.go_on.new.desk without c.go_on.new.self c.args.outside.now c.hear.new.outside c.hear.new.outside c.go_on.new.outside
+    question c.job.inside.line _ (subst of c.job.view_is refl) c.hear.ensures.listens c.hear.ensures.keeps.silent c.go_on.ensures.anew
+    in
+    listens_there g.D.Desk.calls g.O.Outside.listens outbox c.args.key c.in-Some.job c.args.desk.now c.go_on.new.desk c.args.self.now without c.go_on.new.self c.args.outside.now c.go_on.new.outside
+    (ap (λ (state : FlightState). exchange_at state c.args.key) (sym was) ∙ sym c.in-Some.ensures.job)
+    updates.changed (λ other differs. updates.others other differs ∙ ap (λ (state : FlightState). exchange_at state other) was) hears

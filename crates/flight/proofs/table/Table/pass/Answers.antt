@@ -1,7 +1,9 @@
-use Rattle.std.proofs.Common.{ap, arith, sym}
+use Rattle.std.proofs.Common.{◌∙◌, Option, IfSome, ap, arith, subst, sym}
+use Rattle.flight.specs.Table.{CountsOneMore}
 use Rattle.flight.specs.Waiting.{UnderWay, since_of}
 use Rattle.flight.proofs.Ages.{in_time_without}
 use Rattle.flight.proofs.Bounds.{no_more_than_all, within_without}
+use Rattle.flight.proofs.Places.{one_counted}
 use Rattle.flight.proofs.Queueing.{passed_early, passed_none, passed_taken}
 use Rattle.flight.proofs.table.Table.pass.Goals as goal
 
@@ -34,3 +36,12 @@ pub overflow_sub-self : goal.overflow_sub-self
 overflow_sub-self g c =
     let old = c.args.self.now in
     omega (arith, c.kept.ensures, no_more_than_all old.jobs.slots c.args.wait.key old.kept c.in_ok-job.job.now old.within (sym c.in_ok-job.ensures))
+
+pub returns-clause-counts : goal.returns-clause-counts
+returns-clause-counts g c =
+    let old = c.args.self.now.jobs in
+    let new = c.try_remove.new.self in
+    let updates = c.try_remove.ensures.updates in
+    let job = c.in_ok-job.job.now in
+    let counts : CountsOneMore new old job = λ test. one_counted test new.slots old.slots c.args.wait.key job updates.changed (sym c.in_ok-job.ensures) (λ other differs. sym (updates.others other differs)) in
+    subst (λ (found : Option UnderWay). IfSome found (λ job. CountsOneMore new old job)) (c.in_ok-job.ensures ∙ sym c.try_remove.ensures.value) counts

@@ -33,6 +33,9 @@ returns-then-not-lets_through-clause-pauses g c =
     let passed = c.lets_through.ensures.passed_over c.if-not-lets_through.true in
     (refl, passed_over (passed_by c.args.server.now _ _ c.args.over _ _ c.args.self.now.moment c.args.self.now.pauses c.others_of.ensures same passed.0) (search rules) passed.1)
 
+pub returns-clause-watched : goal.returns-clause-watched
+returns-clause-watched g c = subst (λ (key : ℕ). IfSome c.begin.result (λ line. line.token.0 ≡ key)) c.in-Ok.ensures.key c.begin.ensures.watched
+
 pub returns-clause-may_ask : goal.returns-clause-may_ask
 returns-clause-may_ask g c =
     let free = subst (λ (list : Option Servers). LooksUpList c.args.server.now c.args.over list c.args.self.now.moment c.args.self.now.refusals) c.list_of_strangers-list.ensures

@@ -1,4 +1,5 @@
-use Rattle.std.proofs.Common.{rules, ◌≤◌, arith}
+use Rattle.std.proofs.Common.{rules, ◌≤◌, ℕ, arith, subst, sym}
+use Rattle.shared_book.specs.Kept.{IsKept}
 use Rattle.shared_book.proofs.RecordLaws.{begins}
 use Rattle.shared_book.proofs.kept.Kept.new.Goals as goal
 
@@ -6,4 +7,14 @@ pub invariant_of-kept : goal.invariant_of-kept
 invariant_of-kept g c =
     let window = c.in-Ok.window in
     let some : 1 ≤ window.limit = omega (arith, c.in-Ok.ensures.limit) in
-    (search rules, search rules, begins g.B.Book.stands_for g.B.Book.settings c.args.book c.args.opening window.first window.limit window.calls.items g.L.CallLedger.settings c.requires.settings c.requires.lags c.requires.fresh.0 c.requires.fresh.1 c.in-Ok.ensures.first c.in-Ok.ensures.calls some)
+    let begun = begins g.B.Book.stands_for g.B.Book.settings c.args.book c.args.opening window.first window.limit window.calls.items g.L.CallLedger.settings c.requires.settings c.requires.lags c.requires.fresh.0 c.requires.fresh.1 c.in-Ok.ensures.first c.in-Ok.ensures.calls some in
+    let is : ℕ → Type 0 = λ callers. IsKept g.B.Book.stands_for g.B.Book.settings (record {
+      book = c.args.book;
+      opening = c.args.opening;
+      first = window.first;
+      window = window.calls.items;
+      limit = window.limit;
+      total = 0;
+      callers = callers;
+    }) in
+    (search rules, search rules, subst is (sym c.one.ensures) begun)

@@ -1,4 +1,5 @@
-use Rattle.std.proofs.Common.{◌≡◌, ◌≤◌, ◌-◌, List, ℕ, length, vec_len, take, drop, arith, ap, subst, ◌∙◌}
+use Rattle.std.proofs.Common.{◌≡◌, ◌≤◌, ◌-◌, List, ℕ, length, take, drop, arith, ap, subst, ◌∙◌}
+use Rattle.arrayvec.specs.ArrayVec.{array_vec_len}
 use Rattle.std.specs.Io.KnownBytes.{Appends}
 use Rattle.std.proofs.KnownBytes.{Appends-kept}
 use Rattle.dns_sockets.proofs.Passing.{written_on}
@@ -10,9 +11,9 @@ loop-preserved g c =
     let so_far = c.loop.invariant in
     let contents = g.W.Write.contents in
     let left = c.loop.self.left in
-    let same_length = ap (λ v. vec_len v) so_far.octets in
+    let same_length = ap (λ v. array_vec_len v) so_far.octets in
     let octets = c.args.self.now.octets.items in
-    let same : c.deref.result.now ≡ octets = c.deref.ensures.value ∙ ap (λ v. v.items) so_far.octets in
+    let same : c.as_slice.result.now ≡ octets = c.as_slice.ensures.value ∙ ap (λ v. v.items) so_far.octets in
     elim c.match-write.branch [
       | in-Ok w ↦
           let more = subst (λ (l : List ℕ). Appends (contents c.loop.stream) (contents c.write.new.self) (take w.in-Ok.count (take (length l - left) (drop left l)))) same w.in-Ok.ensures.bytes in

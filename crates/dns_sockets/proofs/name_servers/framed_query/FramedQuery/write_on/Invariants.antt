@@ -1,4 +1,5 @@
-use Rattle.std.proofs.Common.{◌≡◌, ◌≤◌, slice_range, vec_len}
+use Rattle.std.proofs.Common.{◌≡◌, ◌≤◌, slice_range}
+use Rattle.arrayvec.specs.ArrayVec.{array_vec_len}
 use Rattle.std.specs.Io.KnownBytes.{Appends}
 use Rattle.dns_sockets.proofs.name_servers.framed_query.FramedQuery.write_on.Given as goal
 
@@ -7,6 +8,6 @@ abbrev pub invariant-loop : goal.invariant-loop
 invariant-loop g l = record {
   octets : l.self.octets ≡ l.fn.self.octets;
   left : l.fn.self.left ≤ l.self.left;
-  idle : l.fn.self.left ≡ vec_len l.fn.self.octets → l.stream ≡ l.fn.stream;
+  idle : l.fn.self.left ≡ array_vec_len l.fn.self.octets → l.stream ≡ l.fn.stream;
   written : Appends (g.W.Write.contents l.fn.stream) (g.W.Write.contents l.stream) (slice_range l.fn.self.octets.items l.fn.self.left l.self.left);
 }

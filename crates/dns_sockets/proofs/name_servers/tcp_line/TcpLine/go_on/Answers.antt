@@ -1,4 +1,5 @@
-use Rattle.std.proofs.Common.{rules, ◌≡◌, refl, ◌∙◌, sym, arith, ap, length, vec_len}
+use Rattle.std.proofs.Common.{rules, ◌≡◌, refl, arith, ap, length}
+use Rattle.arrayvec.specs.ArrayVec.{array_vec_len}
 use Rattle.std.proofs.lemmas.Result.{on_ok_weaker}
 use Rattle.dns_sockets.proofs.Passing.{none_came, same_start, went_on}
 use Rattle.dns_sockets.proofs.name_servers.tcp_line.TcpLine.go_on.Goals as goal
@@ -15,13 +16,12 @@ pub returns-then-not-branch-clause-went : goal.returns-then-not-branch-clause-we
 returns-then-not-branch-clause-went g c =
     let octets = ap (λ v. v.items) c.write_on.ensures.octets in
     let came = c.self.inside.reply.octets.items in
-    rw (← c.self.view_is) (λ fresh. went_on _ _ fresh _ c.write_on.new.stream _ octets c.write_on.ensures.left (omega (arith, c.write_on.new.self.front, c.write_on.new.self.octets.ok.0, ap (λ l. length l) octets))
-    c.write_on.ensures.written (λ all. c.write_on.ensures.idle (all ∙ sym c.self.inside.query.octets.ok.0)) (λ some. (refl, refl)) (same_start came) (none_came _ came))
+    rw (← c.self.view_is) (λ fresh. went_on _ _ fresh _ c.write_on.new.stream _ octets c.write_on.ensures.left (omega (arith, c.write_on.new.self.front, ap (λ l. length l) octets))
+    c.write_on.ensures.written (λ all. c.write_on.ensures.idle all) (λ some. (refl, refl)) (same_start came) (none_came _ came))
 
 pub returns-clause-went : goal.returns-clause-went
 returns-clause-went g c =
     let octets = ap (λ v. v.items) c.write_on.ensures.octets in
-    let len = c.self.inside.query.octets.ok.0 in
-    let all : c.write_on.new.self.left ≡ vec_len c.self.inside.query.octets = search rules in
-    rw (← c.self.view_is) (on_ok_weaker c.read_on.result (λ read fresh. went_on _ _ fresh _ c.write_on.new.stream _ octets c.write_on.ensures.left (omega (arith, all, len))
-    c.write_on.ensures.written (λ is. c.write_on.ensures.idle (is ∙ sym len)) (λ some. absurd (omega (arith, all, len, some))) c.read_on.ensures.came read) c.read_on.ensures.read)
+    let all : c.write_on.new.self.left ≡ array_vec_len c.self.inside.query.octets = search rules in
+    rw (← c.self.view_is) (on_ok_weaker c.read_on.result (λ read fresh. went_on _ _ fresh _ c.write_on.new.stream _ octets c.write_on.ensures.left (omega (arith, all))
+    c.write_on.ensures.written (λ is. c.write_on.ensures.idle is) (λ some. absurd (omega (arith, all, some))) c.read_on.ensures.came read) c.read_on.ensures.read)

@@ -8,7 +8,7 @@ use Rattle.flight_sockets.proofs.tcp.connection.Connection.write_next.Goals as g
 
 pub returns-in-Ok-clause-serves : goal.returns-in-Ok-clause-serves
 returns-in-Ok-clause-serves g c =
-    let owed = c.self.inside.owed in
+    let owed = c.self.inside.owed.octets in
     let out = take c.in-Ok.count owed in
     rw (← c.self.view_is) (serves_written out _ _ c.in-Ok.ensures.written (ap (λ (rest : List ℕ). out ++ rest) c.in-Ok.ensures.left ∙ take-append-drop c.in-Ok.count owed) refl refl refl)
 

@@ -1,10 +1,14 @@
-use Rattle.std.proofs.Common.{◌∙◌, ap, refl, sym}
+use Rattle.std.proofs.Common.{◌∙◌, ap, arith, refl, sym}
 use Rattle.flight_sockets.specs.Connections.{ConnectionState}
 use Rattle.flight_sockets.proofs.Serving.{tends_begun_after, tends_then}
 use Rattle.flight_sockets.proofs.tcp.front.TcpFront.begin.Goals as goal
 
 pub begin-requires-2-clause-number : goal.begin-requires-2-clause-number
 begin-requires-2-clause-number g c = ap (λ (connection : ConnectionState _). connection.serial) c.new.ensures ∙ c.in-Ok.ensures.serial ∙ sym c.make_room.ensures.next
+
+pub begin-requires-2-clause-small : goal.begin-requires-2-clause-small
+begin-requires-2-clause-small g c =
+    omega (arith, c.make_room.new.self.within.sum, c.make_room.new.self.within.most, ap (λ (connection : ConnectionState _). connection.kept) c.new.ensures)
 
 pub returns : goal.returns
 returns g c =

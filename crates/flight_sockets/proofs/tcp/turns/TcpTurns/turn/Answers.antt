@@ -1,17 +1,18 @@
-use Rattle.std.specs.Prelude.{Result, Ok, Err, OnOk}
 use Rattle.flight_sockets.proofs.Serving.{tends_none}
 use Rattle.flight_sockets.proofs.Flowing.{streams_tend, streams_then}
 use Rattle.flight_sockets.proofs.tcp.turns.TcpTurns.turn.Goals as goal
-
--- A fact holds if the result is no error.
-on_ok : {A E : Type 0} {fact : Type 0} (result : Result A E) → fact → OnOk result fact
-on_ok (Ok _) is = is
-on_ok (Err _) is = tt
 
 pub returns-in_err-wait-clause-goes_on : goal.returns-in_err-wait-clause-goes_on
 returns-in_err-wait-clause-goes_on g c =
     let waited = c.wait.ensures in
     streams_tend _ _ _ (tends_none waited.connections) waited.taken waited.counts waited.failures waited.asks waited.onward
+
+pub returns-in_err-tended-clause-goes_on : goal.returns-in_err-tended-clause-goes_on
+returns-in_err-tended-clause-goes_on g c =
+    let waited = c.wait.ensures in
+    let tended = c.tend-tended.ensures in
+    streams_then _ _ _ _ _ _ (streams_tend _ _ _ (tends_none waited.connections) waited.taken waited.counts waited.failures waited.asks waited.onward)
+    (streams_then _ _ _ _ _ _ c.go_on.ensures.goes_on (streams_then _ _ _ _ _ _ (streams_tend _ _ _ tended.tends tended.taken tended.counts tended.failures tended.asks tended.onward) c.serve_queued.ensures.goes_on))
 
 pub returns-clause-goes_on : goal.returns-clause-goes_on
 returns-clause-goes_on g c =
@@ -27,8 +28,7 @@ returns-clause-overdue g c =
     let went = c.go_on.ensures in
     let before = streams_then _ _ _ _ _ _ (streams_tend c.args.questions.now c.args.self.now c.wait.new.self (tends_none waited.connections) waited.taken waited.counts waited.failures waited.asks waited.onward) went.goes_on in
     let after = streams_then _ _ _ _ _ _ (streams_tend c.go_on.new.questions c.go_on.new.self c.tend-tended.new.self tended.tends tended.taken tended.counts tended.failures tended.asks tended.onward) c.serve_queued.ensures.goes_on in
-    on_ok c.tend-tended.result
-    (record {
+    record {
       between = c.go_on.new.questions;
       mid = c.go_on.new.self;
       before = before.runs;
@@ -39,4 +39,4 @@ returns-clause-overdue g c =
       looks = rw (← waited.counts, c.serve_queued.ensures.reported, tended.reported, went.reported) went.looks;
       listened = after.accounts.never_fall.listened;
       after = after.runs;
-    })
+    }
