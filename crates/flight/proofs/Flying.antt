@@ -1,18 +1,21 @@
 -- How a question goes on.
-use Rattle.std.proofs.Common.{◌≡◌, ◌∙◌, ℕ, Some, None, List, [], ◌∷◌, ◌++◌, refl, sym, subst}
+use Rattle.std.proofs.Common.{◌≡◌, ◌≤◌, ◌∙◌, ℕ, Err, Some, None, List, [], ◌∷◌, ◌++◌, ap, refl, sym, subst}
 use Rattle.dns_query.specs.declared.over.Over.{Over}
 use Rattle.dns_text.specs.declared.addr.Addr.{Addr}
 use Rattle.dns_text.specs.declared.record.Question.{Question}
 use Rattle.dns_wire.specs.declared.server.query.Query.{Query}
+use Rattle.history.specs.declared.event.Event.{Event}
 use Rattle.iterate.specs.declared.answer.Answer.{Answer}
 use Rattle.iterate.specs.declared.phase.Phase.{Phase}
 use Rattle.iterate.specs.declared.task.State.{State}
 use Rattle.iterate.specs.declared.want.Allowance.{Allowance}
+use Rattle.iterate.specs.declared.want.AskFault.{AskFault}
+use Rattle.iterate.specs.declared.want.AskFault.TheVariants.{Desk as DeskRefused, Unswept}
 use Rattle.iterate.specs.declared.want.Input.{Input}
-use Rattle.iterate.specs.declared.want.Input.TheVariants.{Begin, Came, Failed}
+use Rattle.iterate.specs.declared.want.Input.TheVariants.{Begin, Refused, Came, Failed}
 use Rattle.iterate.specs.declared.want.Step.{Step}
 use Rattle.iterate.specs.declared.want.Want.{Want}
-use Rattle.iterate.specs.declared.want.Want.TheVariants.{Send, Finish}
+use Rattle.iterate.specs.declared.want.Want.TheVariants.{Book, Send, Finish}
 use Rattle.iterate.specs.Phase.{Suits}
 use Rattle.iterate.specs.Task.{IsDueAt}
 use Rattle.iterate.specs.Exchanges.{exchanges_of}
@@ -20,7 +23,7 @@ use Rattle.iterate.specs.Wanted.{MayWant, id_drawn, stream_behind}
 use Rattle.rand_core.specs.Stream.{Stream}
 use Rattle.front_workers.specs.Leads.{Calls, Ticks, Draws}
 use Rattle.flight.specs.Asking.{IsAskedBy}
-use Rattle.flight.specs.Flight.{Sent, Hears, Answered, replied, refused, came, failed, Flies, begins, goes_on, IsOpen, Awaits, Lands, query_to}
+use Rattle.flight.specs.Flight.{Sent, Hears, CallsSoon, Answered, replied, refused, put_off, came, failed, Flies, begins, goes_on, IsOpen, Awaits, Lands, query_to}
 
 -- A task goes on for the same question.
 pub asked_on : {K : Type 0} {sends : K → List ℕ → Type 0} {port : ℕ} {octets : List ℕ} {client : K} {query : Query} {task task' : State}
@@ -30,8 +33,15 @@ asked_on asked question port = record { own = asked.own; good = asked.good; ques
 pub suits : {D : Type 0} {calls : Calls D} {seen : D → ℕ} {hears : Hears} {n n' : ℕ} {want : Want} {input : Input} → Answered calls seen hears n want input n' → Suits want input
 suits (replied known call is) = tt
 suits (refused known call is) = tt
+suits (put_off known oldest is) = tt
 suits (came heard) = tt
 suits (failed none) = tt
+
+-- A desk replied with a fault, or put the call off.
+pub unanswered : {D : Type 0} {calls : Calls D} {seen : D → ℕ} {hears : Hears} {n n' : ℕ} {event : Event} → (d d' : D) (puts_off : D → Event → Type 0) (fault : AskFault)
+    → n ≤ seen d → CallsSoon calls puts_off d event (Err fault) d' → n' ≡ seen d' → Answered calls seen hears n (Book event) (Refused fault) n'
+unanswered d d' puts_off (DeskRefused fault) known call is = refused known call is
+unanswered {seen = seen} d d' puts_off Unswept known put is = put_off known put.0 (is ∙ ap seen put.2)
 
 module _ {D C : Type 0} {calls : Calls D} {seen : D → ℕ} {hears : Hears} {ticks : Ticks C} {since port : ℕ} {question : Question} where
   -- What comes next is due.

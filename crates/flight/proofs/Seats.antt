@@ -17,7 +17,7 @@ use Rattle.iterate.specs.declared.want.Step.{Step}
 use Rattle.iterate.specs.declared.want.Want.{Want}
 use Rattle.iterate.specs.declared.want.Want.TheVariants.{Finish}
 use Rattle.iterate.specs.Exchanges.{Exchange, exchange, exchanges_behind, exchanges_of}
-use Rattle.flight.specs.Flight.{Hears, Answered, replied, refused, came, failed, Flies, begins, goes_on}
+use Rattle.flight.specs.Flight.{Hears, Answered, replied, refused, put_off, came, failed, Flies, begins, goes_on}
 use Rattle.flight.specs.Laws.{IsLater, NumbersNeverFall, ReceiptsAreLater, ReceiptsRise}
 
 -- a step, by its parts
@@ -70,6 +70,7 @@ module _ {D : Type 0} {B : Type 0} (stands_for : B → List Event → Type 0) (m
       omega (arith, one.0, known, is)
   never_falls n n' want input (refused {d = d} {d' = d'} {event = event} {fault = fault} known call is) =
       omega (arith, unseen stands_for made_with stored is_free settings (pass d) (pass d') event fault call.0, known, is)
+  never_falls n n' want input (put_off known oldest is) = omega (arith, known, is)
   never_falls n n' want input (came heard) = omega arith
   never_falls n n' want input (failed none) = omega arith
 

@@ -5,6 +5,7 @@ use Rattle.dns_wire.specs.declared.server.query.Query.{Query}
 use Rattle.dns_wire.specs.declared.server.query.Asked.TheVariants.{Good}
 use Rattle.dns_wire.specs.Server.Asking.{AsksFor}
 use Rattle.iterate.specs.declared.task.State.{State}
+use Rattle.iterate.specs.declared.want.AskFault.TheVariants.{Desk as DeskRefused}
 use Rattle.iterate.specs.declared.want.Input.{Input}
 use Rattle.iterate.specs.declared.want.Input.TheVariants.{Reply as Replied, Refused}
 use Rattle.iterate.specs.declared.want.Step.{Step}
@@ -53,7 +54,7 @@ WantsSend calls seen hears ticks since asking =
 -- what a question gets of a call of the desk
 abbrev pub input_of : Result Reply DeskFault → Input
 input_of (Ok reply) = Replied reply
-input_of (Err fault) = Refused fault
+input_of (Err fault) = Refused (DeskRefused fault)
 
 -- The desk was called with an event, and this came of it.
 abbrev pub IsCalled : {D : Type 0} → Calls D → D → Event → Input → D → Type 0

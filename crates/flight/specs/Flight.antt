@@ -1,5 +1,5 @@
 -- One question in flight: its calls of the desk and its exchanges with name servers, while other questions call between.
-use Rattle.std.specs.Prelude.{◌≡◌, ◌≤◌, ℕ, Ok, Err, Option, Some, None, List, []}
+use Rattle.std.specs.Prelude.{◌≡◌, ◌≤◌, ℕ, IsTrue, Result, Ok, Err, Option, Some, None, List, []}
 use Rattle.dns_query.specs.declared.over.Over.{Over}
 use Rattle.dns_text.specs.declared.addr.Addr.{Addr}
 use Rattle.dns_text.specs.declared.record.Question.{Question}
@@ -8,12 +8,15 @@ use Rattle.history.specs.declared.event.Event.{Event}
 use Rattle.history.specs.declared.event.Reply.{Reply}
 use Rattle.iterate.specs.declared.answer.Answer.{Answer}
 use Rattle.iterate.specs.declared.want.Allowance.{Allowance}
+use Rattle.iterate.specs.declared.want.AskFault.{AskFault}
+use Rattle.iterate.specs.declared.want.AskFault.TheVariants.{Desk as DeskRefused, Unswept}
 use Rattle.iterate.specs.declared.want.Input.{Input}
 use Rattle.iterate.specs.declared.want.Input.TheVariants.{Begin, Reply as Replied, Refused, Came, Failed}
 use Rattle.iterate.specs.declared.want.Step.{Step}
 use Rattle.iterate.specs.declared.want.Want.{Want}
 use Rattle.iterate.specs.declared.want.Want.TheVariants.{Book, Send, Finish}
 use Rattle.front_workers.specs.Leads.{Calls, Ticks, Lent, Draws}
+use Rattle.shared_book.specs.Calling.{asks_oldest}
 
 -- a query that went out: the server, the transport, and the octets
 pub record Sent : Type 0 where
@@ -29,10 +32,17 @@ query_to server over query = record { server = server; over = over; query = quer
 abbrev pub Hears : Type 1
 Hears = Sent → Option (List ℕ) → Type 0
 
--- One call of the desk, or one exchange, answers what a question wants. The desk numbers its calls. The first number is that of the latest call that the desk knew of when this question last called it, or, before its first call, when the octets of its client were taken. The last number is the same afterwards. With a response comes an allowance of finds for the desk, which may be any. Calls of other questions may come between two calls of this one.
+-- One call of a desk that may put off a look for the name to forget first: the desk before, the event, the reply or the fault, the desk after. A look that is put off leaves the desk as it was.
+abbrev pub CallsSoon : {D : Type 0} → Calls D → (D → Event → Type 0) → D → Event → Result Reply AskFault → D → Type 0
+CallsSoon calls puts_off desk event (Ok reply) desk' = calls desk event (Ok reply) desk'
+CallsSoon calls puts_off desk event (Err (DeskRefused fault)) desk' = calls desk event (Err fault) desk'
+CallsSoon calls puts_off desk event (Err Unswept) desk' = IsTrue (asks_oldest event) × puts_off desk event × (desk' ≡ desk)
+
+-- One call of the desk, or one exchange, answers what a question wants, or a look for the name to forget first is put off. The desk numbers its calls. The first number is that of the latest call that the desk knew of when this question last called it, or, before its first call, when the octets of its client were taken. The last number is the same afterwards. With a response comes an allowance of finds for the desk, which may be any. Calls of other questions may come between two calls of this one.
 pub data Answered {D : Type 0} (calls : Calls D) (seen : D → ℕ) (hears : Hears) : ℕ → Want → Input → ℕ → Type 0 where
   replied : {n n' : ℕ} {d d' : D} {event : Event} {reply : Reply} → n ≤ seen d → calls d event (Ok reply) d' → n' ≡ seen d' → Answered calls seen hears n (Book event) (Replied reply) n'
-  refused : {n n' : ℕ} {d d' : D} {event : Event} {fault : DeskFault} → n ≤ seen d → calls d event (Err fault) d' → n' ≡ seen d' → Answered calls seen hears n (Book event) (Refused fault) n'
+  refused : {n n' : ℕ} {d d' : D} {event : Event} {fault : DeskFault} → n ≤ seen d → calls d event (Err fault) d' → n' ≡ seen d' → Answered calls seen hears n (Book event) (Refused (DeskRefused fault)) n'
+  put_off : {n n' : ℕ} {d : D} {event : Event} → n ≤ seen d → IsTrue (asks_oldest event) → n' ≡ seen d → Answered calls seen hears n (Book event) (Refused Unswept) n'
   came : {n : ℕ} {server : Addr} {over : Over} {query octets : List ℕ} {allowance : Allowance} → hears (query_to server over query) (Some octets) → Answered calls seen hears n (Send server over query) (Came octets allowance) n
   failed : {n : ℕ} {server : Addr} {over : Over} {query : List ℕ} → hears (query_to server over query) None → Answered calls seen hears n (Send server over query) Failed n
 

@@ -10,7 +10,7 @@ use crate::numbered::Numbered;
 use crate::refused::WorkerTask;
 use dns_wire::Query;
 use history::Event;
-use iterate::Input;
+use iterate::{AskFault, Input};
 
 /// A client's question and its task.
 #[derive(Drop)]
@@ -26,7 +26,7 @@ pub(crate) struct Asking<G, K> {
     pub(crate) seen: u64,
 }
 
-/// Calls the desk with an event of a question.
+/// Calls the desk with the first event of a question.
 pub(crate) fn ask<D: Numbered, L: InFlight>(desk: &mut D, seen: &mut u64, event: Event) -> Input
     requires known { seen.old ≤ D.seen desk.old }
     ensures answered { Answered D.calls D.seen L.hears seen.old (Want.Book event) result seen.new }
@@ -34,6 +34,24 @@ pub(crate) fn ask<D: Numbered, L: InFlight>(desk: &mut D, seen: &mut u64, event:
     ensures called { IsCalled D.calls desk.old event result desk.new }
 {
     let answer = desk.call(event);
+    *seen = desk.seen();
+    match answer {
+        Ok(reply) => Input::Reply(reply),
+        Err(fault) => Input::Refused(AskFault::Desk(fault)),
+    }
+}
+
+/// Calls the desk with a later event, or puts the call off.
+pub(crate) fn ask_soon<D: Numbered, L: InFlight>(
+    desk: &mut D,
+    seen: &mut u64,
+    event: Event,
+) -> Input
+    requires known { seen.old ≤ D.seen desk.old }
+    ensures answered { Answered D.calls D.seen L.hears seen.old (Want.Book event) result seen.new }
+    ensures known { seen.new ≡ D.seen desk.new }
+{
+    let answer = desk.call_soon(event);
     *seen = desk.seen();
     match answer {
         Ok(reply) => Input::Reply(reply),

@@ -13,7 +13,7 @@ ghost use Rattle.flight.specs.Told.{listened_of};
 ghost use Rattle.flight.specs.Waiting.{IsAccounted, WaitsFrom, outstanding};
 ghost use Rattle.iterate.specs.declared.want.Want.{Want};
 
-use crate::asking::{Asking, ask};
+use crate::asking::{Asking, ask_soon};
 use crate::cause::Cause;
 use crate::engine::Flight;
 use crate::job::Job;
@@ -147,7 +147,7 @@ impl<D: Numbered, L: InFlight, C: Clock, G: Rng, K: Client> Flight<D, L, C, G, K
             match want {
                 Want::Book(event) => {
                     outside.note(&event);
-                    input = ask::<D, L>(desk, &mut asking.seen, event);
+                    input = ask_soon::<D, L>(desk, &mut asking.seen, event);
                 }
                 Want::Finish(answer) => {
                     let Asking {

@@ -10,6 +10,7 @@ use Rattle.iterate.specs.declared.answer.Answer.{Answer}
 use Rattle.iterate.specs.declared.phase.Phase.{Phase}
 use Rattle.iterate.specs.declared.search.Hunt.{Hunt}
 use Rattle.iterate.specs.declared.want.Allowance.{Allowance}
+use Rattle.iterate.specs.declared.want.AskFault.TheVariants.{Desk as DeskRefused}
 use Rattle.iterate.specs.declared.want.Input.{Input}
 use Rattle.iterate.specs.declared.want.Input.TheVariants.{Begin, Reply as Replied, Refused, Came, Failed}
 use Rattle.iterate.specs.declared.want.Step.{Step}
@@ -59,7 +60,7 @@ Lists port question steps hunt = (phase : Phase) × IsTask port question steps p
 -- One call met a want: the desk and the exchange before, the task's list of servers, the want, the input that the task gets for it, the desk and the exchange after. With a response comes an allowance of finds for the desk, which may be any.
 pub data Met {D X : Type 0} (calls : Calls D) (asks : Asks X) : D → X → Option Hunt → Want → Input → D → X → Type 0 where
   replied : {d d' : D} {x : X} {hunt : Option Hunt} {event : Event} {reply : Reply} → calls d event (Ok reply) d' → Met calls asks d x hunt (Book event) (Replied reply) d' x
-  refused : {d d' : D} {x : X} {hunt : Option Hunt} {event : Event} {fault : DeskFault} → calls d event (Err fault) d' → Met calls asks d x hunt (Book event) (Refused fault) d' x
+  refused : {d d' : D} {x : X} {hunt : Option Hunt} {event : Event} {fault : DeskFault} → calls d event (Err fault) d' → Met calls asks d x hunt (Book event) (Refused (DeskRefused fault)) d' x
   came : {d : D} {x x' : X} {hunt : Option Hunt} {server : Addr} {over : Over} {bytes octets : List ℕ} {allowance : Allowance}
       → asks x server hunt over bytes (Ok octets) x' → Met calls asks d x hunt (Send server over bytes) (Came octets allowance) d x'
   failed : {d : D} {x x' : X} {hunt : Option Hunt} {server : Addr} {over : Over} {bytes : List ℕ}

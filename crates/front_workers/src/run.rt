@@ -13,7 +13,7 @@ use command_text::Clock;
 use dns_name::NoMemory;
 use dns_text::Question;
 use history::Desk;
-use iterate::{Allowance, Answer, Hunt, Input, Task, Want, due_law};
+use iterate::{Allowance, Answer, AskFault, Hunt, Input, Task, Want, due_law};
 use rand_core::Rng;
 use std::alloc::{AllocError, Global};
 
@@ -39,7 +39,7 @@ fn meet<D: Desk, X: Exchange>(
     match want {
         Want::Book(event) => match desk.call(event) {
             Ok(reply) => Ok(Outcome::Go(Input::Reply(reply))),
-            Err(fault) => Ok(Outcome::Go(Input::Refused(fault))),
+            Err(fault) => Ok(Outcome::Go(Input::Refused(AskFault::Desk(fault)))),
         },
         Want::Send {
             server,

@@ -27,6 +27,7 @@ use Rattle.iterate.specs.declared.phase.Attempt.{Attempt}
 use Rattle.iterate.specs.declared.phase.Attempt.TheVariants as attempt
 use Rattle.iterate.specs.declared.phase.Phase.TheVariants.{Admitting, Ended}
 use Rattle.iterate.specs.declared.search.Search.{Search}
+use Rattle.iterate.specs.declared.want.AskFault.TheVariants.{Desk}
 use Rattle.iterate.specs.declared.want.Input.{Input}
 use Rattle.iterate.specs.declared.want.Input.TheVariants.{Reply, Refused}
 use Rattle.iterate.specs.declared.want.Want.{Want}
@@ -204,8 +205,8 @@ handing port question log moment id left searching heard allowed next tried find
 
 -- ---- a book that is full
 
-full_came : (input : Input) → SaysFull input → (stored : ℕ) × (input ≡ Refused (Step (Full stored)))
-full_came (Refused (Step (Full stored))) says = (stored, refl)
+full_came : (input : Input) → SaysFull input → (stored : ℕ) × (input ≡ Refused (Desk (Step (Full stored))))
+full_came (Refused (Desk (Step (Full stored)))) says = (stored, refl)
 full_came input says = absurd says
 
 found_full : (before log : List Exchange) (find : Find) (want : Want) (input : Input) → IsAsked want (λ m. Admit m find) → SaysFull input → Adds before (exchange want input) log → FoundFull before find log
@@ -272,19 +273,19 @@ failing_handing port question log moment id next tried path p fails = failing pa
 -- ---- what is asked next
 
 pub not_full_first : (find : Find) (moment : ℕ) (input : Input) (want : Want) → (SaysFull input → ⊥) → AsksNext attempt.Admit find moment input want
-not_full_first find moment (Refused (Step (Full stored))) want other = absurd (other tt)
+not_full_first find moment (Refused (Desk (Step (Full stored)))) want other = absurd (other tt)
 not_full_first find moment input want other = tt
 
 pub not_full_again : (find : Find) (moment : ℕ) (input : Input) (want : Want) → (SaysFull input → ⊥) → AsksNext attempt.Again find moment input want
-not_full_again find moment (Refused (Step (Full stored))) want other = absurd (other tt)
+not_full_again find moment (Refused (Desk (Step (Full stored)))) want other = absurd (other tt)
 not_full_again find moment input want other = tt
 
 pub full_first : (find : Find) (moment : ℕ) (input : Input) (want : Want) → SaysFull input → want ≡ Book (Sweep moment) → AsksNext attempt.Admit find moment input want
-full_first find moment (Refused (Step (Full stored))) want says is = is
+full_first find moment (Refused (Desk (Step (Full stored)))) want says is = is
 full_first find moment input want says is = absurd says
 
 pub full_again : (find : Find) (moment : ℕ) (input : Input) (want : Want) → SaysFull input → want ≡ Book (Look 0 Oldest) → AsksNext attempt.Again find moment input want
-full_again find moment (Refused (Step (Full stored))) want says is = is
+full_again find moment (Refused (Desk (Step (Full stored)))) want says is = is
 full_again find moment input want says is = absurd says
 
 pub not_swept_asks : (find : Find) (moment : ℕ) (input : Input) (want : Want) → (input ≡ Reply Swept → ⊥) → AsksNext attempt.Sweep find moment input want

@@ -21,6 +21,7 @@ use Rattle.iterate.specs.declared.phase.Attempt.TheVariants as attempt
 use Rattle.iterate.specs.declared.phase.Phase.{Phase}
 use Rattle.iterate.specs.declared.phase.Phase.TheVariants.{Admitting, Aliasing}
 use Rattle.iterate.specs.declared.want.Allowance.{Allowance}
+use Rattle.iterate.specs.declared.want.AskFault.TheVariants.{Desk}
 use Rattle.iterate.specs.declared.want.Input.{Input}
 use Rattle.iterate.specs.declared.want.Input.TheVariants.{Reply, Refused, Came}
 use Rattle.iterate.specs.declared.want.Want.{Want}
@@ -50,7 +51,7 @@ pub record MadeRoom (log : List Exchange) : Type 0 where
 pub record FoundFull (before : List Exchange) (find : Find) (log : List Exchange) : Type 0 where
   pub moment : ℕ
   pub stored : ℕ
-  pub refused : Adds before (exchange (Book (Admit moment find)) (Refused (Step (Full stored)))) log
+  pub refused : Adds before (exchange (Book (Admit moment find)) (Refused (Desk (Step (Full stored))))) log
 
 -- The book was full, and no room was made for the find so far.
 pub record IsFull (find : Find) (log : List Exchange) : Type 0 where
@@ -140,9 +141,9 @@ pub record IsHanding (finds : List Find) (allowed next : ℕ) (tried : Attempt) 
 
 -- what is asked next for a find, where the book is full and where room was made
 abbrev pub AsksNext : Attempt → Find → ℕ → Input → Want → Type 0
-AsksNext attempt.Admit find moment (Refused (Step (Full stored))) want = want ≡ Book (Sweep moment)
+AsksNext attempt.Admit find moment (Refused (Desk (Step (Full stored)))) want = want ≡ Book (Sweep moment)
 AsksNext attempt.Sweep find moment (Reply Swept) want = want ≡ Book (Admit moment find)
-AsksNext attempt.Again find moment (Refused (Step (Full stored))) want = want ≡ Book (Look 0 Oldest)
+AsksNext attempt.Again find moment (Refused (Desk (Step (Full stored)))) want = want ≡ Book (Look 0 Oldest)
 AsksNext attempt.Oldest find moment (Reply (Seen (SeenOldest (Some owner)))) want = want ≡ Book (Forget moment owner)
 AsksNext attempt.Forget find moment (Reply Forgotten) want = want ≡ Book (Admit moment find)
 AsksNext tried find moment input want = Unit {0}
@@ -154,7 +155,7 @@ IsNoneOldest input = Unit {0}
 
 -- What came is that the book was full.
 abbrev pub SaysFull : Input → Type 0
-SaysFull (Refused (Step (Full stored))) = Unit {0}
+SaysFull (Refused (Desk (Step (Full stored)))) = Unit {0}
 SaysFull input = ⊥
 
 -- A book took a find that was handed over, or it outranks or refuses it.
@@ -168,7 +169,7 @@ abbrev pub IsRefusal : Input → Type 0
 IsRefusal (Refused fault) = Unit {0}
 IsRefusal input = ⊥
 
--- A book has no name to forget, or does not say which.
+-- A book has no name to forget, or does not say which, or was not asked.
 abbrev pub NamesNone : Input → Type 0
 NamesNone (Refused fault) = Unit {0}
 NamesNone (Reply (Seen (SeenOldest None))) = Unit {0}

@@ -23,7 +23,7 @@ use crate::finishing::failed;
 use crate::limits::MOST_FINDS;
 use crate::phase::{Advance, Attempt, Phase};
 use crate::search::Search;
-use crate::want::{Input, Want};
+use crate::want::{AskFault, Input, Want};
 use dns_name::{Name, NoMemory};
 use dns_query::Heard;
 use history::{Ask, DeskFault, Event, Reply, Seen, StepFault};
@@ -177,7 +177,7 @@ fn is_full(input: &Input) -> bool
 {
     matches!(
         input,
-        Input::Refused(DeskFault::Step(StepFault::Full { .. }))
+        Input::Refused(AskFault::Desk(DeskFault::Step(StepFault::Full { .. })))
     )
 }
 

@@ -60,4 +60,4 @@ pub use path::Path;
 pub use phase::{Phase, Stage};
 pub use search::{Hunt, Nested, Search};
 pub use task::{State, Task};
-pub use want::{Allowance, Input, Step, Want};
+pub use want::{Allowance, AskFault, Input, Step, Want};

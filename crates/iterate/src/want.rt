@@ -31,6 +31,15 @@ impl Allowance {
     }
 }
 
+/// The reason that a task gets no reply from the book.
+#[derive(Clone, Copy, PartialEq, Eq)]
+pub enum AskFault {
+    /// The desk gives none: this is its fault.
+    Desk(DeskFault),
+    /// The desk puts off a look for the name to forget first, since much of the book is left to sweep.
+    Unswept,
+}
+
 /// An input of a task.
 #[derive(Drop)]
 pub enum Input {
@@ -38,8 +47,8 @@ pub enum Input {
     Begin,
     /// The book replied.
     Reply(Reply),
-    /// The book refused the event.
-    Refused(DeskFault),
+    /// The book refused the event, or was not asked.
+    Refused(AskFault),
     /// The server sent these octets. So many finds of the response may be handed to the book.
     Came {
         octets: Octets,

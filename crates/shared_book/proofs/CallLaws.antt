@@ -4,6 +4,7 @@ use Rattle.std.specs.Prelude.{◌⊎◌, Result, Ok, Err, IfOk, IfErr, IsErrOf}
 use Rattle.history.specs.declared.event.Event.{Event}
 use Rattle.history.specs.declared.event.Reply.{Reply}
 use Rattle.history.specs.declared.event.Reply.TheVariants.{Swept}
+use Rattle.history.specs.declared.desk.DeskFault.{DeskFault}
 use Rattle.history.specs.declared.event.Settings.{Settings}
 use Rattle.history.specs.declared.book.StepFault.{StepFault}
 use Rattle.history.specs.declared.book.StepFault.TheVariants.{BadMoment, CountEnded, Full, NoMemory}
@@ -14,11 +15,10 @@ use Rattle.history.specs.History.{past_of}
 use Rattle.history.specs.Reply.{reply_of}
 use Rattle.shared_book.specs.declared.fault.CallFault.{CallFault}
 use Rattle.shared_book.specs.declared.fault.CallFault.TheVariants.{Step, Behind}
-use Rattle.shared_book.specs.declared.receipt.Receipt.{Receipt}
 use Rattle.shared_book.specs.Pass.{PassState, after_call}
 use Rattle.shared_book.specs.Kept.{KeptState, IsKept, IsStep, IsTaken, HasNoRoom, IsCalled, HasFreeRoom, IsFreeCall, IsSweepThere}
-use Rattle.shared_book.specs.declared.shared.TheConstants.{MOST_TURNS}
-use Rattle.shared_book.specs.Calling.{IsReason, IsCallReply, IsFaultOf, IsCall, IsLocked, IsShared, IsReceiptOf, IsJustified, SeatCall, SweepsOn}
+use Rattle.shared_book.specs.Record.{receipt_for}
+use Rattle.shared_book.specs.Calling.{IsReason, IsCallReply, IsFaultOf, IsCall, IsLocked, IsReceiptOf, SeatCall, SweepsOn, answer_at_desk, turns_for}
 use Rattle.shared_book.proofs.RecordLaws.{all_events, as_many}
 
 -- a fault that a history explains has its reason
@@ -125,19 +125,24 @@ module _ {B : Type 0} (stands_for : B → List Event → Type 0) (made_with : B 
   refused settings before after pass pass' event (Err (Behind at)) kept same call = record { reason = omega (arith, call.0, call.1); same = call.3 }
 
   -- a caller who gets no receipt knows as much as from its receipt
-  pub seat_reply : (is_free : B → Event → Type 0) (settings : Settings) (pass pass' : PassState) (event : Event) (reply : Reply) (receipt : Receipt) → receipt.reply ≡ reply
-      → IsReceiptOf pass event receipt pass' → IsJustified settings receipt.number event receipt.reply → IsShared stands_for made_with stored is_free settings pass event (Ok receipt.reply) pass'
-      → SeatCall stands_for made_with stored is_free settings pass event (Ok reply) pass'
-  seat_reply is_free settings pass pass' event reply receipt is got justified shared = (
-    receipt,
-    is,
-    got,
-    subst (λ (r : Reply). IsJustified settings receipt.number event r) is justified,
-    subst (λ (r : Reply). IsShared stands_for made_with stored is_free settings pass event (Ok r) pass') is shared,
-  )
+  seat_answer : (is_free : B → Event → Type 0) (settings : Settings) (pass pass' : PassState) (event : Event) (answer : Result Reply CallFault)
+      → IfOk answer (λ reply. IsCallReply settings pass event reply pass') → IfErr answer (λ fault. IsFaultOf settings pass event fault pass')
+      → IsLocked stands_for made_with stored is_free settings pass event answer pass' → SeatCall stands_for made_with stored is_free settings pass event (answer_at_desk answer) pass'
+  seat_answer is_free settings pass pass' event (Ok reply) ok err locked =
+      let got : IsReceiptOf pass event (receipt_for pass'.seen pass.caller event reply) pass' = record { caller = refl; event_is = refl; later = ok.later; counted = ok.counted } in
+      (receipt_for pass'.seen pass.caller event reply, refl, got, ok.justified, inr locked)
+  seat_answer is_free settings pass pass' event (Err (Step fault)) ok err locked = (err.same, err.reason, inr locked)
+  seat_answer is_free settings pass pass' event (Err (Behind at)) ok err locked = (err.same, err.reason, inr locked)
+
+  pub seat_call : (is_free : B → Event → Type 0) (settings : Settings) (pass pass' : PassState) (event : Event) (answer : Result Reply CallFault) (told : Result Reply DeskFault)
+      → told ≡ answer_at_desk answer → IfOk answer (λ reply. IsCallReply settings pass event reply pass') → IfErr answer (λ fault. IsFaultOf settings pass event fault pass')
+      → IsLocked stands_for made_with stored is_free settings pass event answer pass' → SeatCall stands_for made_with stored is_free settings pass event told pass'
+  seat_call is_free settings pass pass' event answer told is ok err locked =
+      subst (λ (t : Result Reply DeskFault). SeatCall stands_for made_with stored is_free settings pass event t pass') (sym is)
+      (seat_answer is_free settings pass pass' event answer ok err locked)
 
 -- a sweep at a seat goes on
 pub sweeps_on : {B : Type 0} (stands_for : B → List Event → Type 0) (made_with : B → Settings) (stored unswept : B → ℕ) (settings : Settings) (whole : Bool) (reply : Reply)
-    → (reply ≡ Swept → IsSweepThere stands_for made_with stored unswept settings whole MOST_TURNS) → SweepsOn stands_for made_with stored unswept settings whole (Ok reply)
+    → (reply ≡ Swept → IsSweepThere stands_for made_with stored unswept settings whole (turns_for whole)) → SweepsOn stands_for made_with stored unswept settings whole (Ok reply)
 sweeps_on stands_for made_with stored unswept settings whole Swept goes = goes refl
 sweeps_on stands_for made_with stored unswept settings whole reply goes = tt

@@ -1,6 +1,9 @@
 -- What a call gives back.
-use Rattle.std.specs.Prelude.{◌≡◌, ◌⊎◌, ℕ, Bool, ◌+◌, ◌<◌, ◌≤◌, ◌^◌, true, IsTrue, List, length, Result, Ok, Err, IsErrOf}
+use Rattle.std.specs.Prelude.{◌≡◌, ◌⊎◌, ℕ, Bool, ◌+◌, ◌<◌, ◌≤◌, ◌^◌, true, false, IsTrue, List, length, Result, Ok, Err, IsErrOf}
+use Rattle.history.specs.declared.event.Ask.{Ask}
+use Rattle.history.specs.declared.event.Ask.TheVariants.{Oldest}
 use Rattle.history.specs.declared.event.Event.{Event}
+use Rattle.history.specs.declared.event.Event.TheVariants.{Look}
 use Rattle.history.specs.declared.event.Reply.{Reply}
 use Rattle.history.specs.declared.event.Reply.TheVariants.{Swept}
 use Rattle.history.specs.declared.event.Settings.{Settings}
@@ -21,7 +24,7 @@ use Rattle.shared_book.specs.declared.fault.SplitFault.TheVariants.{CountEnded a
 use Rattle.shared_book.specs.declared.receipt.Receipt.{Receipt}
 use Rattle.shared_book.specs.declared.shared.TheConstants.{MOST_TURNS}
 use Rattle.shared_book.specs.Pass.{PassState, after_call}
-use Rattle.shared_book.specs.Kept.{KeptState, IsKept, IsStep, HasFreeRoom, IsFreeCall, IsSweepThere}
+use Rattle.shared_book.specs.Kept.{KeptState, IsKept, IsStep, HasFreeRoom, IsFreeCall, IsTurnForThere, IsSweepThere}
 
 -- The receipt of a call with this pass, which then has seen it.
 pub record IsReceiptOf (pass : PassState) (event : Event) (receipt : Receipt) (pass' : PassState) : Type 0 where
@@ -95,6 +98,11 @@ abbrev pub fault_at_desk : CallFault → DeskFault
 fault_at_desk (CallStep fault) = Step fault
 fault_at_desk (CallBehind at) = Behind at
 
+-- what a seat tells of a call's answer
+abbrev pub answer_at_desk : Result Reply CallFault → Result Reply DeskFault
+answer_at_desk (Ok reply) = Ok reply
+answer_at_desk (Err fault) = Err (fault_at_desk fault)
+
 -- One call at a seat of a shared book that was made with these settings: the pass before, the event, the answer, the pass after.
 abbrev pub SeatCall : {B : Type 0} → (B → List Event → Type 0) → (B → Settings) → (B → ℕ) → (B → Event → Type 0) → Settings → PassState → Event → Result Reply DeskFault → PassState → Type 0
 SeatCall stands_for made_with stored is_free settings pass event (Ok reply) pass' =
@@ -105,9 +113,28 @@ SeatCall stands_for made_with stored is_free settings pass event (Err (Step faul
 SeatCall stands_for made_with stored is_free settings pass event (Err (Behind at)) pass' =
     (pass' ≡ pass) × (at < pass.seen) × IsShared stands_for made_with stored is_free settings pass event (Err (CallBehind at)) pass'
 
+-- whether it is asked for the name to forget first
+abbrev pub is_oldest : Ask → Bool
+is_oldest Oldest = true
+is_oldest ask = false
+
+-- whether an event asks for the name to forget first
+abbrev pub asks_oldest : Event → Bool
+asks_oldest (Look moment ask) = is_oldest ask
+asks_oldest event = false
+
+-- A seat did not look for the name to forget first: a turn of a sweep was taken, after which another one was wanted.
+abbrev pub IsPutOff : {B : Type 0} → (B → List Event → Type 0) → (B → Settings) → (B → ℕ) → (B → ℕ) → Settings → Event → Type 0
+IsPutOff stands_for made_with stored unswept settings event = IsTrue (asks_oldest event) × IsTurnForThere stands_for made_with stored unswept settings false true
+
+-- how many turns a seat takes at most after the reply to a sweep: until the whole is swept, or until there is room
+abbrev pub turns_for : Bool → ℕ
+turns_for true = MOST_TURNS
+turns_for false = 1
+
 -- After the reply to a sweep, turns were taken until the sweep had done enough: of the whole, or for room.
 abbrev pub SweepsOn : {B : Type 0} → (B → List Event → Type 0) → (B → Settings) → (B → ℕ) → (B → ℕ) → Settings → Bool → Result Reply DeskFault → Type 0
-SweepsOn stands_for made_with stored unswept settings whole (Ok Swept) = IsSweepThere stands_for made_with stored unswept settings whole MOST_TURNS
+SweepsOn stands_for made_with stored unswept settings whole (Ok Swept) = IsSweepThere stands_for made_with stored unswept settings whole (turns_for whole)
 SweepsOn stands_for made_with stored unswept settings whole answer = Unit {0}
 
 -- A pass was not split because it has one part, or because as many callers were numbered under the lock as there may be. The fault has the parts of this pass.

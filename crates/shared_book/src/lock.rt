@@ -1,6 +1,6 @@
 //! The lock around a book and the window of its last calls.
 
-ghost use Rattle.std.specs.Prelude.{◌≡◌, ◌⊎◌, IfOk, IfErr, OnErr, IsErr};
+ghost use Rattle.std.specs.Prelude.{◌≡◌, ◌⊎◌, true, false, IfOk, IfErr, IfNone, OnErr, IsErr};
 ghost use Rattle.shared_book.specs.Pass.{IsSplit, IsJoined};
 ghost use Rattle.shared_book.specs.Calling.{IsCallReply, IsFaultOf, IsLocked, IsUnsplit};
 ghost use Rattle.shared_book.specs.Kept.{IsTurnForThere, IsTurnThere};
@@ -98,7 +98,9 @@ impl<'a, B: Book, L: CallLedger> Held<'a, B, L> {
     }
 
     /// A turn of a sweep of the book. If it left nothing, the lock stays held.
-    pub fn swept(self) -> Option<Held<'a, B, L>> {
+    pub fn swept(self) -> Option<Held<'a, B, L>>
+        ensures { IfNone result (IsTurnForThere B.stands_for B.settings B.stored B.unswept L.settings false true) }
+    {
         let Held { mut kept } = self;
         if kept.sweep_book() {
             return None;

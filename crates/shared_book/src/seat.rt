@@ -1,14 +1,13 @@
 //! A shared book with a pass, as a desk.
 
-ghost use Rattle.std.specs.Prelude.{◌≡◌};
-ghost use Rattle.shared_book.specs.declared.shared.TheConstants.{MOST_TURNS};
-ghost use Rattle.shared_book.specs.Calling.{fault_at_desk, SeatCall, SweepsOn};
+ghost use Rattle.std.specs.Prelude.{◌≡◌, IfNone, IfSome, IsTrue};
+ghost use Rattle.shared_book.specs.Calling.{answer_at_desk, asks_oldest, fault_at_desk, IsPutOff, SeatCall, SweepsOn, turns_for};
 ghost use Rattle.shared_book.specs.Kept.{IsSweepThere};
 
 use crate::fault::CallFault;
 use crate::ledger::CallLedger;
 use crate::pass::Pass;
-use crate::shared::SharedBook;
+use crate::shared::{MOST_TURNS, SharedBook, asks_oldest};
 use history::{Book, Desk, DeskFault, Event, Reply, StepFault};
 use std::sync::Wait;
 
@@ -23,7 +22,7 @@ pub struct Seat<'a, B: Book, L: CallLedger, R: Wait> {
 }
 
 impl<'a, B: Book, L: CallLedger, R: Wait> Seat<'a, B, L, R> {
-    /// The place of this pass. A sweep from it ends as soon as the book has room.
+    /// The place of this pass, for someone who keeps others waiting. A sweep from it ends as soon as the book has room, or after two turns.
     pub fn new(rt: &'a R, book: &'a SharedBook<B, L>, pass: Pass<L>) -> Seat<'a, B, L, R>
         ensures { result.pass ≡ pass }
     {
@@ -81,7 +80,55 @@ impl<'a, B: Book, L: CallLedger, R: Wait> Desk for Seat<'a, B, L, R> {
                 return Err(DeskFault::Step(StepFault::NoMemory));
             }
         };
-        match self.book.step(self.rt, &mut self.pass, event, copy) {
+        let answer = self.book.step(self.rt, &mut self.pass, event, copy);
+        self.tell(answer)
+    }
+}
+
+impl<'a, B: Book, L: CallLedger, R: Wait> Seat<'a, B, L, R> {
+    /// Calls the book for someone who keeps others waiting. It looks for the name to forget first only behind a turn of a sweep that left
+    /// nothing, so that this look is one path of a tree. Else it returns None, and nothing but the turn has happened.
+    pub fn call_soon(&mut self, event: Event) -> Option<Result<Reply, DeskFault>>
+        ensures called { IfSome result (λ answer.
+            SeatCall B.stands_for B.settings B.stored B.is_free L.settings self.old.pass event answer self.new.pass) }
+        ensures goes_on { IfSome result (SweepsOn B.stands_for B.settings B.stored B.unswept L.settings self.old.is_thorough) }
+        ensures put_off { IfNone result (IsPutOff B.stands_for B.settings B.stored B.unswept L.settings event) }
+        ensures same { IfNone result (self.new ≡ self.old) }
+    {
+        if asks_oldest(&event) {
+            return self.look_soon(event);
+        }
+        Some(self.call(event))
+    }
+
+    /// Looks for the name to forget first, if a turn of a sweep leaves nothing.
+    fn look_soon(&mut self, event: Event) -> Option<Result<Reply, DeskFault>>
+        requires oldest { IsTrue (asks_oldest event) }
+        ensures called { IfSome result (λ answer.
+            SeatCall B.stands_for B.settings B.stored B.is_free L.settings self.old.pass event answer self.new.pass) }
+        ensures goes_on { IfSome result (SweepsOn B.stands_for B.settings B.stored B.unswept L.settings self.old.is_thorough) }
+        ensures put_off { IfNone result (IsPutOff B.stands_for B.settings B.stored B.unswept L.settings event) }
+        ensures same { IfNone result (self.new ≡ self.old) }
+    {
+        let copy = match event.copy() {
+            Ok(copy) => copy,
+            Err(_) => {
+                drop(event);
+                return Some(Err(DeskFault::Step(StepFault::NoMemory)));
+            }
+        };
+        match self.book.look_soon(self.rt, &mut self.pass, event, copy) {
+            Some(answer) => Some(self.tell(answer)),
+            None => None,
+        }
+    }
+
+    /// What the seat tells of an answer. After the reply to a sweep it goes on with the sweep: the call itself was the first turn.
+    fn tell(&self, answer: Result<Reply, CallFault>) -> Result<Reply, DeskFault>
+        ensures told { result ≡ answer_at_desk answer }
+        ensures goes_on { SweepsOn B.stands_for B.settings B.stored B.unswept L.settings self.now.is_thorough result }
+    {
+        match answer {
             Ok(reply) => {
                 self.go_on(&reply);
                 Ok(reply)
@@ -89,18 +136,31 @@ impl<'a, B: Book, L: CallLedger, R: Wait> Desk for Seat<'a, B, L, R> {
             Err(fault) => Err(desk_fault(fault)),
         }
     }
-}
 
-impl<'a, B: Book, L: CallLedger, R: Wait> Seat<'a, B, L, R> {
-    /// Goes on with a sweep, if that was the reply. The call itself was the first turn.
+    /// Goes on with a sweep, if that was the reply.
     fn go_on(&self, reply: &Reply)
         ensures { reply.now ≡ Reply.Swept →
-            IsSweepThere B.stands_for B.settings B.stored B.unswept L.settings self.now.is_thorough MOST_TURNS }
+            IsSweepThere B.stands_for B.settings B.stored B.unswept L.settings self.now.is_thorough (turns_for self.now.is_thorough) }
     {
         if matches!(reply, Reply::Swept) {
-            self.book.free(self.rt, self.is_thorough);
+            self.free();
         }
     }
+
+    /// Frees what a sweep may, by turns.
+    fn free(&self)
+        ensures { IsSweepThere B.stands_for B.settings B.stored B.unswept L.settings self.now.is_thorough (turns_for self.now.is_thorough) }
+    {
+        let whole = self.is_thorough;
+        self.book.free(self.rt, whole, turns_for(whole));
+    }
+}
+
+/// The turns after the reply to a sweep, at most.
+fn turns_for(whole: bool) -> u32
+    ensures { result ≡ turns_for whole }
+{
+    if whole { MOST_TURNS } else { 1 }
 }
 
 /// The fault of a desk for the fault of a call.

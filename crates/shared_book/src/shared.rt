@@ -1,13 +1,12 @@
 //! One lock around a book and the window of its last calls.
 
-ghost use Rattle.std.specs.Prelude.{◌≡◌, ◌≤◌, ◌↔◌, [], Some, None, IfOk, IfErr, OnErr, IsErr, IsErrOf, MatchResult};
+ghost use Rattle.std.specs.Prelude.{◌≡◌, ◌≤◌, ◌↔◌, [], true, false, Some, None, IfOk, IfErr, IfNone, IfSome, OnErr, IsErr, IsErrOf, MatchResult};
 ghost use Rattle.history.specs.Event.{lagging_of};
 ghost use Rattle.shared_book.specs.declared.kept.TheConstants.{MOST_RECORDED};
 ghost use Rattle.shared_book.specs.Pass.{first_pass, IsSplit, IsJoined};
-ghost use Rattle.shared_book.specs.Calling.{IsReceiptOf, IsJustified, IsCallReply, IsFaultOf, IsLocked, IsShared, IsUnsplit, answer_of};
+ghost use Rattle.shared_book.specs.Calling.{IsReceiptOf, IsJustified, IsCallReply, IsFaultOf, IsLocked, IsShared, IsUnsplit, answer_of, asks_oldest, is_oldest};
 ghost use Rattle.shared_book.specs.Closing.{IsClosed};
-ghost use Rattle.shared_book.specs.declared.shared.TheConstants.{MOST_TURNS};
-ghost use Rattle.shared_book.specs.Kept.{IsKept, IsTurnThere, IsSweepThere};
+ghost use Rattle.shared_book.specs.Kept.{IsKept, IsTurnThere, IsTurnForThere, IsSweepThere};
 
 use crate::close::NotClosed;
 use crate::copies::three_copies;
@@ -27,10 +26,19 @@ use std::thread::yield_now;
 /// each name changes meanwhile.
 pub(crate) const MOST_TURNS: u32 = 16_384;
 
+/// Whether it is asked for the name to forget first.
+fn is_oldest(ask: &Ask) -> bool
+    ensures { result ≡ is_oldest ask.now }
+{
+    matches!(ask, Ask::Oldest)
+}
+
 /// Whether an event asks for the name to forget first.
-fn asks_oldest(event: &Event) -> bool {
+pub(crate) fn asks_oldest(event: &Event) -> bool
+    ensures { result ≡ asks_oldest event.now }
+{
     match event {
-        Event::Look { ask, .. } => matches!(ask, Ask::Oldest),
+        Event::Look { ask, .. } => is_oldest(ask),
         _ => false,
     }
 }
@@ -134,11 +142,11 @@ impl<B: Book, L: CallLedger> SharedBook<B, L> {
     }
 
     /// Frees what a sweep may, a turn at a time, and others get the lock between two turns. It ends as soon as the book has room, or, if
-    /// `whole` is set, when nothing is left in both books. It also ends after `MOST_TURNS` turns.
-    pub(crate) fn free<R: Wait>(&self, rt: &R, whole: bool)
-        ensures { IsSweepThere B.stands_for B.settings B.stored B.unswept L.settings whole MOST_TURNS }
+    /// `whole` is set, when nothing is left in both books. It also ends after `most` turns.
+    pub(crate) fn free<R: Wait>(&self, rt: &R, whole: bool, most: u32)
+        ensures { IsSweepThere B.stands_for B.settings B.stored B.unswept L.settings whole most }
     {
-        for _taken in 0..MOST_TURNS {
+        for _taken in 0..most {
             if !self.kept.hold(rt).turn(whole) {
                 return;
             }
@@ -163,6 +171,33 @@ impl<B: Book, L: CallLedger> SharedBook<B, L> {
             return self.hold_swept(rt).call(pass, event, copy);
         }
         self.kept.hold(rt).call(pass, event, copy)
+    }
+
+    /// Takes a look for the name to forget first in the same way, but only behind one turn of a sweep. If that left something, it returns
+    /// None, and nothing but the turn has happened.
+    pub(crate) fn look_soon<R: Wait>(
+        &self,
+        rt: &R,
+        pass: &mut Pass<L>,
+        event: Event,
+        copy: Event,
+    ) -> Option<Result<Reply, CallFault>>
+        requires same { copy ≡ event }
+        ensures ok { IfSome result (λ answer. IfOk answer (λ reply. IsCallReply L.settings pass.old event reply pass.new)) }
+        ensures err { IfSome result (λ answer. IfErr answer (λ fault. IsFaultOf L.settings pass.old event fault pass.new)) }
+        ensures locked { IfSome result (λ answer.
+            IsLocked B.stands_for B.settings B.stored B.is_free L.settings pass.old event answer pass.new) }
+        ensures turn { IfNone result (IsTurnForThere B.stands_for B.settings B.stored B.unswept L.settings false true) }
+        ensures same_pass { IfNone result (pass.new ≡ pass.old) }
+    {
+        match self.kept.hold(rt).swept() {
+            Some(held) => Some(held.call(pass, event, copy)),
+            None => {
+                drop(event);
+                drop(copy);
+                None
+            }
+        }
     }
 
     /// Holds the lock right after a turn that left nothing of the book to sweep. For the name to forget first is then one path of a tree

@@ -46,6 +46,8 @@ impl Desk for NumberedBook {
 impl Numbered for NumberedBook {
     ghost seen = { λ desk. desk.calls };
 
+    ghost puts_off = { λ _ _. ⊥ };
+
     fn seen(&self) -> u64 {
         self.calls
     }

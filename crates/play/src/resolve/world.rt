@@ -6,7 +6,7 @@ ghost use Rattle.iterate.specs.declared.want.Want.TheVariants.{Book as BookWant}
 use crate::books::{CELLS, DNS_PORT, book_with};
 use crate::stop::Stop;
 use history::{Desk, DeskFault, Event, Reply, StepFault};
-use iterate::Input;
+use iterate::{AskFault, Input};
 use rand_pcg::Pcg32;
 use std::alloc::Global;
 use std::mem;
@@ -58,7 +58,7 @@ impl World {
         // Calls drop the event: the prover follows any other drop variant by variant.
         if self.calls == self.refused {
             drop(event);
-            return Input::Refused(DeskFault::Step(StepFault::NoMemory));
+            return Input::Refused(AskFault::Desk(DeskFault::Step(StepFault::NoMemory)));
         }
         if self.calls == self.confused {
             drop(event);
@@ -70,7 +70,7 @@ impl World {
         }
         match self.book.call(event) {
             Ok(reply) => Input::Reply(reply),
-            Err(fault) => Input::Refused(fault),
+            Err(fault) => Input::Refused(AskFault::Desk(fault)),
         }
     }
 

@@ -25,9 +25,9 @@ loop-want-preserved-in-Book g c =
     before.flies c.now-moment.ensures c.in-Ok.ensures.ok.steps c.in-Ok.ensures.ok.wants c.in-Ok.ensures.ok.drawn c.in-Book.is in
     record {
       asked = asked_on before.asked c.step.ensures.same.question c.step.ensures.same.port;
-      flies = flown is c.ask-input.ensures.answered;
+      flies = flown is c.ask_soon-input.ensures.answered;
       port = before.port;
-      known = omega (arith, c.ask-input.ensures.known);
+      known = omega (arith, c.ask_soon-input.ensures.known);
       client_kept = before.client_kept;
       origin_kept = before.origin_kept;
       keeps = before.keeps;
