@@ -1,12 +1,11 @@
-//! Sweeps of a shared book. They are done in turns: a worker's ends as soon as there is room, an operator's when nothing is left. A worker
-//! looks for the name to forget first only behind a turn that left nothing.
+//! Sweeps of a shared book. They are done in turns: a worker's ends as soon as there is room, an operator's when nothing is left.
 
 ghost use Rattle.std.specs.Prelude.{◌≡◌, [], IfOk};
 ghost use Rattle.history.specs.Event.{lagging_of};
 
 use crate::cells::address;
 use dns_text::Items;
-use history::{Ask, Book, Desk, Event, MakeFault, Reply, Seen, Settings};
+use history::{Book, Desk, Event, MakeFault, Reply, Settings};
 use ranked::Rank;
 use shared_book::{Blank, CallLedger, Seat, SharedBook};
 use std::alloc::Global;
@@ -86,47 +85,6 @@ fn refilled_shelf<R: Wait + Abort>(rt: &R, alloc: Global, is_thorough: bool) -> 
 #[test]
 fn a_worker_sweeps_until_there_is_room(rt: HostRuntime) -> Result<(), Fail> {
     assert!(rt; refilled_shelf(&rt, rt.alloc(), false)? == 256);
-    Ok(())
-}
-
-/// Looks for the name to forget first as a worker does. None if the look is put off; else whether there is such a name.
-fn look_soon<B: Book, L: CallLedger, R: Wait>(seat: &mut Seat<'_, B, L, R>) -> Option<bool> {
-    let ask = Ask::Oldest;
-    let answer = seat.call_soon(Event::Look { moment: 0, ask })?;
-    let is_named = matches!(&answer, Ok(Reply::Seen(Seen::Oldest(Some(_)))));
-    drop(answer);
-    Some(is_named)
-}
-
-/// Fills a book, and looks twice.
-fn looked<B: Book, L: CallLedger, R: Wait + Abort>(
-    rt: &R,
-    alloc: Global,
-    blank: Blank,
-    book: B,
-    opening: B,
-) -> Result<(Option<bool>, Option<bool>), Fail>
-    requires name { blank.name ≡ L.name }
-    requires parts { blank.parts ≡ L.parts }
-    requires limit { 10 ≡ L.limit }
-    requires settings { B.settings book ≡ L.settings }
-    requires lags { B.settings opening ≡ lagging_of L.settings }
-    requires fresh { B.stands_for book [] × B.stands_for opening [] }
-{
-    let (book, pass) = SharedBook::<B, L>::new(alloc, blank, book, opening, 10)?;
-    let mut seat = Seat::new(rt, &book, pass);
-    fill(alloc, &mut seat, 0, 0)?;
-    let first = look_soon(&mut seat);
-    Ok((first, look_soon(&mut seat)))
-}
-
-/// A turn visits 256 of the names, and the next one visits the others.
-#[test]
-fn a_worker_puts_a_look_off(rt: HostRuntime) -> Result<(), Fail> {
-    let (book, opening) = books(rt.alloc())?;
-    let blank = Blank::new(1);
-    let looked = looked::<ShelfBook, Brand, HostRuntime>(&rt, rt.alloc(), blank, book, opening)?;
-    assert!(rt; looked == (None, Some(true)));
     Ok(())
 }
 
