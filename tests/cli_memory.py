@@ -290,7 +290,7 @@ look list_local_zones list_local_data list_stubs list_commands list_buried serve
 """.split()
 
 UNTOUCHED = b"0 entries, 0 calls, 0 cells, seen 0, made 0"
-# The calls of a full call log, by the word for what is called: `RECORDED` and `MOVING` in `shared_book_drawn`.
+# The calls of a full call log, by the word for what is called: `RECORDED` and `MOVING` in `book_tests`.
 MOST_CALLS = {"moving": 2}
 WANT = b"out of memory"
 

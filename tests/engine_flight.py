@@ -23,6 +23,7 @@ import subprocess
 from collections import Counter
 
 from lib.checks import Checks
+from lib.identifiers import first_identifiers
 from lib.messages import name_octets, question_octets, question_of, response
 from lib.programs import PATIENCE, PLAY, TOP, run
 from lib.replies import reply_in
@@ -120,6 +121,17 @@ def refuse_each(checks, about, lines):
             return
         checks.check(f"{about}: allocation {nth}", fault_of_refusal(lines, told_in(done.out), done.status))
     checks.check(f"{about}: each allocation is refused", f"more than {MOST}")
+
+
+# ---- identifiers
+
+def check_identifiers(checks):
+    """Two questions at once, each of which asks two servers: each query takes the next identifier, and no other step draws one."""
+    clients = [f"client {client} {query(client, f'n{client}.test. A').hex()}" for client in (1, 2)]
+    done = talk(["hints 127.0.0.1@5301 127.0.0.2@5301", *clients, *(f"look {key} broken" for key in (0, 1, 1, 0))])
+    opened = [line.split() for line in done.out.decode().splitlines() if line.startswith("open ")]
+    checks.equal("identifiers: the exchanges that begin", [key for _, key, *_ in opened], ["0", "1", "0", "1"])
+    checks.equal("identifiers: those of four queries", [words[4][:4] for words in opened], first_identifiers(4))
 
 
 # ---- a random run
@@ -374,6 +386,7 @@ def main():
             wanted = [line for line in lines if line.split()[0] in EXPECTED]
             checks.equal(about, told_in(done.out), wanted)
             refuse_each(checks, about, lines)
+    check_identifiers(checks)
     drawn(checks)
     places(checks)
     bounds(checks)

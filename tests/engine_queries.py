@@ -23,6 +23,7 @@ import re
 from collections import Counter
 
 from lib.checks import Checks
+from lib.identifiers import first_identifiers, pcg_words
 from lib.programs import PLAY, TOP, run
 from lib.rows import came, octets, query_words, rows_in
 
@@ -240,25 +241,14 @@ def check_workers(checks):
 
 # ---- identifiers
 
-def pcg_words(seed, stream):
-    """The words of PCG32 (XSH RR) for a seed and a stream, by its definition."""
-    most, more = 2**64 - 1, 2 * stream + 1
-    state = ((seed + more) * 6364136223846793005 + more) & most
-    while True:
-        mixed, turn = ((state >> 18 ^ state) >> 27) & 0xFFFFFFFF, state >> 59
-        yield (mixed >> turn | mixed << (32 - turn)) & 0xFFFFFFFF
-        state = (state * 6364136223846793005 + more) & most
-
-
 def check_identifiers(checks):
-    """The identifier of a query is the lower half of the next word, and nothing else draws a word. `play serve` has seed 1, stream 1."""
+    """The identifier of a query is the lower half of the next word, and nothing else draws a word."""
     words = pcg_words(42, 54)
     checks.equal("PCG32: its published words", [next(words) for _ in range(3)], [0xA15C02B7, 0x7B47F409, 0xBA1D3330])
     asked = [octets(f"1234 0100 0001 0000 0000 0000 01'{letter}' 04'test' 00 0001 0001", {}) for letter in "ab"]
     done = talk(["hints 127.0.0.1@5301 127.0.0.2@5302", *["failed"] * 4, *(f"udp {digits(text)}" for text in asked)])
     found = [line.split()[3][:4] for line in done.out.decode().splitlines() if line.startswith("send ")]
-    words = pcg_words(1, 1)
-    checks.equal("identifiers of four queries", found, [f"{next(words) & 0xFFFF:04x}" for _ in range(4)])
+    checks.equal("identifiers of four queries", found, first_identifiers(4))
 
 
 # ---- memory

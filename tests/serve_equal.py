@@ -17,6 +17,9 @@ MOST_EQUAL, MOST_MISFITS = 4, 2
 # The seconds that an exchange may take.
 EXCHANGE = 2
 
+# What part of the time that an exchange lasts is looked at for others: the server notes a query a moment after it came.
+NEARLY = 0.95
+
 # How long the forger goes on, in seconds, and the datagrams that it sends at each port that it learns.
 FORGING_SECONDS, FORGED = 120, 200
 
@@ -62,10 +65,10 @@ def check_equal(checks, what, ttl, late, count, most_asked):
     with LateServer(does) as server, Service([server.hint], "--udp", "4") as service:
         crowd, took = equal_questions(service, "same.test.", count)
         replies = {words.partition("|")[2] for words in crowd.words()}
-        print(f"{what}: {took:.2f} s, {arrivals.count('same.test.')} queries, {arrivals.most('same.test.', late)} at once")
+        print(f"{what}: {took:.2f} s, {arrivals.count('same.test.')} queries, {arrivals.most('same.test.', late * NEARLY)} at once")
         checks.check(f"{what}: once each", crowd.once_each())
         checks.equal(f"{what}: the replies", replies, {" answer same.test. A 192.0.2.1"})
-        most = arrivals.most("same.test.", late)
+        most = arrivals.most("same.test.", late * NEARLY)
         checks.check(f"{what}: at once", None if 1 < most <= MOST_EQUAL else f"{most} at once")
         asked = arrivals.count("same.test.")
         checks.check(f"{what}: asked", None if asked <= most_asked else f"{asked} times")
@@ -86,7 +89,7 @@ def check_each_by_itself(checks):
         checks.check("a TTL of 0: once each", crowd.once_each())
         checks.equal("a TTL of 0: the replies", set(crowd.words()), {"- | answer zero.test. A 192.0.2.1"})
         checks.equal("a TTL of 0: asked", arrivals.count("zero.test."), 80)
-        most = arrivals.most("zero.test.", 0.05)
+        most = arrivals.most("zero.test.", 0.05 * NEARLY)
         checks.check("a TTL of 0: at once", None if most <= MOST_EQUAL else f"{most} at once")
         checks.equal("a TTL of 0: stopped", service.stop(), STOPPED)
 
@@ -104,14 +107,19 @@ def check_silent(checks):
         began = time.monotonic()
         with Crowd(service, 32) as crowd:
             crowd.send_all(["silent1.test."] * 400)
-            others = [service.ask(f"other{place}.test.").words() for place in range(50)]
-            among = time.monotonic() - began
+            others, seconds = [], []
+            for place in range(50):
+                asked = time.monotonic()
+                others.append(service.ask(f"other{place}.test.").words())
+                seconds.append(time.monotonic() - asked)
             crowd.wait()
             took = time.monotonic() - began
+        # Questions with one hash wait for one another: in one run of 300, one of these fifty has the hash of the silent one.
+        among = sum(sorted(seconds)[:-1])
         print(f"a silent server: {took:.2f} s, {arrivals.count('silent1.test.')} queries, others {among:.2f} s")
         checks.check("a silent server: once each", crowd.once_each())
         checks.equal("a silent server: the replies", set(crowd.words()), {FAILED})
-        most = arrivals.most("silent1.test.", EXCHANGE - 0.1)
+        most = arrivals.most("silent1.test.", EXCHANGE * NEARLY)
         checks.check("a silent server: at once", None if most <= MOST_EQUAL else f"{most} at once")
         checks.check("a silent server: it ends", None if took < 11 else f"{took:.1f} s")
         checks.equal("a silent server: others", others, [answered(f"other{place}.test.") for place in range(50)])

@@ -12,7 +12,7 @@ from dataclasses import dataclass
 TOP = os.path.dirname(os.path.dirname(os.path.dirname(os.path.abspath(__file__))))
 RESOLVER = os.path.join(TOP, "crates/resolver_cli/out/resolver_cli")
 CALLS = os.path.join(TOP, "crates/dns_calls/out/dns_calls")
-BOOKS = os.path.join(TOP, "crates/shared_book_drawn/out/shared_book_drawn")
+BOOKS = os.path.join(TOP, "crates/book_tests/out/book_tests")
 PLAY = os.path.join(TOP, "crates/play/out/play")
 MEASURE = os.path.join(TOP, "crates/measure/out/measure")
 

@@ -1,65 +1,32 @@
 //! The plain book, by the calls and events that no line of a script makes.
 
-ghost use Rattle.std.specs.Prelude.{◌≡◌, [], IfOk};
-ghost use Rattle.history.specs.Event.{lagging_of};
-
-use crate::cells::address;
+use crate::checks::Checks;
+use crate::finds::address;
+use crate::new_books::plain_book;
 use crate::outcome::{Outcome, give, outcome_of};
 use dns_name::Name;
-use dns_text::{Items, Question};
+use dns_text::Question;
 use history::{
     Ask, Book, Command, Event, Look, MOMENT_END, MOST_CELLS, MOST_COMMANDS, MakeFault, Reply,
-    RunFault, Seen, Settings, StepFault, run,
+    RunFault, Seen, StepFault, run,
 };
 use ranked::Rank;
 use std::alloc::Global;
-use std::process::Abort;
-use std::test::*;
-use undo_book::PlainBook;
+use std::io;
 
-/// An empty book with a journal of so many commands, and room for so many cells.
-pub fn book(alloc: Global, journal: usize, cells: usize) -> Result<PlainBook, MakeFault>
-    ensures { IfOk result (λ b. ⟦<PlainBook as Book>⟧.stands_for b []) }
-{
-    PlainBook::new(alloc, settings(alloc, journal, cells))
-}
-
-/// The same, and an opening book to it.
-pub fn books(
-    alloc: Global,
-    journal: usize,
-    cells: usize,
-) -> Result<(PlainBook, PlainBook), MakeFault>
-    ensures lags { IfOk result (λ b. ⟦<PlainBook as Book>⟧.settings b.1 ≡ lagging_of (⟦<PlainBook as Book>⟧.settings b.0)) }
-    ensures fresh { IfOk result (λ b. ⟦<PlainBook as Book>⟧.stands_for b.0 [] × ⟦<PlainBook as Book>⟧.stands_for b.1 []) }
-{
-    let settings = settings(alloc, journal, cells);
-    let opening = PlainBook::lagging(alloc, &settings)?;
-    Ok((PlainBook::new(alloc, settings)?, opening))
-}
-
-fn settings(alloc: Global, journal: usize, cells: usize) -> Settings {
-    Settings {
-        journal,
-        cells,
-        hints: Items::new(Vec::new(alloc)),
-        server_port: 53,
-    }
-}
-
-fn question(alloc: Global) -> Result<Question, Fail> {
+fn question(alloc: Global) -> anyhow::Result<Question> {
     Ok(Question {
         owner: Name::from_text(alloc, b"a.test")?,
         kind: 1,
     })
 }
 
-fn admit(alloc: Global, moment: u64, rank: Rank, ttl: u32) -> Result<Event, Fail> {
+fn admit(alloc: Global, moment: u64, rank: Rank, ttl: u32) -> anyhow::Result<Event> {
     let find = address(alloc, b"a.test", rank, ttl)?;
     Ok(Event::Admit { moment, find })
 }
 
-fn flush(alloc: Global, moment: u64) -> Result<Event, Fail> {
+fn flush(alloc: Global, moment: u64) -> anyhow::Result<Event> {
     let command = Command::FlushType(question(alloc)?);
     Ok(Event::Do { moment, command })
 }
@@ -71,12 +38,12 @@ fn admits<B: Book>(
     moment: u64,
     rank: Rank,
     ttl: u32,
-) -> Result<Outcome, Fail> {
+) -> anyhow::Result<Outcome> {
     Ok(give(book, admit(alloc, moment, rank, ttl)?))
 }
 
 /// Flushes the cell of the question.
-fn flushes<B: Book>(book: &mut B, alloc: Global, moment: u64) -> Result<Outcome, Fail> {
+fn flushes<B: Book>(book: &mut B, alloc: Global, moment: u64) -> anyhow::Result<Outcome> {
     Ok(give(book, flush(alloc, moment)?))
 }
 
@@ -89,7 +56,7 @@ fn redoes<B: Book>(book: &mut B, moment: u64) -> Outcome {
 }
 
 /// The seconds that what is held of a question has left.
-fn left<B: Book>(book: &B, asked: &Question, moment: u64) -> Option<u32> {
+pub fn left<B: Book>(book: &B, asked: &Question, moment: u64) -> Option<u32> {
     let look = book.look(asked, moment);
     let left = match &look {
         Look::Held(shown) => Some(shown.left),
@@ -99,52 +66,49 @@ fn left<B: Book>(book: &B, asked: &Question, moment: u64) -> Option<u32> {
     left
 }
 
-#[test]
-fn settings_have_ranges(rt: HostRuntime) {
-    let alloc = rt.alloc();
+fn settings_have_ranges(checks: &mut Checks, alloc: Global) -> anyhow::Result<()> {
     for (journal, cells) in [(1, 1), (MOST_COMMANDS, MOST_CELLS)] {
-        assert!(rt; book(alloc, journal, cells).err() == None);
+        checks.that(plain_book(alloc, journal, cells).err() == None);
     }
     for (journal, cells) in [(0, 1), (MOST_COMMANDS + 1, 1), (1, 0), (1, MOST_CELLS + 1)] {
-        assert!(rt; book(alloc, journal, cells).err() == Some(MakeFault::BadSettings));
+        checks.that(plain_book(alloc, journal, cells).err() == Some(MakeFault::BadSettings));
     }
+    Ok(())
 }
 
 /// An undo shows again what a flush hid, and a redo hides it.
-fn put_back<B: Book, R: Abort>(rt: &R, alloc: Global, mut book: B) -> Result<(), Fail> {
+fn put_back<B: Book>(checks: &mut Checks, alloc: Global, mut book: B) -> anyhow::Result<()> {
     let asked = question(alloc)?;
-    assert!(rt; admits(&mut book, alloc, 0, Rank::AuthoritativeAnswer, 60)? == Outcome::Taken);
-    assert!(rt; flushes(&mut book, alloc, 1)? == Outcome::Done(1));
-    assert!(rt; left(&book, &asked, 1) == None);
-    assert!(rt; undoes(&mut book, 1) == Outcome::Undone(1));
-    assert!(rt; left(&book, &asked, 1) == Some(59));
-    assert!(rt; redoes(&mut book, 1) == Outcome::Redone(1));
-    assert!(rt; left(&book, &asked, 1) == None);
+    checks.that(admits(&mut book, alloc, 0, Rank::AuthoritativeAnswer, 60)? == Outcome::Taken);
+    checks.that(flushes(&mut book, alloc, 1)? == Outcome::Done(1));
+    checks.that(left(&book, &asked, 1) == None);
+    checks.that(undoes(&mut book, 1) == Outcome::Undone(1));
+    checks.that(left(&book, &asked, 1) == Some(59));
+    checks.that(redoes(&mut book, 1) == Outcome::Redone(1));
+    checks.that(left(&book, &asked, 1) == None);
     Ok(())
 }
 
-#[test]
-fn redo_puts_back(rt: HostRuntime) -> Result<(), Fail> {
-    put_back(&rt, rt.alloc(), book(rt.alloc(), 64, 100)?)
+fn redo_puts_back(checks: &mut Checks, alloc: Global) -> anyhow::Result<()> {
+    put_back(checks, alloc, plain_book(alloc, 64, 100)?)
 }
 
-fn no_redo<B: Book, R: Abort>(rt: &R, alloc: Global, mut book: B) -> Result<(), Fail> {
-    assert!(rt; redoes(&mut book, 0) == Outcome::NothingToRedo);
-    assert!(rt; flushes(&mut book, alloc, 0)? == Outcome::Done(1));
-    assert!(rt; undoes(&mut book, 0) == Outcome::Undone(1));
-    assert!(rt; flushes(&mut book, alloc, 0)? == Outcome::Done(2));
-    assert!(rt; redoes(&mut book, 0) == Outcome::NothingToRedo);
-    assert!(rt; undoes(&mut book, 0) == Outcome::Undone(2));
+fn no_redo<B: Book>(checks: &mut Checks, alloc: Global, mut book: B) -> anyhow::Result<()> {
+    checks.that(redoes(&mut book, 0) == Outcome::NothingToRedo);
+    checks.that(flushes(&mut book, alloc, 0)? == Outcome::Done(1));
+    checks.that(undoes(&mut book, 0) == Outcome::Undone(1));
+    checks.that(flushes(&mut book, alloc, 0)? == Outcome::Done(2));
+    checks.that(redoes(&mut book, 0) == Outcome::NothingToRedo);
+    checks.that(undoes(&mut book, 0) == Outcome::Undone(2));
     Ok(())
 }
 
-#[test]
-fn nothing_to_redo(rt: HostRuntime) -> Result<(), Fail> {
-    no_redo(&rt, rt.alloc(), book(rt.alloc(), 64, 100)?)
+fn nothing_to_redo(checks: &mut Checks, alloc: Global) -> anyhow::Result<()> {
+    no_redo(checks, alloc, plain_book(alloc, 64, 100)?)
 }
 
 /// Whether a lookup sees nothing.
-fn is_unknown<B: Book>(book: &B, ask: &Ask, moment: u64) -> Result<bool, Fail> {
+fn is_unknown<B: Book>(book: &B, ask: &Ask, moment: u64) -> anyhow::Result<bool> {
     let seen = book.seen(ask, moment)?;
     let is_unknown = matches!(&seen, Seen::Unknown);
     drop(seen);
@@ -152,63 +116,89 @@ fn is_unknown<B: Book>(book: &B, ask: &Ask, moment: u64) -> Result<bool, Fail> {
 }
 
 /// What was admitted at the moment 5 is alive to the moment 14, and earlier moments count as 5.
-fn looks<B: Book, R: Abort>(rt: &R, asked: &Question, ask: &Ask, book: &B) -> Result<(), Fail> {
-    assert!(rt; left(book, asked, u64::MAX) == None);
-    assert!(rt; left(book, asked, 0) == Some(9));
-    assert!(rt; is_unknown(book, ask, u64::MAX)?);
-    assert!(rt; !is_unknown(book, ask, 0)?);
+fn looks<B: Book>(
+    checks: &mut Checks,
+    asked: &Question,
+    ask: &Ask,
+    book: &B,
+) -> anyhow::Result<()> {
+    checks.that(left(book, asked, u64::MAX) == None);
+    checks.that(left(book, asked, 0) == Some(9));
+    checks.that(is_unknown(book, ask, u64::MAX)?);
+    checks.that(!is_unknown(book, ask, 0)?);
     Ok(())
 }
 
-fn admit_and_look<B: Book, R: Abort>(rt: &R, alloc: Global, mut book: B) -> Result<(), Fail> {
+fn admit_and_look<B: Book>(checks: &mut Checks, alloc: Global, mut book: B) -> anyhow::Result<()> {
     let asked = question(alloc)?;
     let ask = Ask::Answer(question(alloc)?);
     let outcome = admits(&mut book, alloc, 5, Rank::AuthoritativeAnswer, 9)?;
-    assert!(rt; outcome == Outcome::Taken);
-    looks(rt, &asked, &ask, &book)
+    checks.that(outcome == Outcome::Taken);
+    looks(checks, &asked, &ask, &book)
 }
 
 /// Looks from outside read every moment, and move no clock.
-#[test]
-fn looks_take_every_moment(rt: HostRuntime) -> Result<(), Fail> {
-    admit_and_look(&rt, rt.alloc(), book(rt.alloc(), 64, 100)?)
+fn looks_take_every_moment(checks: &mut Checks, alloc: Global) -> anyhow::Result<()> {
+    admit_and_look(checks, alloc, plain_book(alloc, 64, 100)?)
 }
 
-fn filled<B: Book, R: Abort>(rt: &R, alloc: Global, mut book: B) -> Result<(), Fail> {
+fn filled<B: Book>(checks: &mut Checks, alloc: Global, mut book: B) -> anyhow::Result<()> {
     let first = admits(&mut book, alloc, 0, Rank::AuthoritativeAnswer, 60)?;
-    assert!(rt; first == Outcome::Taken);
+    checks.that(first == Outcome::Taken);
     let second = admits(&mut book, alloc, 0, Rank::Answer, 60)?;
-    assert!(rt; second == Outcome::Outranked);
+    checks.that(second == Outcome::Outranked);
     let third = admits(&mut book, alloc, 0, Rank::AuthoritativeAnswer, 60)?;
-    assert!(rt; third == Outcome::Fault(StepFault::Full { stored: 2 }));
-    assert!(rt; book.stored() == 2);
+    checks.that(third == Outcome::Fault(StepFault::Full { stored: 2 }));
+    checks.that(book.stored() == 2);
     Ok(())
 }
 
 /// What is outranked is stored too, and what meets a fault is not.
-#[test]
-fn stored_counts(rt: HostRuntime) -> Result<(), Fail> {
-    filled(&rt, rt.alloc(), book(rt.alloc(), 64, 2)?)
+fn stored_counts(checks: &mut Checks, alloc: Global) -> anyhow::Result<()> {
+    filled(checks, alloc, plain_book(alloc, 64, 2)?)
 }
 
 /// A flush, an undo at a moment that no book takes, and another undo.
-fn late_events(alloc: Global) -> Result<Vec<Event>, Fail> {
+fn late_events(alloc: Global) -> anyhow::Result<Vec<Event>> {
     let late = Event::Undo { moment: MOMENT_END };
     Ok(vec![in alloc; flush(alloc, 0)?, late, Event::Undo { moment: 0 }]?)
 }
 
-fn stopped<B: Book, R: Abort>(rt: &R, alloc: Global, mut book: B) -> Result<(), Fail> {
+/// The first reply without its data.
+fn first_outcome(replies: &[Reply]) -> Outcome {
+    match replies.first() {
+        Some(reply) => outcome_of(reply),
+        None => Outcome::Other,
+    }
+}
+
+fn stopped<B: Book>(checks: &mut Checks, alloc: Global, mut book: B) -> anyhow::Result<()> {
     let events = late_events(alloc)?;
     let mut replies = Vec::new(alloc);
     let stopped = run(&mut book, events, &mut replies);
-    assert!(rt; stopped == Err(RunFault::Step(StepFault::BadMoment)));
-    assert!(rt; replies.len() == 1);
-    assert!(rt; outcome_of(&replies[0]) == Outcome::Done(1));
+    checks.that(stopped == Err(RunFault::Step(StepFault::BadMoment)));
+    checks.that(replies.len() == 1);
+    checks.that(first_outcome(replies.as_slice()) == Outcome::Done(1));
     Ok(())
 }
 
 /// The replies before a fault are there, and what comes after it is not taken.
-#[test]
-fn run_stops_at_a_fault(rt: HostRuntime) -> Result<(), Fail> {
-    stopped(&rt, rt.alloc(), book(rt.alloc(), 64, 100)?)
+fn run_stops_at_a_fault(checks: &mut Checks, alloc: Global) -> anyhow::Result<()> {
+    stopped(checks, alloc, plain_book(alloc, 64, 100)?)
+}
+
+/// Runs the tests of this file.
+pub fn tests<R: Print + Eprint>(rt: &R, checks: &mut Checks, alloc: Global) -> io::Result<()> {
+    let ended = settings_have_ranges(checks, alloc);
+    checks.end(rt, "books::settings_have_ranges", ended)?;
+    let ended = redo_puts_back(checks, alloc);
+    checks.end(rt, "books::redo_puts_back", ended)?;
+    let ended = nothing_to_redo(checks, alloc);
+    checks.end(rt, "books::nothing_to_redo", ended)?;
+    let ended = looks_take_every_moment(checks, alloc);
+    checks.end(rt, "books::looks_take_every_moment", ended)?;
+    let ended = stored_counts(checks, alloc);
+    checks.end(rt, "books::stored_counts", ended)?;
+    let ended = run_stops_at_a_fault(checks, alloc);
+    checks.end(rt, "books::run_stops_at_a_fault", ended)
 }

@@ -1,33 +1,32 @@
 //! Finds and cells at their edges.
 
+use crate::checks::Checks;
+use crate::finds::{ADDRESS, address, find_of};
+use anyhow::anyhow;
 use dns_name::Name;
-use dns_text::{Items, read_record};
+use dns_text::Items;
 use ranked::{Cell, Fate, Find, LONGEST_TTL, Rank, SharedFind};
 use std::alloc::Global;
+use std::io;
 use std::sync::Arc;
-use std::test::*;
 
-/// A set of the one address 192.0.2.1 at a name. None if the TTL is 0.
-fn one(alloc: Global, owner: &[u8], rank: Rank, ttl: u32) -> Result<Option<Find>, Fail> {
-    let record = read_record(alloc, b"a.test A 192.0.2.1")?;
-    let data = Items::new(vec![in alloc; record.body]?);
-    let owner = Name::from_text(alloc, owner)?;
-    Ok(Find::new(owner, record.kind, rank, ttl, data))
-}
-
-/// The same with shared owners. A share is dropped in one step.
-pub fn address(alloc: Global, owner: &[u8], rank: Rank, ttl: u32) -> Result<SharedFind, Fail> {
-    let find = one(alloc, owner, rank, ttl)?.ok_or("a find")?;
-    Ok(SharedFind::new(alloc, find)?)
+/// A set of the address 192.0.2.1. None if the TTL is 0.
+fn one(alloc: Global, ttl: u32) -> anyhow::Result<Option<Find>> {
+    find_of(
+        alloc,
+        Name::from_text(alloc, b"a.test")?,
+        ADDRESS,
+        Rank::Answer,
+        ttl,
+    )
 }
 
 /// The TTL of such a set, if there is one.
-fn held_ttl(alloc: Global, ttl: u32) -> Result<Option<u32>, Fail> {
-    Ok(one(alloc, b"a.test", Rank::Answer, ttl)?.map(|find| find.ttl))
+fn held_ttl(alloc: Global, ttl: u32) -> anyhow::Result<Option<u32>> {
+    Ok(one(alloc, ttl)?.map(|find| find.ttl))
 }
 
-#[test]
-fn times_to_live(rt: HostRuntime) -> Result<(), Fail> {
+fn times_to_live(checks: &mut Checks, alloc: Global) -> anyhow::Result<()> {
     for (ttl, held) in [
         (0, None),
         (1, Some(1)),
@@ -35,57 +34,68 @@ fn times_to_live(rt: HostRuntime) -> Result<(), Fail> {
         (LONGEST_TTL + 1, Some(LONGEST_TTL)),
         (u32::MAX, Some(LONGEST_TTL)),
     ] {
-        assert!(rt; held_ttl(rt.alloc(), ttl)? == held);
+        checks.that(held_ttl(alloc, ttl)? == held);
     }
     Ok(())
 }
 
-#[test]
-fn no_data(rt: HostRuntime) {
-    let data = Items::new(Vec::new(rt.alloc()));
-    let find = Find::new(Name::root(rt.alloc()), 1, Rank::Answer, 60, data);
-    assert!(rt; find.map(|find| find.ttl) == None);
-}
-
-/// A cell holds to the last moment there is, and reads an earlier one as its own.
-#[test]
-fn last_moment(rt: HostRuntime) -> Result<(), Fail> {
-    let high = address(rt.alloc(), b"a.test", Rank::Answer, 60)?;
-    let low = address(rt.alloc(), b"a.test", Rank::Additional, 60)?;
-    let mut cell = Cell::empty();
-    assert!(rt; cell.admit(high.find(), 7, u64::MAX) == Fate::Taken);
-    assert!(rt; cell.at(u64::MAX).map(|s| s.left) == Some(60));
-    assert!(rt; cell.at(0).map(|s| s.body) == Some(7));
-    assert!(rt; cell.admit(low.find(), 8, u64::MAX) == Fate::Outranked);
+fn no_data(checks: &mut Checks, alloc: Global) -> anyhow::Result<()> {
+    let data = Items::new(Vec::new(alloc));
+    let find = Find::new(Name::root(alloc), 1, Rank::Answer, 60, data);
+    checks.that(find.map(|find| find.ttl) == None);
     Ok(())
 }
 
-#[test]
-fn end_of_life(rt: HostRuntime) -> Result<(), Fail> {
-    let find = address(rt.alloc(), b"a.test", Rank::Answer, 60)?;
+/// A cell holds to the last moment there is, and reads an earlier one as its own.
+fn last_moment(checks: &mut Checks, alloc: Global) -> anyhow::Result<()> {
+    let high = address(alloc, b"a.test", Rank::Answer, 60)?;
+    let low = address(alloc, b"a.test", Rank::Additional, 60)?;
     let mut cell = Cell::empty();
-    assert!(rt; cell.admit(find.find(), 7, 0) == Fate::Taken);
+    checks.that(cell.admit(high.find(), 7, u64::MAX) == Fate::Taken);
+    checks.that(cell.at(u64::MAX).map(|s| s.left) == Some(60));
+    checks.that(cell.at(0).map(|s| s.body) == Some(7));
+    checks.that(cell.admit(low.find(), 8, u64::MAX) == Fate::Outranked);
+    Ok(())
+}
+
+fn end_of_life(checks: &mut Checks, alloc: Global) -> anyhow::Result<()> {
+    let find = address(alloc, b"a.test", Rank::Answer, 60)?;
+    let mut cell = Cell::empty();
+    checks.that(cell.admit(find.find(), 7, 0) == Fate::Taken);
     for (moment, left) in [(0, Some(60)), (59, Some(1)), (60, None), (u64::MAX, None)] {
-        assert!(rt; cell.at(moment).map(|s| s.left) == left, "at {moment}");
+        checks.that(cell.at(moment).map(|s| s.left) == left);
     }
     Ok(())
 }
 
 /// Such a find, shared by what std shares with.
-fn by_arc(alloc: Global) -> Result<SharedFind, Fail> {
-    let find = one(alloc, b"a.test", Rank::Answer, 60)?.ok_or("a find")?;
+fn by_arc(alloc: Global) -> anyhow::Result<SharedFind> {
+    let find = one(alloc, 60)?.ok_or(anyhow!("no find"))?;
     Ok(SharedFind::from(Arc::new(alloc, find)?))
 }
 
-#[test]
-fn owners(rt: HostRuntime) -> Result<(), Fail> {
-    let shared = address(rt.alloc(), b"a.test", Rank::Answer, 60)?;
+fn owners(checks: &mut Checks, alloc: Global) -> anyhow::Result<()> {
+    let shared = address(alloc, b"a.test", Rank::Answer, 60)?;
     let other = shared.share()?;
     let again = SharedFind::from(shared.into_arc());
-    let made = by_arc(rt.alloc())?;
-    assert!(rt; other == again);
-    assert!(rt; again.find().ttl == 60);
-    assert!(rt; !again.find().touches(&Name::root(rt.alloc()), 1));
-    assert!(rt; made == other);
+    let made = by_arc(alloc)?;
+    checks.that(other == again);
+    checks.that(again.find().ttl == 60);
+    checks.that(!again.find().touches(&Name::root(alloc), 1));
+    checks.that(made == other);
     Ok(())
+}
+
+/// Runs the tests of this file.
+pub fn tests<R: Print + Eprint>(rt: &R, checks: &mut Checks, alloc: Global) -> io::Result<()> {
+    let ended = times_to_live(checks, alloc);
+    checks.end(rt, "cells::times_to_live", ended)?;
+    let ended = no_data(checks, alloc);
+    checks.end(rt, "cells::no_data", ended)?;
+    let ended = last_moment(checks, alloc);
+    checks.end(rt, "cells::last_moment", ended)?;
+    let ended = end_of_life(checks, alloc);
+    checks.end(rt, "cells::end_of_life", ended)?;
+    let ended = owners(checks, alloc);
+    checks.end(rt, "cells::owners", ended)
 }

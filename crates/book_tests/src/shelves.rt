@@ -3,18 +3,18 @@
 ghost use Rattle.std.specs.Prelude.{◌≡◌};
 ghost use Rattle.shelf.specs.Told.{IsShelf};
 
-use crate::cells::address;
+use crate::checks::Checks;
+use crate::finds::{address, letters};
 use cell_store::NameSeed;
 use dns_name::Name;
 use dns_text::{Question, types};
 use ranked::{Flush, Rank, Reach, SharedFind};
 use shelf::{Shelf, StoreFault};
 use std::alloc::Global;
-use std::process::Abort;
-use std::test::*;
+use std::io;
 
 /// The address of a name, which lives for 60 seconds.
-fn find(alloc: Global, owner: &[u8]) -> Result<SharedFind, Fail> {
+fn find(alloc: Global, owner: &[u8]) -> anyhow::Result<SharedFind> {
     address(alloc, owner, Rank::Answer, 60)
 }
 
@@ -26,7 +26,7 @@ fn left(shelf: &Shelf, owner: &Name, moment: u64) -> Option<u32> {
     }
 }
 
-fn undone_and_redone<R: Abort>(rt: &R, alloc: Global, shelf: &mut Shelf) -> Result<(), Fail>
+fn undone_and_redone(checks: &mut Checks, alloc: Global, shelf: &mut Shelf) -> anyhow::Result<()>
     requires whole { IsShelf shelf.old }
     requires newest { shelf.old.top ≡ 0 }
 {
@@ -37,21 +37,20 @@ fn undone_and_redone<R: Abort>(rt: &R, alloc: Global, shelf: &mut Shelf) -> Resu
         reach: Reach::Zone,
     };
     shelf.open_flush(flush, 1)?;
-    assert!(rt; left(shelf, &owner, 1) == None);
+    checks.that(left(shelf, &owner, 1) == None);
     shelf.hide(1);
-    assert!(rt; left(shelf, &owner, 1) == Some(59));
+    checks.that(left(shelf, &owner, 1) == Some(59));
     shelf.unhide(1);
-    assert!(rt; left(shelf, &owner, 1) == None);
+    checks.that(left(shelf, &owner, 1) == None);
     Ok(())
 }
 
 /// An undo of a flush brings back what it emptied, and a redo empties it again.
-#[test]
-fn a_flush_is_undone_and_redone(rt: HostRuntime) -> Result<(), Fail> {
-    undone_and_redone(&rt, rt.alloc(), &mut Shelf::new(rt.alloc(), 1))
+fn a_flush_is_undone_and_redone(checks: &mut Checks, alloc: Global) -> anyhow::Result<()> {
+    undone_and_redone(checks, alloc, &mut Shelf::new(alloc, 1))
 }
 
-fn cached_in_both<R: Abort>(rt: &R, alloc: Global, shelf: &mut Shelf) -> Result<(), Fail>
+fn cached_in_both(checks: &mut Checks, alloc: Global, shelf: &mut Shelf) -> anyhow::Result<()>
     requires whole { IsShelf shelf.old }
     requires newest { shelf.old.top ≡ 0 }
 {
@@ -63,53 +62,51 @@ fn cached_in_both<R: Abort>(rt: &R, alloc: Global, shelf: &mut Shelf) -> Result<
     shelf.open_flush(flush, 1)?;
     shelf.admit(find(alloc, b"a.test")?, 0)?;
     shelf.hide(1);
-    assert!(rt; left(shelf, &owner, 0) == Some(60));
+    checks.that(left(shelf, &owner, 0) == Some(60));
     shelf.settle(1);
-    assert!(rt; left(shelf, &owner, 0) == Some(60));
+    checks.that(left(shelf, &owner, 0) == Some(60));
     shelf.forget(&owner);
-    assert!(rt; left(shelf, &owner, 0) == None);
+    checks.that(left(shelf, &owner, 0) == None);
     Ok(())
 }
 
 /// What came between a flush and its undo is there with the flush and without it.
-#[test]
-fn a_find_is_cached_in_both_versions(rt: HostRuntime) -> Result<(), Fail> {
+fn a_find_is_cached_in_both_versions(checks: &mut Checks, alloc: Global) -> anyhow::Result<()> {
     cached_in_both(
-        &rt,
-        rt.alloc(),
-        &mut Shelf::seeded(rt.alloc(), 1, NameSeed::new(7)),
+        checks,
+        alloc,
+        &mut Shelf::seeded(alloc, 1, NameSeed::new(7)),
     )
 }
 
-fn full_for_new<R: Abort>(rt: &R, alloc: Global, shelf: &mut Shelf) -> Result<(), Fail>
+fn full_for_new(checks: &mut Checks, alloc: Global, shelf: &mut Shelf) -> anyhow::Result<()>
     requires { IsShelf shelf.old }
 {
     shelf.admit(find(alloc, b"a.test")?, 0)?;
     let other = shelf.admit(find(alloc, b"b.test")?, 0);
-    assert!(rt; matches!(other, Err(StoreFault::Full { stored: 1 })));
+    checks.that(matches!(other, Err(StoreFault::Full { stored: 1 })));
     shelf.admit(find(alloc, b"a.test")?, 1)?;
     shelf.sweep(60);
-    assert!(rt; shelf.stored() == 1);
+    checks.that(shelf.stored() == 1);
     shelf.sweep(61);
-    assert!(rt; shelf.stored() == 0);
+    checks.that(shelf.stored() == 0);
     Ok(())
 }
 
 /// A new name is one too many, and the one that is there is not.
-#[test]
-fn full_for_a_new_name_alone(rt: HostRuntime) -> Result<(), Fail> {
-    full_for_new(&rt, rt.alloc(), &mut Shelf::new(rt.alloc(), 1))
+fn full_for_a_new_name_alone(checks: &mut Checks, alloc: Global) -> anyhow::Result<()> {
+    full_for_new(checks, alloc, &mut Shelf::new(alloc, 1))
 }
 
 /// A flush of the addresses of the name `a`.
-fn flush_of_a(alloc: Global) -> Result<Flush, Fail> {
+fn flush_of_a(alloc: Global) -> anyhow::Result<Flush> {
     Ok(Flush {
         name: Name::from_text(alloc, b"a")?,
         reach: Reach::OneType(types::A),
     })
 }
 
-fn kept_after_flushes<R: Abort>(rt: &R, alloc: Global, shelf: &mut Shelf) -> Result<(), Fail>
+fn kept_after_flushes(checks: &mut Checks, alloc: Global, shelf: &mut Shelf) -> anyhow::Result<()>
     requires whole { IsShelf shelf.old }
     requires newest { shelf.old.top ≡ 0 }
 {
@@ -117,41 +114,39 @@ fn kept_after_flushes<R: Abort>(rt: &R, alloc: Global, shelf: &mut Shelf) -> Res
         owner: Name::from_text(alloc, b"a")?,
         kind: types::A,
     };
-    assert!(rt; shelf.kept(&question) == 0);
+    checks.that(shelf.kept(&question) == 0);
     shelf.admit(address(alloc, b"a", Rank::AuthoritativeAnswer, 60)?, 0)?;
-    assert!(rt; shelf.kept(&question) == 1);
+    checks.that(shelf.kept(&question) == 1);
     shelf.open_flush(flush_of_a(alloc)?, 1)?;
-    assert!(rt; shelf.kept(&question) == 2);
+    checks.that(shelf.kept(&question) == 2);
     shelf.open_flush(flush_of_a(alloc)?, 2)?;
-    assert!(rt; shelf.kept(&question) == 2);
+    checks.that(shelf.kept(&question) == 2);
     shelf.open_flush(flush_of_a(alloc)?, 3)?;
-    assert!(rt; shelf.kept(&question) == 2);
+    checks.that(shelf.kept(&question) == 2);
     shelf.admit(address(alloc, b"a", Rank::AuthoritativeAnswer, 60)?, 0)?;
-    assert!(rt; shelf.kept(&question) == 1);
+    checks.that(shelf.kept(&question) == 1);
     Ok(())
 }
 
 /// Versions that are empty alike are one cell, and so are those that hold one find.
-#[test]
-fn equal_neighbours_are_one_cell(rt: HostRuntime) -> Result<(), Fail> {
-    kept_after_flushes(&rt, rt.alloc(), &mut Shelf::new(rt.alloc(), 1))
+fn equal_neighbours_are_one_cell(checks: &mut Checks, alloc: Global) -> anyhow::Result<()> {
+    kept_after_flushes(checks, alloc, &mut Shelf::new(alloc, 1))
 }
 
 /// Caches the addresses of so many names, each of two letters.
-fn fill(alloc: Global, shelf: &mut Shelf, count: u16) -> Result<(), Fail>
+fn fill(alloc: Global, shelf: &mut Shelf, count: u16) -> anyhow::Result<()>
     requires whole { IsShelf shelf.old }
     requires newest { shelf.old.top ≡ 0 }
     ensures whole { IsShelf shelf.new }
     ensures newest { shelf.new.top ≡ 0 }
 {
     for number in 0..count {
-        let letters = [b'a' + (number / 26 % 26) as u8, b'a' + (number % 26) as u8];
-        shelf.admit(find(alloc, &letters)?, 0)?;
+        shelf.admit(find(alloc, &letters(number))?, 0)?;
     }
     Ok(())
 }
 
-fn reached_later<R: Abort>(rt: &R, alloc: Global, shelf: &mut Shelf) -> Result<(), Fail>
+fn reached_later(checks: &mut Checks, alloc: Global, shelf: &mut Shelf) -> anyhow::Result<()>
     requires whole { IsShelf shelf.old }
     requires newest { shelf.old.top ≡ 0 }
 {
@@ -162,38 +157,59 @@ fn reached_later<R: Abort>(rt: &R, alloc: Global, shelf: &mut Shelf) -> Result<(
         reach: Reach::Zone,
     };
     shelf.open_flush(flush, 1)?;
-    assert!(rt; shelf.stored() == 300);
+    checks.that(shelf.stored() == 300);
     shelf.settle(1);
-    assert!(rt; left(shelf, &first, 1) == None);
-    assert!(rt; shelf.stored() == 44);
+    checks.that(left(shelf, &first, 1) == None);
+    checks.that(shelf.stored() == 44);
     shelf.admit(find(alloc, b"b.test")?, 1)?;
-    assert!(rt; shelf.stored() == 1);
+    checks.that(shelf.stored() == 1);
     Ok(())
 }
 
 /// A permanent flush of everything is seen at once. It reaches 256 names then, and as many at each later admission.
-#[test]
-fn a_permanent_flush_reaches_names_later(rt: HostRuntime) -> Result<(), Fail> {
-    reached_later(&rt, rt.alloc(), &mut Shelf::new(rt.alloc(), 301))
+fn a_permanent_flush_reaches_names_later(checks: &mut Checks, alloc: Global) -> anyhow::Result<()> {
+    reached_later(checks, alloc, &mut Shelf::new(alloc, 301))
 }
 
-fn swept_in_turns<R: Abort>(rt: &R, alloc: Global, shelf: &mut Shelf) -> Result<(), Fail>
+fn swept_in_turns(checks: &mut Checks, alloc: Global, shelf: &mut Shelf) -> anyhow::Result<()>
     requires whole { IsShelf shelf.old }
     requires newest { shelf.old.top ≡ 0 }
 {
     fill(alloc, shelf, 300)?;
-    assert!(rt; shelf.sweep_some(59));
-    assert!(rt; !shelf.sweep_some(59));
-    assert!(rt; shelf.stored() == 300);
-    assert!(rt; shelf.sweep_some(60));
-    assert!(rt; shelf.stored() == 44);
-    assert!(rt; !shelf.sweep_some(60));
-    assert!(rt; shelf.stored() == 0);
+    checks.that(shelf.sweep_some(59));
+    checks.that(!shelf.sweep_some(59));
+    checks.that(shelf.stored() == 300);
+    checks.that(shelf.sweep_some(60));
+    checks.that(shelf.stored() == 44);
+    checks.that(!shelf.sweep_some(60));
+    checks.that(shelf.stored() == 0);
     Ok(())
 }
 
 /// A turn of a sweep visits 256 names at most. The last turn says that no more is left.
-#[test]
-fn a_sweep_in_turns_removes_what_a_sweep_does(rt: HostRuntime) -> Result<(), Fail> {
-    swept_in_turns(&rt, rt.alloc(), &mut Shelf::new(rt.alloc(), 300))
+fn a_sweep_in_turns_removes_what_a_sweep_does(
+    checks: &mut Checks,
+    alloc: Global,
+) -> anyhow::Result<()> {
+    swept_in_turns(checks, alloc, &mut Shelf::new(alloc, 300))
+}
+
+/// Runs the tests of this file.
+pub fn tests<R: Print + Eprint>(rt: &R, checks: &mut Checks, alloc: Global) -> io::Result<()> {
+    let ended = a_flush_is_undone_and_redone(checks, alloc);
+    checks.end(rt, "shelves::a_flush_is_undone_and_redone", ended)?;
+    let ended = a_find_is_cached_in_both_versions(checks, alloc);
+    checks.end(rt, "shelves::a_find_is_cached_in_both_versions", ended)?;
+    let ended = full_for_a_new_name_alone(checks, alloc);
+    checks.end(rt, "shelves::full_for_a_new_name_alone", ended)?;
+    let ended = equal_neighbours_are_one_cell(checks, alloc);
+    checks.end(rt, "shelves::equal_neighbours_are_one_cell", ended)?;
+    let ended = a_permanent_flush_reaches_names_later(checks, alloc);
+    checks.end(rt, "shelves::a_permanent_flush_reaches_names_later", ended)?;
+    let ended = a_sweep_in_turns_removes_what_a_sweep_does(checks, alloc);
+    checks.end(
+        rt,
+        "shelves::a_sweep_in_turns_removes_what_a_sweep_does",
+        ended,
+    )
 }

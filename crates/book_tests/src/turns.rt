@@ -3,28 +3,25 @@
 ghost use Rattle.std.specs.Prelude.{◌≡◌};
 ghost use Rattle.shelf.specs.Told.{IsShelf};
 
-use crate::cells::address;
+use crate::books::left;
+use crate::checks::Checks;
+use crate::finds::{address, letters};
+use crate::new_books::shelf_book;
 use crate::outcome::{Outcome, give};
+use anyhow::anyhow;
 use dns_name::Name;
-use dns_text::{Items, Question, types};
-use history::{Ask, Book, Command, Event, Look, Seen, Settings, StepFault};
+use dns_text::{Question, types};
+use history::{Ask, Book, Command, Event, Seen, StepFault};
 use ranked::{Flush, Rank, Reach};
 use shelf::{Shelf, StoreFault};
 use std::alloc::Global;
-use std::process::Abort;
-use std::test::*;
-use undo_book::ShelfBook;
+use std::io;
 
 /// The place of the name that expires first. A turn comes to it after 256 names that wait for a visit.
 const SHORT: u16 = 254;
 
-/// The text of a name: two letters by its number.
-fn letters(number: u16) -> [u8; 2] {
-    [b'a' + (number / 26 % 26) as u8, b'a' + (number % 26) as u8]
-}
-
 /// Caches the addresses of 301 names, of which one lives for 60 seconds.
-fn fill(alloc: Global, shelf: &mut Shelf) -> Result<(), Fail>
+fn fill(alloc: Global, shelf: &mut Shelf) -> anyhow::Result<()>
     requires { IsShelf shelf.old }
     ensures whole { IsShelf shelf.new }
     ensures top { shelf.new.top ≡ shelf.old.top }
@@ -37,7 +34,7 @@ fn fill(alloc: Global, shelf: &mut Shelf) -> Result<(), Fail>
 }
 
 /// Caches the others again with a lower rank.
-fn mix(alloc: Global, shelf: &mut Shelf) -> Result<(), Fail>
+fn mix(alloc: Global, shelf: &mut Shelf) -> anyhow::Result<()>
     requires { IsShelf shelf.old }
     ensures whole { IsShelf shelf.new }
     ensures top { shelf.new.top ≡ shelf.old.top }
@@ -51,7 +48,7 @@ fn mix(alloc: Global, shelf: &mut Shelf) -> Result<(), Fail>
 }
 
 /// Caches 301 names, of which 300 have another version since a flush of everything.
-fn fill_and_mix(alloc: Global, shelf: &mut Shelf) -> Result<(), Fail>
+fn fill_and_mix(alloc: Global, shelf: &mut Shelf) -> anyhow::Result<()>
     requires whole { IsShelf shelf.old }
     requires newest { shelf.old.top ≡ 0 }
     ensures whole { IsShelf shelf.new }
@@ -68,20 +65,24 @@ fn fill_and_mix(alloc: Global, shelf: &mut Shelf) -> Result<(), Fail>
 }
 
 /// A turn that ends the rest of the names in doubt, one that visits 256 of them, of which nothing can be freed, and an admission after it.
-fn turn<R: Abort>(rt: &R, alloc: Global, shelf: &mut Shelf) -> Result<(), Fail>
+fn turn(checks: &mut Checks, alloc: Global, shelf: &mut Shelf) -> anyhow::Result<()>
     requires { IsShelf shelf.old }
 {
-    assert!(rt; shelf.sweep_some(60));
-    assert!(rt; shelf.sweep_some(60));
-    assert!(rt; shelf.stored() == 301);
+    checks.that(shelf.sweep_some(60));
+    checks.that(shelf.sweep_some(60));
+    checks.that(shelf.stored() == 301);
     let other = shelf.admit(address(alloc, b"new.test", Rank::Answer, 60)?, 60);
-    assert!(rt; matches!(other, Err(StoreFault::Full { stored: 301 })));
-    assert!(rt; !shelf.sweep_some(60));
-    assert!(rt; shelf.stored() == 300);
+    checks.that(matches!(other, Err(StoreFault::Full { stored: 301 })));
+    checks.that(!shelf.sweep_some(60));
+    checks.that(shelf.stored() == 300);
     Ok(())
 }
 
-fn flush_of_another_name<R: Abort>(rt: &R, alloc: Global, shelf: &mut Shelf) -> Result<(), Fail>
+fn flush_of_another_name(
+    checks: &mut Checks,
+    alloc: Global,
+    shelf: &mut Shelf,
+) -> anyhow::Result<()>
     requires whole { IsShelf shelf.old }
     requires newest { shelf.old.top ≡ 0 }
 {
@@ -90,33 +91,34 @@ fn flush_of_another_name<R: Abort>(rt: &R, alloc: Global, shelf: &mut Shelf) -> 
         name: Name::from_text(alloc, b"zz.test")?,
         reach: Reach::OneType(types::A),
     };
-    let number = shelf.top.checked_add(1).ok_or("a number")?;
+    let number = shelf.top.checked_add(1).ok_or(anyhow!("no number"))?;
     shelf.open_flush(flush, number)?;
     shelf.settle(number);
-    turn(rt, alloc, shelf)
+    turn(checks, alloc, shelf)
 }
 
 /// A flush that is dropped has each name with several versions visited, also if it covers none of them.
-#[test]
-fn a_flush_that_is_dropped_fills_a_turn(rt: HostRuntime) -> Result<(), Fail> {
-    flush_of_another_name(&rt, rt.alloc(), &mut Shelf::new(rt.alloc(), 301))
+fn a_flush_that_is_dropped_fills_a_turn(checks: &mut Checks, alloc: Global) -> anyhow::Result<()> {
+    flush_of_another_name(checks, alloc, &mut Shelf::new(alloc, 301))
 }
 
-fn no_flush<R: Abort>(rt: &R, alloc: Global, shelf: &mut Shelf) -> Result<(), Fail>
+fn no_flush(checks: &mut Checks, alloc: Global, shelf: &mut Shelf) -> anyhow::Result<()>
     requires whole { IsShelf shelf.old }
     requires newest { shelf.old.top ≡ 0 }
 {
     fill_and_mix(alloc, shelf)?;
     shelf.settle(2);
-    assert!(rt; !shelf.sweep_some(60));
-    assert!(rt; shelf.stored() == 300);
+    checks.that(!shelf.sweep_some(60));
+    checks.that(shelf.stored() == 300);
     Ok(())
 }
 
 /// A number of which no flush is kept leaves no name in doubt.
-#[test]
-fn a_number_that_is_not_kept_leaves_no_name_in_doubt(rt: HostRuntime) -> Result<(), Fail> {
-    no_flush(&rt, rt.alloc(), &mut Shelf::new(rt.alloc(), 301))
+fn a_number_that_is_not_kept_leaves_no_name_in_doubt(
+    checks: &mut Checks,
+    alloc: Global,
+) -> anyhow::Result<()> {
+    no_flush(checks, alloc, &mut Shelf::new(alloc, 301))
 }
 
 fn admits<B: Book>(
@@ -126,7 +128,7 @@ fn admits<B: Book>(
     owner: &[u8],
     rank: Rank,
     ttl: u32,
-) -> Result<Outcome, Fail> {
+) -> anyhow::Result<Outcome> {
     let find = address(alloc, owner, rank, ttl)?;
     Ok(give(book, Event::Admit { moment, find }))
 }
@@ -136,14 +138,14 @@ fn flushes<B: Book>(
     alloc: Global,
     moment: u64,
     zone: &[u8],
-) -> Result<Outcome, Fail> {
+) -> anyhow::Result<Outcome> {
     let name = Name::from_text(alloc, zone)?;
     let command = Command::FlushZone { name };
     Ok(give(book, Event::Do { moment, command }))
 }
 
 /// Caches 281 names, of which 280 have another version since a flush of everything. The other one lives for 10 seconds.
-fn fill_book<B: Book>(book: &mut B, alloc: Global) -> Result<(), Fail> {
+fn fill_book<B: Book>(book: &mut B, alloc: Global) -> anyhow::Result<()> {
     for number in 0..SHORT {
         admits(
             book,
@@ -173,23 +175,16 @@ fn fill_book<B: Book>(book: &mut B, alloc: Global) -> Result<(), Fail> {
     Ok(())
 }
 
-/// The seconds that the address of `aa` has left.
-fn left<B: Book>(book: &B, alloc: Global, moment: u64) -> Result<Option<u32>, Fail> {
-    let question = Question {
+/// The address of `aa`.
+fn address_of_first(alloc: Global) -> anyhow::Result<Question> {
+    Ok(Question {
         owner: Name::from_text(alloc, b"aa")?,
         kind: types::A,
-    };
-    let look = book.look(&question, moment);
-    let left = match &look {
-        Look::Held(shown) => Some(shown.left),
-        _ => None,
-    };
-    drop(look);
-    Ok(left)
+    })
 }
 
 /// Whether `aa` is the name to forget first.
-fn is_first<B: Book>(book: &B, alloc: Global, moment: u64) -> Result<bool, Fail> {
+fn is_first<B: Book>(book: &B, alloc: Global, moment: u64) -> anyhow::Result<bool> {
     let first = Name::from_text(alloc, b"aa")?;
     let seen = book.seen(&Ask::Oldest, moment)?;
     let is_first = match &seen {
@@ -201,46 +196,54 @@ fn is_first<B: Book>(book: &B, alloc: Global, moment: u64) -> Result<bool, Fail>
 }
 
 /// Drops an undone flush by a later one, and sweeps for one turn.
-fn drop_flush<B: Book, R: Abort>(rt: &R, alloc: Global, book: &mut B) -> Result<(), Fail> {
-    assert!(rt; flushes(book, alloc, 0, b"other.test")? == Outcome::Done(2));
-    assert!(rt; give(book, Event::Undo { moment: 20 }) == Outcome::Undone(2));
-    assert!(rt; flushes(book, alloc, 20, b"another.test")? == Outcome::Done(3));
-    assert!(rt; book.sweep_some());
-    assert!(rt; book.stored() == 281);
+fn drop_flush<B: Book>(checks: &mut Checks, alloc: Global, book: &mut B) -> anyhow::Result<()> {
+    checks.that(flushes(book, alloc, 0, b"other.test")? == Outcome::Done(2));
+    checks.that(give(book, Event::Undo { moment: 20 }) == Outcome::Undone(2));
+    checks.that(flushes(book, alloc, 20, b"another.test")? == Outcome::Done(3));
+    checks.that(book.sweep_some());
+    checks.that(book.stored() == 281);
     Ok(())
 }
 
 /// Forgets the name to forget first, to make room.
-fn make_room<B: Book, R: Abort>(rt: &R, alloc: Global, book: &mut B) -> Result<(), Fail> {
+fn make_room<B: Book>(checks: &mut Checks, alloc: Global, book: &mut B) -> anyhow::Result<()> {
     let full = Outcome::Fault(StepFault::Full { stored: 281 });
-    assert!(rt; admits(book, alloc, 20, b"y.test", Rank::Answer, 60)? == full);
-    assert!(rt; is_first(book, alloc, 20)?);
-    assert!(rt; left(book, alloc, 20)? == Some(880));
+    let asked = address_of_first(alloc)?;
+    checks.that(admits(book, alloc, 20, b"y.test", Rank::Answer, 60)? == full);
+    checks.that(is_first(book, alloc, 20)?);
+    checks.that(left(book, &asked, 20) == Some(880));
     let owner = Name::from_text(alloc, b"aa")?;
     give(book, Event::Forget { moment: 20, owner });
-    assert!(rt; admits(book, alloc, 20, b"y.test", Rank::Answer, 60)? == Outcome::Taken);
-    assert!(rt; left(book, alloc, 20)? == None);
+    checks.that(admits(book, alloc, 20, b"y.test", Rank::Answer, 60)? == Outcome::Taken);
+    checks.that(left(book, &asked, 20) == None);
     Ok(())
 }
 
-fn full_between_turns<B: Book, R: Abort>(rt: &R, alloc: Global, mut book: B) -> Result<(), Fail> {
+fn full_between_turns<B: Book>(
+    checks: &mut Checks,
+    alloc: Global,
+    mut book: B,
+) -> anyhow::Result<()> {
     fill_book(&mut book, alloc)?;
-    drop_flush(rt, alloc, &mut book)?;
-    make_room(rt, alloc, &mut book)
-}
-
-fn book(alloc: Global) -> Result<ShelfBook, Fail> {
-    let settings = Settings {
-        journal: 64,
-        cells: 281,
-        hints: Items::new(Vec::new(alloc)),
-        server_port: 53,
-    };
-    Ok(ShelfBook::new(alloc, settings)?)
+    drop_flush(checks, alloc, &mut book)?;
+    make_room(checks, alloc, &mut book)
 }
 
 /// Between two turns the book is full, since the turn visited other names than the one that has expired.
-#[test]
-fn a_book_is_full_between_turns(rt: HostRuntime) -> Result<(), Fail> {
-    full_between_turns(&rt, rt.alloc(), book(rt.alloc())?)
+fn a_book_is_full_between_turns(checks: &mut Checks, alloc: Global) -> anyhow::Result<()> {
+    full_between_turns(checks, alloc, shelf_book(alloc, 64, 281)?)
+}
+
+/// Runs the tests of this file.
+pub fn tests<R: Print + Eprint>(rt: &R, checks: &mut Checks, alloc: Global) -> io::Result<()> {
+    let ended = a_flush_that_is_dropped_fills_a_turn(checks, alloc);
+    checks.end(rt, "turns::a_flush_that_is_dropped_fills_a_turn", ended)?;
+    let ended = a_number_that_is_not_kept_leaves_no_name_in_doubt(checks, alloc);
+    checks.end(
+        rt,
+        "turns::a_number_that_is_not_kept_leaves_no_name_in_doubt",
+        ended,
+    )?;
+    let ended = a_book_is_full_between_turns(checks, alloc);
+    checks.end(rt, "turns::a_book_is_full_between_turns", ended)
 }

@@ -13,6 +13,7 @@ mod CountLaws
 mod SweepLaws
 mod OwnerSweepLaws
 mod OwnLaws
+mod OpenLaws
 mod PlaceLaws
 mod StoreLaws
 mod HeldLaws

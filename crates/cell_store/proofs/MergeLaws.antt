@@ -16,7 +16,7 @@ use Rattle.cell_store.specs.declared.version.Place.{Place}
 use Rattle.cell_store.specs.declared.version.Version.{Version}
 use Rattle.cell_store.specs.Version.{nothing, later_place, place_at, IsFromStart}
 use Rattle.cell_store.specs.Slots.{IsWithin}
-use Rattle.cell_store.specs.Column.{has_find}
+use Rattle.cell_store.specs.Column.{has_find, DropsEntries}
 use Rattle.cell_store.specs.Few.{AreRanked}
 use Rattle.cell_store.specs.Merge.{same_held, holds_same, started, AreApart}
 
@@ -157,12 +157,9 @@ same_places p q = beq p.left q.left && same_held p.cell.held q.cell.held
 pub record IsMerged (old new : List (Version ℕ)) (place : ℕ) : Type 0 where
   pub some : 1 ≤ place
   pub places : (v : ℕ) → place_at new v ≡ place_at old v
-  pub within : (slots : ℕ) → AllByRecursion (IsWithin slots) old → AllByRecursion (IsWithin slots) new
+  pub drops : DropsEntries old new
   pub starts : IsFromStart old → IsFromStart new
-  pub fewer : length new ≤ length old
   pub apart : AreApart new place
-  pub finds : list_any has_find new ≡ true → list_any has_find old ≡ true
-  pub ranked : AreRanked old → AreRanked new
 
 read_any : (xs : List (Version ℕ)) (i : ℕ) (x d : Version ℕ) → i < length xs → x ≡ get_or xs i x → get_or xs i d ≡ x
 read_any xs i x d low is = get_or_default xs i d x low ∙ sym is
@@ -199,9 +196,13 @@ module _ (old versions : List (Version ℕ)) (place i : ℕ) (a b : Version ℕ)
       record {
         some = merged.some;
         places = λ v. ap (λ (l : List (Version ℕ)). place_at l v) is ∙ (joined_fold v versions i nothing low' (same_here same) ∙ merged.places v);
-        within = λ slots all. subst (λ (l : List (Version ℕ)). AllByRecursion (IsWithin slots) l) (sym is) (joined_within slots versions i (merged.within slots all));
+        drops = record {
+          within = λ slots all. subst (λ (l : List (Version ℕ)). AllByRecursion (IsWithin slots) l) (sym is) (joined_within slots versions i (merged.drops.within slots all));
+          fewer = omega (arith, merged.drops.fewer, ap length is, joined_length versions i low');
+          finds = λ some. merged.drops.finds (joined_finds versions i (ap (list_any has_find) (sym is) ∙ some));
+          ranked = λ was. subst (λ (l : List (Version ℕ)). AreRanked l) (sym is) (ranks a (same_here same a) (merged.drops.ranked was));
+        };
         starts = λ start. subst (λ (l : List (Version ℕ)). IsFromStart l) (sym is) (joined_starts versions i (merged.starts start));
-        fewer = omega (arith, merged.fewer, ap length is, joined_length versions i low');
         apart = λ k d few.
             let one : k < place = omega arith in
             ap (λ (l : List (Version ℕ)). holds_same (get_or l k d) (get_or l (k + 1) d)) is
@@ -210,23 +211,18 @@ module _ (old versions : List (Version ℕ)) (place i : ℕ) (a b : Version ℕ)
             ∙ (ap (λ n. holds_same (get_or (remove versions n) k d) (get_or (remove versions n) (k + 1) d)) next
             ∙ (ap (λ x. holds_same x (get_or (remove versions place) (k + 1) d)) (get_or-remove_below versions place d k one low)
             ∙ (ap (holds_same (get_or versions k d)) (get_or-remove_below versions place d (k + 1) few low) ∙ merged.apart k d few)))));
-        finds = λ some. merged.finds (joined_finds versions i (ap (list_any has_find) (sym is) ∙ some));
-        ranked = λ was. subst (λ (l : List (Version ℕ)). AreRanked l) (sym is) (ranks a (same_here same a) (merged.ranked was));
       }
 
   pub merged_more : holds_same a b ≡ false → IsMerged old versions (place + 1)
   merged_more other = record {
     some = omega arith;
     places = merged.places;
-    within = merged.within;
+    drops = merged.drops;
     starts = merged.starts;
-    fewer = merged.fewer;
     apart = λ k d few. elim (cases_eq k i) [
       | inl same ↦
           let e : k + 1 ≡ place = omega (arith, same, at) in
           ap (λ n. holds_same (get_or versions k d) (get_or versions n d)) e ∙ (ap (λ n. holds_same (get_or versions n d) (get_or versions place d)) same ∙ (here d ∙ other))
       | inr ne ↦ merged.apart k d (omega (arith, at))
     ];
-    finds = merged.finds;
-    ranked = merged.ranked;
   }

@@ -1,5 +1,5 @@
 -- The places of a name that count: no call adds one but an admission, and that only its own.
-use Rattle.std.proofs.Common.{◌≡◌, ◌≤◌, ℕ, Bool, true, false, cond, Option, Some, None, List, [], ◌∷◌, get_or, slice_set, refl, sym, ap, ◌∙◌, ◌⊎◌, inl, inr}
+use Rattle.std.proofs.Common.{◌≡◌, ◌≤◌, ℕ, Bool, true, false, cond, Option, Some, None, List, [], ◌∷◌, get_or, slice_set, refl, sym, ap, ◌∙◌, ◌⊎◌, inl, inr, arith}
 use Rattle.std.specs.Prelude.{◌==◌, ◌||◌, is_some}
 use Rattle.std.specs.Option.{option_map_or}
 use Rattle.std.proofs.lemmas.Bool.{cases_Bool, eqb-true, false≢true}
@@ -14,8 +14,8 @@ use Rattle.cell_store.specs.declared.owner.WholeFind.{WholeFind}
 use Rattle.cell_store.specs.declared.owner.OwnerCells.{OwnerCells}
 use Rattle.cell_store.specs.Version.{own, whole}
 use Rattle.cell_store.specs.Column.{Cells, place_in, is_counted}
-use Rattle.cell_store.specs.Owner.{cell_in, column_of, column_held, place_held, whole_cell, IsPlaceOf, IsSettled, whole_settled}
-use Rattle.cell_store.specs.Count.{count_of, has_place, scope_eq, AddsPlace, KeepsPlaces, LosesFinds}
+use Rattle.cell_store.specs.Owner.{cell_in, column_of, column_held, place_held, whole_cell, whole_settled, IsPlaceOf, IsSettled, KeepsSettling, KeepsUpTo}
+use Rattle.cell_store.specs.Count.{count_of, has_place, scope_eq, AddsPlace, GainsNothing, KeepsPlaces, LosesFinds, LosesFindsOf}
 use Rattle.cell_store.specs.Mixed.{is_mixed}
 use Rattle.cell_store.specs.Prune.{IsLess}
 use Rattle.cell_store.specs.Sweep.{alive_at, is_dead, swept, whole_swept}
@@ -186,10 +186,23 @@ added_whole old new none Whole has = refl
 
 -- ---- finds of a name are dropped
 
-pub lost_from : (old new : OwnerCells) → count_of new ≤ count_of old
+-- A name as it was has gained nothing.
+pub gains_none : (cells : OwnerCells) → GainsNothing cells cells
+gains_none cells = record { upto = λ top is. is; settles = λ n k is. is; count = omega arith; places = λ scope has. has }
+
+-- Nor has it lost anything.
+pub loses_none : (kind : ℕ) (cells : OwnerCells) → LosesFindsOf kind cells cells
+loses_none kind cells = record {
+  others = λ k other. refl;
+  kinds = refl;
+  whole = refl;
+  lost = record { gains = gains_none cells; cells = λ k v. inl refl };
+}
+
+pub lost_from : (old new : OwnerCells) → KeepsUpTo old new → KeepsSettling old new → count_of new ≤ count_of old
     → ((k : ℕ) → option_map_or is_counted (column_of new.kinds.items k) false ≡ true → option_map_or is_counted (column_of old.kinds.items k) false ≡ true) → (is_some new.whole ≡ true → is_some old.whole ≡ true)
     → ((k v : ℕ) → (column_held new.whole (column_of new.kinds.items k) v ≡ column_held old.whole (column_of old.kinds.items k) v) ⊎ (column_held new.whole (column_of new.kinds.items k) v ≡ None)) → LosesFinds old new
-lost_from old new count one all cells = record { count = count; places = places; cells = cells }
+lost_from old new upto settles count one all cells = record { gains = record { upto = upto; settles = settles; count = count; places = places }; cells = cells }
   where
     places : (scope : Scope) → has_place new scope ≡ true → has_place old scope ≡ true
     places (One k) has = one k has

@@ -1,5 +1,5 @@
 -- A column: the versions of one name and type, and the find that each has.
-use Rattle.std.specs.Prelude.{ℕ, ◌≤◌, Bool, List, Option, Some, None, length, map, nat_lt, is_some, if◌then◌else◌}
+use Rattle.std.specs.Prelude.{◌≡◌, ℕ, ◌≤◌, max, Bool, true, List, Option, Some, None, length, map, nat_lt, is_some, if◌then◌else◌}
 use Rattle.std.specs.List.{AllByRecursion, list_any}
 use Rattle.std.specs.Option.{option_map}
 use Rattle.arrayvec.specs.ArrayVec.{ArrayVec}
@@ -52,3 +52,16 @@ has_find version = is_some version.place.cell.held
 -- whether a column has a find in some version
 abbrev pub is_counted : Cells → Bool
 is_counted cells = list_any has_find cells.versions
+
+-- Entries of a column have gone, or gave way to later ones: those that are left refer to no other slots, have no find if none had one, and change as seldom as their ranks allow.
+pub record DropsEntries (old new : List (Version ℕ)) : Type 0 where
+  pub within : (slots : ℕ) → AllByRecursion (IsWithin slots) old → AllByRecursion (IsWithin slots) new
+  pub fewer : length new ≤ length old
+  pub finds : list_any has_find new ≡ true → list_any has_find old ≡ true
+  pub ranked : AreRanked old → AreRanked new
+
+-- A flush is permanent in a column: each version before it has the content of the flush's own version, and admissions have reached the same versions.
+pub record IsSettledTo (number : ℕ) (old new : Cells) : Type 0 where
+  pub places : (v : ℕ) → place_in new v ≡ place_in old (max number v)
+  pub upto : new.upto ≡ old.upto
+  pub counted : is_counted new ≡ true → is_counted old ≡ true

@@ -1,5 +1,5 @@
 -- The places that count against the limit: a find of a whole name, and a column that has a find in some version.
-use Rattle.std.specs.Prelude.{◌≡◌, ◌⊎◌, ℕ, ◌+◌, ◌≤◌, ◌==◌, ◌&&◌, ◌||◌, Bool, true, false, List, [], ◌∷◌, None, is_some, length, if◌then◌else◌}
+use Rattle.std.specs.Prelude.{◌≡◌, ◌⊎◌, ℕ, ◌+◌, ◌≤◌, ◌==◌, ◌&&◌, ◌||◌, Bool, true, false, List, [], ◌∷◌, None, is_some, length, map, not, if◌then◌else◌}
 use Rattle.std.specs.List.{filter}
 use Rattle.std.specs.Option.{option_map_or}
 use Rattle.indexmap.specs.IndexMap.{IndexMap, get}
@@ -11,7 +11,7 @@ use Rattle.ranked.specs.declared.find.Scope.TheVariants.{One, Whole}
 use Rattle.cell_store.specs.declared.owner.KindColumn.{KindColumn}
 use Rattle.cell_store.specs.declared.owner.OwnerCells.{OwnerCells}
 pub use Rattle.cell_store.specs.Column.{has_find, is_counted}
-use Rattle.cell_store.specs.Owner.{cell_in, column_of}
+use Rattle.cell_store.specs.Owner.{cell_in, column_of, HasSameCells, IsUpTo, KeepsSettling, KeepsUpTo}
 
 -- 1 if it is so, else 0
 abbrev pub one_if : Bool → ℕ
@@ -61,6 +61,17 @@ pub record HasSamePlaces (old new : OwnerCells) : Type 0 where
   pub count : count_of new ≡ count_of old
   pub places : (scope : Scope) → has_place new scope ≡ has_place old scope
 
+-- Only columns without a find came or went: the cells of a name and the places that count are as before, and each flush that could become permanent with no memory still can.
+pub record HasSameContent (old new : OwnerCells) : Type 0 where
+  pub cells : HasSameCells old new
+  pub places : HasSamePlaces old new
+  pub settles : KeepsSettling old new
+
+-- The same, and no admission has reached a version past this one.
+pub record OpensColumns (top : ℕ) (old new : OwnerCells) : Type 0 where
+  pub same : HasSameContent old new
+  pub upto : IsUpTo top new
+
 -- whether two scopes are the same
 abbrev pub scope_eq : Scope → Scope → Bool
 scope_eq (One kind) (One other) = kind == other
@@ -88,6 +99,12 @@ KeepsPlaces old new = (scope : Scope) → has_place new scope ≡ true → has_p
 abbrev pub AddsPlace : Scope → OwnerCells → OwnerCells → Type 0
 AddsPlace added old new = (scope : Scope) → has_place new scope ≡ true → (scope_eq added scope || has_place old scope) ≡ true
 
+-- At most one place of a name more counts, and none but that of an admission of this scope. The name is tidy if it was.
+pub record AddsAtMost (added : Scope) (old new : OwnerCells) : Type 0 where
+  pub count : count_of new ≤ count_of old + one_if (not (has_place old added))
+  pub places : AddsPlace added old new
+  pub tidy : IsTidy old → IsTidy new
+
 -- Each place that counts did so before.
 abbrev pub KeepPairs : {S : Type 0} → IndexMap Labels OwnerCells S → IndexMap Labels OwnerCells S → Type 0
 KeepPairs old new = (pair : Labels × Scope) → has_pair new pair ≡ true → has_pair old pair ≡ true
@@ -96,8 +113,21 @@ KeepPairs old new = (pair : Labels × Scope) → has_pair new pair ≡ true → 
 abbrev pub AddPair : {S : Type 0} → Labels × Scope → IndexMap Labels OwnerCells S → IndexMap Labels OwnerCells S → Type 0
 AddPair added old new = (pair : Labels × Scope) → has_pair new pair ≡ true → (pair_eq added pair || has_pair old pair) ≡ true
 
--- Finds of a name were dropped: each cell is as before or empty, and no place counts that did not.
-pub record LosesFinds (old new : OwnerCells) : Type 0 where
+-- No place of a name counts that did not, and no more do than before. Admissions have reached no version past those that they had reached, and each flush that could become permanent with no memory still can.
+pub record GainsNothing (old new : OwnerCells) : Type 0 where
+  pub upto : KeepsUpTo old new
+  pub settles : KeepsSettling old new
   pub count : count_of new ≤ count_of old
   pub places : KeepsPlaces old new
+
+-- Finds of a name were dropped: the name gained nothing, and each cell is as before or empty.
+pub record LosesFinds (old new : OwnerCells) : Type 0 where
+  pub gains : GainsNothing old new
   pub cells : (kind v : ℕ) → (cell_in new kind v ≡ cell_in old kind v) ⊎ (cell_in new kind v ≡ None)
+
+-- Finds of one type of a name were dropped: the name has the same columns in the same order, and the others are as before.
+pub record LosesFindsOf (kind : ℕ) (old new : OwnerCells) : Type 0 where
+  pub others : (k : ℕ) → (kind == k) ≡ false → column_of new.kinds.items k ≡ column_of old.kinds.items k
+  pub kinds : map (λ own. own.kind) new.kinds.items ≡ map (λ own. own.kind) old.kinds.items
+  pub whole : new.whole ≡ old.whole
+  pub lost : LosesFinds old new

@@ -9,7 +9,7 @@ use Rattle.ranked.specs.declared.find.Find.{Find}
 use Rattle.ranked.specs.declared.find.Scope.TheVariants.{One, Whole}
 use Rattle.ranked.specs.declared.cell.Admitted.{Admitted}
 use Rattle.ranked.specs.Cell.{after_admission}
-use Rattle.ranked.specs.Find.{admission_of}
+use Rattle.ranked.specs.Find.{admission_of, has_kind}
 use Rattle.cell_store.specs.declared.version.Place.{Place}
 use Rattle.cell_store.specs.declared.owner.KindColumn.{KindColumn}
 use Rattle.cell_store.specs.declared.owner.WholeFind.{WholeFind}
@@ -118,6 +118,11 @@ whole_settled number (Some whole) = if nat_lt whole.upto number then None else S
 -- the content of a cell after an admission, if the find is about its question
 abbrev pub after_touch : {B : Type 0} → Bool → Option (Admitted B) → Admitted B → Option (Admitted B)
 after_touch touched cell new = if touched then after_admission cell new else cell
+
+-- A find was admitted to a name: each version up to this one has it for each type that it is about, unless the content there outranks it.
+abbrev pub HasAdmission : ℕ → Find → ℕ → OwnerCells → OwnerCells → Type 0
+HasAdmission top find moment old new =
+    (kind v : ℕ) → v ≤ top → cell_in new kind v ≡ after_touch (has_kind find.scope kind) (cell_in old kind v) (admission_of find find moment)
 
 -- the version whose content a version gets when a flush becomes permanent: its own, or that of the flush if it is older
 abbrev pub after_settle : Bool → ℕ → ℕ → ℕ

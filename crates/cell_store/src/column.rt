@@ -1,10 +1,10 @@
 //! The cells of one name and type.
 
-ghost use Rattle.std.specs.Prelude.{◌≡◌, ◌<◌, ◌≤◌, ◌+◌, ℕ, None, [], ◌∷◌, max, true, false, IfOk, OnOk, OnErr, IsOk, is_some, nat_lt, if◌then◌else◌};
+ghost use Rattle.std.specs.Prelude.{◌≡◌, ◌<◌, ◌≤◌, ◌+◌, ℕ, None, [], ◌∷◌, true, false, IfOk, OnOk, OnErr, IsOk, is_some, nat_lt, if◌then◌else◌};
 ghost use Rattle.ranked.specs.Find.{admission_of};
 ghost use Rattle.ranked.specs.Rank.{level_of};
 ghost use Rattle.cell_store.specs.Version.{nothing, whole, after_find};
-ghost use Rattle.cell_store.specs.Column.{place_in, sight_at, sight_now};
+ghost use Rattle.cell_store.specs.Column.{place_in, sight_at, sight_now, IsSettledTo};
 ghost use Rattle.cell_store.specs.Prune.{is_asked, IsLess};
 ghost use Rattle.cell_store.specs.Sweep.{swept, IsSeenAt};
 ghost use Rattle.cell_store.specs.Count.{has_find, is_counted};
@@ -12,7 +12,7 @@ ghost use Rattle.cell_store.specs.Ends.{first_end};
 ghost use Rattle.cell_store.specs.Mixed.{is_mixed, IsEven};
 ghost use Rattle.cell_store.specs.Same.{place_now};
 
-use crate::entry::{Entries, Entry};
+use crate::entry::{ColumnEntry, Entries};
 use crate::finds::Finds;
 use crate::merge::merge;
 use crate::prune::prune;
@@ -82,7 +82,7 @@ impl Column {
         } }
     {
         let mut versions = ArrayVec::new();
-        versions.push(Entry::new(Version {
+        versions.push(ColumnEntry::new(Version {
             from: 0,
             place: Place {
                 left,
@@ -193,9 +193,7 @@ impl Column {
     /// Makes a flush permanent: it gives the versions before it the content of its own version. It takes no memory.
     pub fn forget_before(&mut self, number: u64)
         requires upto { number ≤ self.old.upto }
-        ensures places { (v : ℕ) → place_in self.new v ≡ place_in self.old (max number v) }
-        ensures upto { self.new.upto ≡ self.old.upto }
-        ensures counted { is_counted self.new ≡ true → is_counted self.old ≡ true }
+        ensures { IsSettledTo number self.old self.new }
     {
         forget_before(&mut self.versions, number);
         release(&mut self.versions, &mut self.finds);
@@ -203,9 +201,7 @@ impl Column {
 
     /// Makes any flush permanent. If no admission has come since the flush, the column becomes empty.
     pub fn settle(&mut self, number: u64)
-        ensures places { (v : ℕ) → place_in self.new v ≡ place_in self.old (max number v) }
-        ensures upto { self.new.upto ≡ self.old.upto }
-        ensures counted { is_counted self.new ≡ true → is_counted self.old ≡ true }
+        ensures { IsSettledTo number self.old self.new }
     {
         if self.upto < number {
             self.clear();
@@ -221,7 +217,7 @@ impl Column {
         ensures counted { is_counted self.new ≡ false }
     {
         self.versions.clear();
-        self.versions.push(Entry::default());
+        self.versions.push(ColumnEntry::default());
         self.finds.clear();
     }
 

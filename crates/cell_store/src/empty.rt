@@ -1,8 +1,8 @@
 //! Columns without a find. Each leaves its name, unless it may hide the find of the whole name.
 
-ghost use Rattle.std.specs.Prelude.{◌≡◌, ◌<◌, ◌≤◌, length, slice_get, IfSome};
-ghost use Rattle.cell_store.specs.Count.{count_of, counted_kinds, stored_in, IsInUse, KeepPairs};
-ghost use Rattle.cell_store.specs.Store.{AreSameCells, HaveTop, KeepSettling, KeepUpTo, StayButAt};
+ghost use Rattle.std.specs.Prelude.{◌≡◌, ◌<◌, length};
+ghost use Rattle.cell_store.specs.Count.{counted_kinds, stored_in};
+ghost use Rattle.cell_store.specs.Store.{AreSameCells, GainNothing, HaveTop, IsCountedAt, IsInUseAt, StayButAt};
 
 use crate::owner::{KindColumn, OwnerCells};
 use crate::store::Owners;
@@ -20,17 +20,15 @@ fn keep_counted(kinds: &mut Vec<KindColumn>)
 }
 
 impl OwnerCells {
-    ghost use Rattle.cell_store.specs.Owner.{HasSameCells, HasTop, KeepsSettling, KeepsUpTo};
-    ghost use Rattle.cell_store.specs.Count.{HasSamePlaces, IsTidy};
+    ghost use Rattle.cell_store.specs.Owner.{HasTop, KeepsUpTo};
+    ghost use Rattle.cell_store.specs.Count.{HasSameContent, IsTidy};
 
     /// Removes the columns that have no find in any version, with their memory. While a find of the whole name is cached they stay: some
     /// versions may not have it. It takes no memory that it has to get.
     pub fn drop_empty(&mut self)
         requires top { HasTop self.old }
-        ensures cells { HasSameCells self.old self.new }
-        ensures places { HasSamePlaces self.old self.new }
+        ensures same { HasSameContent self.old self.new }
         ensures upto { KeepsUpTo self.old self.new }
-        ensures settles { KeepsSettling self.old self.new }
         ensures whole { self.new.whole ≡ self.old.whole }
         ensures tidy { IsTidy self.new }
     {
@@ -46,12 +44,10 @@ pub fn drop_empty_at(owners: &mut Owners, place: usize)
     requires low { place < length owners.old.entries }
     requires top { HaveTop owners.old }
     ensures cells { AreSameCells owners.old owners.new }
-    ensures kept { KeepUpTo owners.old owners.new × KeepSettling owners.old owners.new }
+    ensures gains { GainNothing owners.old owners.new }
     ensures counted { stored_in owners.new ≡ stored_in owners.old }
-    ensures pairs { KeepPairs owners.old owners.new }
     ensures entries { StayButAt place owners.old.entries owners.new.entries }
-    ensures used { IfSome (slice_get owners.old.entries place) (λ entry. 1 ≤ count_of entry.1) →
-        IfSome (slice_get owners.new.entries place) (λ entry. IsInUse entry.1) }
+    ensures used { IsCountedAt place owners.old.entries → IsInUseAt place owners.new.entries }
 {
     let (_, cells) = owners.pair_mut(place);
     cells.drop_empty();

@@ -17,7 +17,7 @@ use std::mem::size_of;
 pub(crate) const ENTRIES: usize = 6;
 
 /// The entries of a column. They lie in the column itself, so that it needs no memory of its own for them.
-pub(crate) type Entries = ArrayVec<Entry, ENTRIES>;
+pub(crate) type Entries = ArrayVec<ColumnEntry, ENTRIES>;
 
 /// The content of an entry: the fields of `Place` and `Admitted`, in an order that leaves no gaps.
 #[derive(Clone, Copy)]
@@ -36,14 +36,14 @@ enum Content {
 
 /// An entry of a column, in half the memory that `Version` takes. Contracts see it as that version.
 #[derive(Drop)]
-pub(crate) struct Entry {
+pub(crate) struct ColumnEntry {
     from: u64,
     content: Content,
 }
 
-const _: () = prove!(size_of::<Entry>() == 24);
+const _: () = prove!(size_of::<ColumnEntry>() == 24);
 
-impl Model for Entry {
+impl Model for ColumnEntry {
     ghost use Rattle.std.specs.Prelude.{ℕ};
     ghost use Rattle.cell_store.specs.declared.version.Version.{Version};
 
@@ -54,12 +54,12 @@ impl Model for Entry {
     ghost view = { λ e. record { from = e.from; place = content_place e.content } };
 }
 
-impl Default for Entry {
+impl Default for ColumnEntry {
     ghost is_default = { λ e. e ≡ record { from = 0; place = nothing } };
 
     // The empty entry from version 0.
-    fn default() -> Entry {
-        Entry {
+    fn default() -> ColumnEntry {
+        ColumnEntry {
             from: 0,
             content: Content::Empty { left: false },
         }
@@ -113,12 +113,12 @@ impl Content {
     }
 }
 
-impl Entry {
+impl ColumnEntry {
     /// Packs a version.
-    pub(crate) fn new(version: Version<Slot>) -> Entry
+    pub(crate) fn new(version: Version<Slot>) -> ColumnEntry
         ensures { result ≡ version }
     {
-        Entry {
+        ColumnEntry {
             from: version.from,
             content: Content::new(version.place),
         }

@@ -40,7 +40,7 @@ pub use empty::drop_empty_at;
 pub use owner::{KindColumn, OwnerCells, WholeFind};
 pub use seed::NameSeed;
 pub use store::{
-    Owners, admit, admit_at, at, cells_at, drop_if_uncounted, forget, forget_place, has_pair,
-    has_place, has_place_in, held_in, is_same, open_kinds, settle_at, settle_kinds,
+    Owners, admit_at, at, cells_at, drop_if_uncounted, forget_place, has_pair, has_place_in,
+    held_in, is_same, open_kinds, settle_at, settle_kinds,
 };
 pub use version::{Place, Sight, Version};

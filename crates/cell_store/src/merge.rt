@@ -1,20 +1,18 @@
 //! Equal neighbours among the versions of a column. Later admissions change them alike, so one entry is enough for both.
 
-ghost use Rattle.std.specs.Prelude.{◌≡◌, ◌≤◌, ℕ, true, length};
-ghost use Rattle.std.specs.List.{AllByRecursion, list_any};
-ghost use Rattle.cell_store.specs.Column.{has_find};
+ghost use Rattle.std.specs.Prelude.{◌≡◌, ℕ};
+ghost use Rattle.cell_store.specs.Column.{DropsEntries};
 ghost use Rattle.cell_store.specs.Version.{place_at, IsFromStart};
 ghost use Rattle.cell_store.specs.Few.{contents, AreRanked, DoDiffer};
 ghost use Rattle.cell_store.specs.Merge.{holds_same, same_held, started};
-ghost use Rattle.cell_store.specs.Slots.{IsWithin};
 
-use crate::entry::{Entries, Entry};
+use crate::entry::{ColumnEntry, Entries};
 use crate::version::Slot;
 use ranked::Admitted;
 
-impl Entry {
+impl ColumnEntry {
     // Whether another entry has the same content.
-    fn holds_same(&self, other: &Entry) -> bool
+    fn holds_same(&self, other: &ColumnEntry) -> bool
         ensures { result ≡ holds_same self.now other.now }
     {
         let own = self.place();
@@ -55,12 +53,8 @@ fn same_held(a: &Option<Admitted<Slot>>, b: &Option<Admitted<Slot>>) -> bool
 // Removes each entry that has the content of the entry before it, and moves the start of that one if it was later.
 pub(crate) fn merge(versions: &mut Entries)
     ensures places { (v : ℕ) → place_at versions.new.items v ≡ place_at versions.old.items v }
-    ensures within { (slots : ℕ) →
-        AllByRecursion (IsWithin slots) versions.old.items → AllByRecursion (IsWithin slots) versions.new.items }
+    ensures drops { DropsEntries versions.old.items versions.new.items }
     ensures starts { IsFromStart versions.old.items → IsFromStart versions.new.items }
-    ensures fewer { length versions.new.items ≤ length versions.old.items }
-    ensures finds { list_any has_find versions.new.items ≡ true → list_any has_find versions.old.items ≡ true }
-    ensures ranked { AreRanked versions.old.items → AreRanked versions.new.items }
     ensures differ { AreRanked versions.old.items → DoDiffer (contents versions.new.items) }
 {
     let mut place = 1;

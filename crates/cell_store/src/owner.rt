@@ -1,12 +1,11 @@
 //! The cells of one name.
 
-ghost use Rattle.std.specs.Prelude.{◌≡◌, ◌<◌, ◌≤◌, ◌==◌, ◌+◌, ◌-◌, ◌^◌, ℕ, [], ◌∷◌, Some, None, true, false, not, max, map, length, vec_len, vec_capacity, is_some};
+ghost use Rattle.std.specs.Prelude.{◌≡◌, ◌<◌, ◌≤◌, ◌==◌, ◌+◌, ◌-◌, ◌^◌, ℕ, [], ◌∷◌, Some, None, true, false, not, max, length, vec_len, vec_capacity, is_some};
 ghost use Rattle.std.specs.Prelude.{IfOk, IsOk, OnOk, OnErr, IfSome, IfNone, if◌then◌else◌};
 ghost use Rattle.std.specs.List.{AllByRecursion, list_any};
-ghost use Rattle.std.specs.Option.{option_map_or};
 ghost use Rattle.ranked.specs.declared.find.Scope.{Scope};
 ghost use Rattle.ranked.specs.declared.find.Scope.TheVariants.{One, Whole};
-ghost use Rattle.ranked.specs.Find.{admission_of, has_kind};
+ghost use Rattle.ranked.specs.Find.{admission_of};
 ghost use Rattle.ranked.specs.Cell.{shown_at, turns_away};
 ghost use Rattle.cell_store.specs.Column.{place_in};
 ghost use Rattle.cell_store.specs.Owner.{after_settle, after_touch, column_of, held_now, place_held, whole_cell, whole_held};
@@ -14,9 +13,8 @@ ghost use Rattle.cell_store.specs.Owner.{IsLeftWithin, IsPlaceOf, IsSettled, IsW
 ghost use Rattle.cell_store.specs.Walk.{IsEach};
 ghost use Rattle.cell_store.specs.Count.{count_kinds, is_counted, one_if};
 ghost use Rattle.cell_store.specs.Ends.{cell_end, name_end};
-ghost use Rattle.cell_store.specs.Mixed.{is_mixed};
-ghost use Rattle.cell_store.specs.Prune.{is_asked};
-ghost use Rattle.cell_store.specs.Sweep.{alive_at, is_dead, whole_swept, IsSweptKind};
+ghost use Rattle.cell_store.specs.Mixed.{is_mixed_kind};
+ghost use Rattle.cell_store.specs.Sweep.{alive_at, is_dead, whole_swept, HasSameAlive, IsSeenAlive, IsSweptKind, KeepsAlive};
 
 use crate::column::Column;
 use crate::version::Sight;
@@ -104,8 +102,8 @@ fn settle_each(kinds: &mut Vec<KindColumn>, number: u64)
 }
 
 impl OwnerCells {
-    ghost use Rattle.cell_store.specs.Owner.{cell_in, CanSettle, HasSameCells, IsUpTo, KeepsSettling, KeepsUpTo, whole_settled};
-    ghost use Rattle.cell_store.specs.Count.{count_of, has_place, AddsPlace, HasSamePlaces, IsTidy, KeepsPlaces, LosesFinds};
+    ghost use Rattle.cell_store.specs.Owner.{cell_in, whole_settled, CanSettle, HasAdmission, HasSameCells, IsUpTo, KeepsSettling};
+    ghost use Rattle.cell_store.specs.Count.{count_of, has_place, AddsAtMost, AddsPlace, GainsNothing, HasSamePlaces, IsTidy, LosesFinds, LosesFindsOf, OpensColumns};
 
     /// No cells.
     pub fn new(alloc: Global) -> OwnerCells
@@ -162,11 +160,8 @@ impl OwnerCells {
     fn open_kind(&mut self, kind: u16, top: u64) -> Result<(), NoMemory>
         requires upto { IsUpTo top self.old }
         requires fresh { column_of self.old.kinds.items kind ≡ None }
-        ensures cells { HasSameCells self.old self.new }
+        ensures opens { OpensColumns top self.old self.new }
         ensures whole { self.new.whole ≡ self.old.whole }
-        ensures upto { IsUpTo top self.new }
-        ensures settles { KeepsSettling self.old self.new }
-        ensures places { HasSamePlaces self.old self.new }
         ensures opened { OnOk result ((1 ≤ vec_len self.new.kinds) × IsPlaceOf self.new.kinds.items kind (vec_len self.new.kinds - 1)) }
         ensures size { (vec_len self.new.kinds ≤ vec_len self.old.kinds + 1)
             × OnErr result (vec_len self.new.kinds ≡ vec_len self.old.kinds) }
@@ -182,10 +177,7 @@ impl OwnerCells {
     /// Adds a column for a type, if a find of the whole name is cached, so that `settle_kind` needs no memory later. No cell changes.
     pub fn open(&mut self, kind: u16, top: u64) -> Result<(), NoMemory>
         requires upto { IsUpTo top self.old }
-        ensures cells { HasSameCells self.old self.new }
-        ensures upto { IsUpTo top self.new }
-        ensures settles { KeepsSettling self.old self.new }
-        ensures places { HasSamePlaces self.old self.new }
+        ensures opens { OpensColumns top self.old self.new }
         ensures opened { OnOk result ((n : ℕ) → CanSettle n kind self.new) }
         ensures still { self.old.whole ≡ None → self.new ≡ self.old }
         ensures free { self.old.whole ≡ None → IsOk result }
@@ -200,10 +192,7 @@ impl OwnerCells {
     /// Does the same for some types. If memory runs out, some of them may have a column.
     pub fn open_each(&mut self, kinds: &[u16], top: u64) -> Result<(), NoMemory>
         requires upto { IsUpTo top self.old }
-        ensures cells { HasSameCells self.old self.new }
-        ensures upto { IsUpTo top self.new }
-        ensures settles { KeepsSettling self.old self.new }
-        ensures places { HasSamePlaces self.old self.new }
+        ensures opens { OpensColumns top self.old self.new }
         ensures opened { OnOk result (AllByRecursion (λ kind. (n : ℕ) → CanSettle n kind self.new) kinds.now) }
         ensures still { self.old.whole ≡ None → self.new ≡ self.old }
     {
@@ -216,14 +205,11 @@ impl OwnerCells {
     // The place of the column of a type. It adds one if there is none.
     fn place_for(&mut self, kind: u16, top: u64) -> Result<usize, NoMemory>
         requires upto { IsUpTo top self.old }
-        ensures cells { HasSameCells self.old self.new }
+        ensures opens { OpensColumns top self.old self.new }
         ensures whole { self.new.whole ≡ self.old.whole }
-        ensures upto { IsUpTo top self.new }
-        ensures settles { KeepsSettling self.old self.new }
-        ensures places { HasSamePlaces self.old self.new }
         ensures place { IfOk result (IsPlaceOf self.new.kinds.items kind) }
-        ensures size { (vec_len self.new.kinds ≤ vec_len self.old.kinds + one_if (not (has_place self.old (One kind))))
-            × OnErr result (vec_len self.new.kinds ≡ vec_len self.old.kinds) }
+        ensures size { vec_len self.new.kinds ≤ vec_len self.old.kinds + one_if (not (has_place self.old (One kind))) }
+        ensures err { OnErr result (vec_len self.new.kinds ≡ vec_len self.old.kinds) }
         ensures free { has_place self.old (One kind) ≡ true → IsOk result }
     {
         if let Some(place) = place_of(&self.kinds, kind) {
@@ -263,10 +249,8 @@ impl OwnerCells {
         ensures err { OnErr result (HasSameCells self.old self.new × HasSamePlaces self.old self.new) }
         ensures upto { IsUpTo top self.new }
         ensures settles { KeepsSettling self.old self.new }
-        ensures count { (count_of self.new ≤ count_of self.old + one_if (not (has_place self.old (One kind))))
-            × AddsPlace (One kind) self.old self.new }
+        ensures adds { AddsAtMost (One kind) self.old self.new }
         ensures free { has_place self.old (One kind) ≡ true → IsOk result }
-        ensures tidy { IsTidy self.old → IsTidy self.new }
     {
         let place = self.place_for(kind, top)?;
         let outranked = self.turns_away(find.find(), moment);
@@ -278,15 +262,12 @@ impl OwnerCells {
     /// On an error nothing changes.
     pub fn admit(&mut self, find: SharedFind, moment: u64, top: u64) -> Result<(), NoMemory>
         requires upto { IsUpTo top self.old }
-        ensures cells { OnOk result ((k v : ℕ) → v ≤ top →
-            cell_in self.new k v ≡ after_touch (has_kind find.scope k) (cell_in self.old k v) (admission_of find find moment)) }
+        ensures cells { OnOk result (HasAdmission top find moment self.old self.new) }
         ensures err { OnErr result (HasSameCells self.old self.new × HasSamePlaces self.old self.new) }
         ensures upto { IsUpTo top self.new }
         ensures settles { (n k : ℕ) → n ≤ top → CanSettle n k self.old → CanSettle n k self.new }
-        ensures count { count_of self.new ≤ count_of self.old + one_if (not (has_place self.old find.scope)) }
-        ensures places { AddsPlace find.scope self.old self.new }
+        ensures adds { AddsAtMost find.scope self.old self.new }
         ensures free { has_place self.old find.scope ≡ true → IsOk result }
-        ensures tidy { IsTidy self.old → IsTidy self.new }
     {
         match find.find().scope {
             Scope::One(kind) => self.admit_kind(find, kind, moment, top),
@@ -389,10 +370,7 @@ impl OwnerCells {
     pub fn settle_kind(&mut self, kind: u16, number: u64)
         requires settles { CanSettle number kind self.old }
         ensures cells { (k v : ℕ) → cell_in self.new k v ≡ cell_in self.old k (after_settle (kind == k) number v) }
-        ensures upto { KeepsUpTo self.old self.new }
-        ensures settles { KeepsSettling self.old self.new }
-        ensures count { count_of self.new ≤ count_of self.old }
-        ensures places { KeepsPlaces self.old self.new }
+        ensures gains { GainsNothing self.old self.new }
     {
         if let Some(place) = place_of(&self.kinds, kind) {
             self.kinds[place].column.settle(number);
@@ -404,10 +382,7 @@ impl OwnerCells {
         requires settles { AllByRecursion (λ kind. CanSettle number kind self.old) kinds.now }
         ensures cells { (k v : ℕ) →
             cell_in self.new k v ≡ cell_in self.old k (after_settle (list_any (λ kind. kind == k) kinds.now) number v) }
-        ensures upto { KeepsUpTo self.old self.new }
-        ensures settles { KeepsSettling self.old self.new }
-        ensures count { count_of self.new ≤ count_of self.old }
-        ensures places { KeepsPlaces self.old self.new }
+        ensures gains { GainsNothing self.old self.new }
     {
         for kind in kinds {
             self.settle_kind(*kind, number);
@@ -417,10 +392,7 @@ impl OwnerCells {
     /// Makes a flush of every type permanent.
     pub fn settle_all(&mut self, number: u64)
         ensures cells { (top : ℕ) → IsUpTo top self.old → (k v : ℕ) → cell_in self.new k v ≡ cell_in self.old k (max number v) }
-        ensures upto { KeepsUpTo self.old self.new }
-        ensures settles { KeepsSettling self.old self.new }
-        ensures count { count_of self.new ≤ count_of self.old }
-        ensures places { KeepsPlaces self.old self.new }
+        ensures gains { GainsNothing self.old self.new }
     {
         settle_each(&mut self.kinds, number);
         self.settle_whole(number);
@@ -442,9 +414,7 @@ impl OwnerCells {
 
     /// Drops the find of the whole name, if it is dead at a moment. It takes no memory.
     pub fn sweep_whole(&mut self, moment: u64)
-        ensures cells { (k v : ℕ) → alive_at moment (cell_in self.new k v) ≡ alive_at moment (cell_in self.old k v) }
-        ensures upto { KeepsUpTo self.old self.new }
-        ensures settles { KeepsSettling self.old self.new }
+        ensures cells { HasSameAlive moment self.old self.new }
         ensures kinds { self.new.kinds.items ≡ self.old.kinds.items }
         ensures whole { self.new.whole ≡ whole_swept moment self.old.whole }
         ensures lost { LosesFinds self.old self.new }
@@ -464,16 +434,9 @@ impl OwnerCells {
     /// Drops the finds of a type that are dead at a moment, and those that no version in use has. Version 0 and those of `numbers` are in use.
     /// It takes no memory.
     pub fn sweep_kind(&mut self, kind: u16, numbers: &[u64], moment: u64)
-        ensures cells { (k v : ℕ) → ((kind == k) ≡ true → is_asked numbers.now v ≡ true) →
-            alive_at moment (cell_in self.new k v) ≡ alive_at moment (cell_in self.old k v) }
-        ensures seen { has_place self.new (One kind) ≡ true →
-            (v : ℕ) × ((is_asked numbers.now v ≡ true) × (is_some (alive_at moment (cell_in self.new kind v)) ≡ true)) }
-        ensures others { (k : ℕ) → (kind == k) ≡ false → column_of self.new.kinds.items k ≡ column_of self.old.kinds.items k }
-        ensures kinds { map (λ own. own.kind) self.new.kinds.items ≡ map (λ own. own.kind) self.old.kinds.items }
-        ensures whole { self.new.whole ≡ self.old.whole }
-        ensures upto { KeepsUpTo self.old self.new }
-        ensures settles { KeepsSettling self.old self.new }
-        ensures lost { LosesFinds self.old self.new }
+        ensures cells { KeepsAlive kind numbers.now moment self.old self.new }
+        ensures seen { IsSeenAlive kind numbers.now moment self.new }
+        ensures lost { LosesFindsOf kind self.old self.new }
     {
         if let Some(place) = place_of(&self.kinds, kind) {
             self.kinds[place].column.sweep(numbers, moment);
@@ -484,18 +447,13 @@ impl OwnerCells {
     /// false, and nothing changes. The versions of a column with one entry are alike, so it does not matter which are in use.
     /// It takes no memory.
     pub fn sweep_if_even(&mut self, kind: u16, moment: u64) -> bool
-        ensures cells { (k v : ℕ) → alive_at moment (cell_in self.new k v) ≡ alive_at moment (cell_in self.old k v) }
+        ensures cells { HasSameAlive moment self.old self.new }
         ensures seen { result ≡ true → has_place self.new (One kind) ≡ true →
             is_some (alive_at moment (cell_in self.new kind 0)) ≡ true }
-        ensures others { (k : ℕ) → (kind == k) ≡ false → column_of self.new.kinds.items k ≡ column_of self.old.kinds.items k }
-        ensures kinds { map (λ own. own.kind) self.new.kinds.items ≡ map (λ own. own.kind) self.old.kinds.items }
-        ensures whole { self.new.whole ≡ self.old.whole }
-        ensures kept { KeepsUpTo self.old self.new × KeepsSettling self.old self.new }
-        ensures lost { LosesFinds self.old self.new }
-        ensures same { result ≡ false → (self.new ≡ self.old)
-            × (option_map_or is_mixed (column_of self.old.kinds.items kind) false ≡ true) }
-        ensures even { (result ≡ not (option_map_or is_mixed (column_of self.old.kinds.items kind) false))
-            × (result ≡ true → IsSweptKind moment (column_of self.old.kinds.items kind) (column_of self.new.kinds.items kind)) }
+        ensures lost { LosesFindsOf kind self.old self.new }
+        ensures same { result ≡ false → (self.new ≡ self.old) × (is_mixed_kind self.old kind ≡ true) }
+        ensures even { result ≡ not (is_mixed_kind self.old kind) }
+        ensures swept { result ≡ true → IsSweptKind moment (column_of self.old.kinds.items kind) (column_of self.new.kinds.items kind) }
     {
         match place_of(&self.kinds, kind) {
             Some(place) => {

@@ -4,26 +4,26 @@ ghost use Rattle.std.specs.Prelude.{◌≡◌, ◌<◌, ◌+◌, ℕ, length, dr
 ghost use Rattle.std.specs.List.{list_any};
 ghost use Rattle.cell_store.specs.Prune.{is_from, is_held_at, is_seen, kept_entry, pruned};
 
-use crate::entry::{Entries, Entry};
+use crate::entry::{ColumnEntry, Entries};
 use crate::version::{Place, Version};
 use ranked::Cell;
 
 // Whether a version has the content of an entry: the entry starts there or before, and no later one does.
-fn is_held_at(versions: &[Entry], place: usize, number: u64) -> bool
+fn is_held_at(versions: &[ColumnEntry], place: usize, number: u64) -> bool
     requires { place < length versions.now }
     ensures { (d : Version ℕ) → result ≡ is_held_at number (slice_index_or versions.now place d) (drop (place + 1) versions.now) }
 {
     versions[place].is_from(number) && !any_from(&versions[place + 1..], number)
 }
 
-fn any_from(versions: &[Entry], number: u64) -> bool
+fn any_from(versions: &[ColumnEntry], number: u64) -> bool
     ensures { result ≡ list_any (is_from number) versions.now }
 {
     versions.iter().any(|entry| entry.is_from(number))
 }
 
 // Whether a version in use has the content of an entry.
-fn is_seen(versions: &[Entry], place: usize, numbers: &[u64], upto: u64) -> bool
+fn is_seen(versions: &[ColumnEntry], place: usize, numbers: &[u64], upto: u64) -> bool
     requires { place < length versions.now }
     ensures { (d : Version ℕ) →
         result ≡ is_seen numbers.now upto (slice_index_or versions.now place d) (drop (place + 1) versions.now) }
@@ -38,16 +38,16 @@ fn is_seen(versions: &[Entry], place: usize, numbers: &[u64], upto: u64) -> bool
 }
 
 // The entry, emptied if no version in use has its content.
-fn kept_entry(versions: &[Entry], place: usize, numbers: &[u64], upto: u64) -> Entry
+fn kept_entry(versions: &[ColumnEntry], place: usize, numbers: &[u64], upto: u64) -> ColumnEntry
     requires { place < length versions.now }
     ensures { (d : Version ℕ) →
         result ≡ kept_entry numbers.now upto (slice_index_or versions.now place d) (drop (place + 1) versions.now) }
 {
     let version = versions[place].version();
     if is_seen(versions, place, numbers, upto) {
-        return Entry::new(version);
+        return ColumnEntry::new(version);
     }
-    Entry::new(Version {
+    ColumnEntry::new(Version {
         from: version.from,
         place: Place {
             left: false,

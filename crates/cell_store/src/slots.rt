@@ -7,12 +7,12 @@ ghost use Rattle.cell_store.specs.Slots.{held_of, names, renamed, version_of, Is
 ghost use Rattle.cell_store.specs.Count.{has_find};
 ghost use Rattle.cell_store.specs.Few.{contents, AreRanked, DoDiffer};
 
-use crate::entry::{Entries, Entry};
+use crate::entry::{ColumnEntry, Entries};
 use crate::finds::Finds;
 use crate::version::Slot;
 use ranked::{Admitted, SharedFind};
 
-impl Entry {
+impl ColumnEntry {
     // Whether it has a find.
     fn has_find(&self) -> bool
         ensures { result ≡ has_find self.now }
@@ -46,14 +46,14 @@ impl Entry {
 }
 
 // Whether some version has a find.
-pub(crate) fn has_find(versions: &[Entry]) -> bool
+pub(crate) fn has_find(versions: &[ColumnEntry]) -> bool
     ensures { result ≡ list_any has_find versions.now }
 {
     versions.iter().any(|entry| entry.has_find())
 }
 
 // Whether some cell refers to a slot.
-fn is_named(versions: &[Entry], slot: usize) -> bool
+fn is_named(versions: &[ColumnEntry], slot: usize) -> bool
     ensures { result ≡ list_any (names slot) versions.now }
 {
     versions.iter().any(|entry| entry.names(slot))

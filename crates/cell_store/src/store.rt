@@ -1,22 +1,19 @@
 //! The cells of all names, in an index with a seeded hasher.
 
-ghost use Rattle.std.specs.Prelude.{◌≡◌, ◌<◌, ◌≤◌, ◌==◌, ◌&&◌, ◌+◌, ◌^◌, ℕ, None, not, true, false, length, option_copied, position, slice_get};
+ghost use Rattle.std.specs.Prelude.{◌≡◌, ◌<◌, ◌≤◌, ◌+◌, ℕ, None, true, false, length, option_copied, position, slice_get};
 ghost use Rattle.std.specs.Prelude.{IfSome, IsOk, OnOk, OnErr, if◌then◌else◌};
-ghost use Rattle.std.specs.List.{AllByRecursion, list_any};
+ghost use Rattle.std.specs.List.{AllByRecursion};
 ghost use Rattle.std.specs.Map.{keys_of};
 ghost use Rattle.std.specs.Option.{option_map_or};
 ghost use Rattle.indexmap.specs.IndexMap.{get, swap_remove_entry};
 ghost use Rattle.dns_name.specs.Labels.{Labels};
 ghost use Rattle.dns_name.specs.Order.{name_eq};
-ghost use Rattle.dns_name.specs.Below.{is_at_or_below};
 ghost use Rattle.dns_text.specs.declared.record.Question.{Question};
-ghost use Rattle.ranked.specs.Find.{admission_of, touches};
 ghost use Rattle.ranked.specs.Cell.{shown_at};
-ghost use Rattle.cell_store.specs.Owner.{after_settle, after_touch, held_now};
-ghost use Rattle.cell_store.specs.Count.{count_of, has_pair, has_place, has_place_for, one_if, pair_of, stored_in, AddPair, KeepPairs};
-ghost use Rattle.cell_store.specs.Same.{same_cell};
-ghost use Rattle.cell_store.specs.Store.{cell_by_owner, cell_of, AreLeft, AreSameCells, AreUpTo, CanSettleAt, EachCounts, IsDroppedAt, IsIndex, KeepSettling, KeepUpTo, StayBut};
-ghost use Rattle.cell_store.specs.Store.{name_place, StayButAt};
+ghost use Rattle.cell_store.specs.Owner.{held_now};
+ghost use Rattle.cell_store.specs.Count.{count_of, has_pair, has_place, has_place_for, stored_in, KeepPairs};
+ghost use Rattle.cell_store.specs.Store.{cell_by_owner, cell_of, has_same_cell, AddAtMost, AreLeft, AreSameCells, AreSettled, AreSettledAt, AreUpTo, CanSettleAt, EachCounts};
+ghost use Rattle.cell_store.specs.Store.{GainNothing, HaveAdmission, IsBelowAt, IsDroppedAt, IsIndex, KeepNames, OpenColumns, StayButAt};
 
 use crate::owner::OwnerCells;
 use crate::seed::NameSeed;
@@ -28,33 +25,9 @@ use std::alloc::Global;
 /// The cells of each name. Their order means nothing: a removal moves the last name into the gap.
 pub type Owners = IndexMap<Name, OwnerCells, NameSeed>;
 
-/// Caches a find in each version, for each question that it is about, unless the content there is alive and of higher rank.
+/// Caches a find in each version, for each question that it is about, unless the content there is alive and of higher rank. `place` is
+/// what a look-up has found for the owner: it hashes the owner only if it is new.
 /// It takes no memory if the place of the find is counted already. `stored` is the number of counted places. On an error nothing changes.
-pub fn admit(
-    alloc: Global,
-    owners: &mut Owners,
-    stored: &mut u64,
-    find: SharedFind,
-    moment: u64,
-    top: u64,
-) -> Result<(), NoMemory>
-    requires index { IsIndex top stored.old owners.old }
-    ensures cells { OnOk result ((q : Question) (v : ℕ) → v ≤ top →
-        cell_of owners.new q v ≡ after_touch (touches find q) (cell_of owners.old q v) (admission_of find find moment)) }
-    ensures err { OnErr result (AreSameCells owners.old owners.new × (stored.new ≡ stored.old) × KeepPairs owners.old owners.new) }
-    ensures upto { AreUpTo top owners.new }
-    ensures settles { (n k : ℕ) (name : Labels) → n ≤ top → CanSettleAt n k name owners.old → CanSettleAt n k name owners.new }
-    ensures counted { stored.new ≡ stored_in owners.new }
-    ensures bound { (stored.new ≤ stored.old + one_if (not (has_place_for owners.old find)))
-        × AddPair (pair_of find) owners.old owners.new × StayBut find.owner owners.old.entries owners.new.entries }
-    ensures free { has_place_for owners.old find ≡ true → IsOk result }
-    ensures named { EachCounts owners.old.entries → EachCounts owners.new.entries }
-{
-    let place = owners.get_index_of(&find.find().owner);
-    admit_at(alloc, owners, stored, place, find, moment, top)
-}
-
-/// Does the same, by the place that a look-up has found for the owner. It hashes the owner only if it is new.
 pub fn admit_at(
     alloc: Global,
     owners: &mut Owners,
@@ -65,14 +38,11 @@ pub fn admit_at(
     top: u64,
 ) -> Result<(), NoMemory>
     requires index { IsIndex top stored.old owners.old × (place ≡ position (name_eq find.owner) (keys_of owners.old.entries)) }
-    ensures cells { OnOk result ((q : Question) (v : ℕ) → v ≤ top →
-        cell_of owners.new q v ≡ after_touch (touches find q) (cell_of owners.old q v) (admission_of find find moment)) }
+    ensures cells { OnOk result (HaveAdmission top find moment owners.old owners.new) }
     ensures err { OnErr result (AreSameCells owners.old owners.new × (stored.new ≡ stored.old) × KeepPairs owners.old owners.new) }
     ensures upto { AreUpTo top owners.new }
     ensures settles { (n k : ℕ) (name : Labels) → n ≤ top → CanSettleAt n k name owners.old → CanSettleAt n k name owners.new }
-    ensures counted { stored.new ≡ stored_in owners.new }
-    ensures bound { (stored.new ≤ stored.old + one_if (not (has_place_for owners.old find)))
-        × AddPair (pair_of find) owners.old owners.new × StayBut find.owner owners.old.entries owners.new.entries }
+    ensures bound { AddAtMost find stored.old owners.old stored.new owners.new }
     ensures free { has_place_for owners.old find ≡ true → IsOk result }
     ensures named { EachCounts owners.old.entries → EachCounts owners.new.entries }
 {
@@ -142,15 +112,9 @@ pub fn open_kinds(
     top: u64,
 ) -> Result<(), NoMemory>
     requires upto { AreUpTo top owners.old }
-    ensures cells { AreSameCells owners.old owners.new }
-    ensures upto { AreUpTo top owners.new }
-    ensures settles { KeepSettling owners.old owners.new }
+    ensures opens { OpenColumns top owners.old owners.new }
     ensures opened { OnOk result (AllByRecursion (λ kind. (n : ℕ) → CanSettleAt n kind owner.now owners.new) kinds.now) }
-    ensures counted { stored_in owners.new ≡ stored_in owners.old }
-    ensures pairs { KeepPairs owners.old owners.new }
-    ensures entries { StayBut owner.now owners.old.entries owners.new.entries
-        × (length owners.new.entries ≡ length owners.old.entries) × (keys_of owners.new.entries ≡ keys_of owners.old.entries) }
-    ensures named { EachCounts owners.old.entries → EachCounts owners.new.entries }
+    ensures entries { KeepNames owner.now owners.old.entries owners.new.entries }
 {
     if let Some(cells) = owners.get_mut(owner) {
         return cells.open_each(kinds, top);
@@ -162,16 +126,10 @@ pub fn open_kinds(
 pub fn settle_kinds(owners: &mut Owners, stored: &mut u64, owner: &Name, kinds: &[u16], number: u64)
     requires settles { AllByRecursion (λ kind. CanSettleAt number kind owner.now owners.old) kinds.now }
     requires counted { stored.old ≡ stored_in owners.old }
-    ensures cells { (q : Question) (v : ℕ) →
-        cell_of owners.new q v ≡
-        cell_of owners.old q (after_settle (name_eq owner.now q.owner && list_any (λ kind. kind == q.kind) kinds.now) number v) }
-    ensures upto { KeepUpTo owners.old owners.new }
-    ensures settles { KeepSettling owners.old owners.new }
-    ensures counted { stored.new ≡ stored_in owners.new }
-    ensures fewer { (stored.new ≤ stored.old) × (length owners.new.entries ≡ length owners.old.entries) }
-    ensures pairs { KeepPairs owners.old owners.new }
-    ensures entries { StayBut owner.now owners.old.entries owners.new.entries
-        × (keys_of owners.new.entries ≡ keys_of owners.old.entries) }
+    ensures cells { AreSettled owner.now kinds.now number owners.old owners.new }
+    ensures gains { GainNothing owners.old owners.new }
+    ensures counted { (stored.new ≡ stored_in owners.new) × (stored.new ≤ stored.old) }
+    ensures entries { KeepNames owner.now owners.old.entries owners.new.entries }
 {
     if let Some(cells) = owners.get_mut(owner) {
         let others = *stored - cells.counted();
@@ -191,13 +149,11 @@ pub fn settle_at(
 ) -> bool
     requires low { place < length owners.old.entries }
     requires counted { stored.old ≡ stored_in owners.old }
-    ensures cells { (top : ℕ) → AreUpTo top owners.old → (q : Question) (v : ℕ) → cell_of owners.new q v ≡
-        cell_of owners.old q (after_settle (name_place q.owner owners.old.entries == place && is_at_or_below q.owner zone.now) number v) }
-    ensures kept { KeepUpTo owners.old owners.new × KeepSettling owners.old owners.new }
+    ensures cells { AreSettledAt place zone.now number owners.old owners.new }
+    ensures gains { GainNothing owners.old owners.new }
     ensures counted { (stored.new ≡ stored_in owners.new) × (stored.new ≤ stored.old) }
-    ensures pairs { KeepPairs owners.old owners.new }
     ensures entries { StayButAt place owners.old.entries owners.new.entries }
-    ensures covered { IfSome (slice_get owners.old.entries place) (λ entry. result ≡ is_at_or_below entry.0 zone.now)
+    ensures covered { IsBelowAt place zone.now owners.old.entries result
         × (result ≡ false → (owners.new ≡ owners.old) × (stored.new ≡ stored.old)) }
 {
     let (name, cells) = owners.pair_mut(place);
@@ -211,14 +167,7 @@ pub fn settle_at(
     true
 }
 
-/// Whether the place of a find is counted already. A place is that of a name and type, or of a whole name.
-pub fn has_place(owners: &Owners, find: &Find) -> bool
-    ensures { result ≡ has_place_for owners.now find.now }
-{
-    has_place_in(owners.get(&find.owner), find.scope)
-}
-
-/// Whether the place of an owner and scope is counted.
+/// Whether the place of an owner and scope is counted. A place is that of a name and type, or of a whole name.
 pub fn has_pair(owners: &Owners, owner: &Name, scope: Scope) -> bool
     ensures { result ≡ has_pair owners.now (owner.now, scope) }
 {
@@ -237,8 +186,7 @@ pub fn has_place_in(cells: Option<&OwnerCells>, scope: Scope) -> bool
 
 /// Whether two versions of a question have the same find from the same moment, or both have none. It takes no memory.
 pub fn is_same(owners: &Owners, owner: &Name, kind: u16, version: u64, other: u64) -> bool
-    ensures { let q : Question = record { owner = owner.now; kind = kind } in
-        result ≡ same_cell (cell_of owners.now q version) (cell_of owners.now q other) }
+    ensures { result ≡ has_same_cell owners.now (record { owner = owner.now; kind = kind }) version other }
 {
     match owners.get(owner) {
         Some(cells) => cells.is_same(kind, version, other),
@@ -246,36 +194,18 @@ pub fn is_same(owners: &Owners, owner: &Name, kind: u16, version: u64, other: u6
     }
 }
 
-/// Removes a name, from every version. It takes no memory.
-pub fn forget(owners: &mut Owners, stored: &mut u64, owner: &Name)
+/// Removes a name, from every version, and returns the place that it had. The last name moves into that. It takes no memory.
+pub fn forget_place(owners: &mut Owners, stored: &mut u64, owner: &Name) -> Option<usize>
     requires counted { stored.old ≡ stored_in owners.old }
+    ensures place { result ≡ position (name_eq owner.now) (keys_of owners.old.entries) }
     ensures gone { (get name_eq owners.new owner.now ≡ None)
         × (owners.new.entries ≡ swap_remove_entry (name_eq owner.now) owners.old.entries) }
     ensures cells { (q : Question) (v : ℕ) →
         cell_of owners.new q v ≡ (if name_eq owner.now q.owner then None else cell_of owners.old q v) }
-    ensures upto { KeepUpTo owners.old owners.new }
-    ensures settles { KeepSettling owners.old owners.new }
+    ensures gains { GainNothing owners.old owners.new }
     ensures counted { stored.new ≡ stored_in owners.new }
     ensures fewer { (stored.new ≤ stored.old)
         × IfSome (get name_eq owners.old owner.now) (λ cells. stored.new + count_of cells ≡ stored.old) }
-    ensures pairs { KeepPairs owners.old owners.new }
-{
-    forget_place(owners, stored, owner);
-}
-
-/// Does the same, and returns the place that the name had. The last name moves into it.
-pub fn forget_place(owners: &mut Owners, stored: &mut u64, owner: &Name) -> Option<usize>
-    requires counted { stored.old ≡ stored_in owners.old }
-    ensures gone { (result ≡ position (name_eq owner.now) (keys_of owners.old.entries)) × (get name_eq owners.new owner.now ≡ None)
-        × (owners.new.entries ≡ swap_remove_entry (name_eq owner.now) owners.old.entries) }
-    ensures cells { (q : Question) (v : ℕ) →
-        cell_of owners.new q v ≡ (if name_eq owner.now q.owner then None else cell_of owners.old q v) }
-    ensures upto { KeepUpTo owners.old owners.new }
-    ensures settles { KeepSettling owners.old owners.new }
-    ensures counted { stored.new ≡ stored_in owners.new }
-    ensures fewer { (stored.new ≤ stored.old)
-        × IfSome (get name_eq owners.old owner.now) (λ cells. stored.new + count_of cells ≡ stored.old) }
-    ensures pairs { KeepPairs owners.old owners.new }
 {
     let (place, _, cells) = owners.swap_remove_full(owner)?;
     *stored -= cells.counted();

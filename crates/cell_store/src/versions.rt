@@ -1,20 +1,19 @@
 //! One change made in each version of a column.
 
-ghost use Rattle.std.specs.Prelude.{◌≡◌, ◌<◌, ◌≤◌, ◌==◌, ℕ, ◌+◌, true, false, max, min, map, if◌then◌else◌, length, drop, slice_index_or};
-ghost use Rattle.std.specs.List.{AllByRecursion, list_any};
-ghost use Rattle.cell_store.specs.Count.{has_find};
+ghost use Rattle.std.specs.Prelude.{◌≡◌, ◌<◌, ◌≤◌, ◌==◌, ℕ, ◌+◌, false, max, min, map, if◌then◌else◌, length, drop, slice_index_or};
+ghost use Rattle.std.specs.List.{AllByRecursion};
+ghost use Rattle.cell_store.specs.Column.{DropsEntries};
 ghost use Rattle.ranked.specs.Find.{admission_of};
 ghost use Rattle.cell_store.specs.Ends.{cell_end, first_end, latest};
-ghost use Rattle.cell_store.specs.Few.{contents, AreRanked, DoDiffer};
-ghost use Rattle.cell_store.specs.Slots.{IsWithin};
+ghost use Rattle.cell_store.specs.Few.{contents, DoDiffer};
 ghost use Rattle.cell_store.specs.Sweep.{swept, version_swept};
 ghost use Rattle.cell_store.specs.Version.{lowered, reached, version_after, place_at, IsFromStart};
 
-use crate::entry::{Entries, Entry};
+use crate::entry::{ColumnEntry, Entries};
 use crate::version::{Place, Slot, Version};
 use ranked::{Cell, Find};
 
-impl Entry {
+impl ColumnEntry {
     // Caches a find, as its place does.
     fn admit(&mut self, find: &Find, slot: Slot, moment: u64, outranked: bool)
         ensures { self.new ≡ version_after (admission_of find.now slot moment) outranked self.old }
@@ -52,7 +51,7 @@ fn lower_each(versions: &mut Entries, number: u64)
 }
 
 // The place of the last entry that starts at version 0.
-fn last_start(versions: &[Entry]) -> usize
+fn last_start(versions: &[ColumnEntry]) -> usize
     requires starts { IsFromStart versions.now }
     ensures within { result < length versions.now }
     ensures start { (d : Version ℕ) → (slice_index_or versions.now result d).from ≡ 0 }
@@ -81,13 +80,9 @@ fn drop_front(versions: &mut Entries, count: usize)
 pub(crate) fn forget_before(versions: &mut Entries, number: u64)
     requires starts { IsFromStart versions.old.items }
     ensures places { (v : ℕ) → place_at versions.new.items v ≡ place_at versions.old.items (max number v) }
-    ensures within { (slots : ℕ) →
-        AllByRecursion (IsWithin slots) versions.old.items → AllByRecursion (IsWithin slots) versions.new.items }
-    ensures fewer { length versions.new.items ≤ length versions.old.items }
+    ensures drops { DropsEntries versions.old.items versions.new.items }
     ensures starts { IsFromStart versions.new.items
         × AllByRecursion (λ version. number < version.from) (drop 1 versions.new.items) }
-    ensures finds { list_any has_find versions.new.items ≡ true → list_any has_find versions.old.items ≡ true }
-    ensures ranked { AreRanked versions.old.items → AreRanked versions.new.items }
     ensures differ { DoDiffer (contents versions.old.items) → DoDiffer (contents versions.new.items) }
 {
     lower_each(versions, number);
@@ -111,7 +106,7 @@ pub(crate) fn admit_each(
 }
 
 // The content in a version.
-pub(crate) fn place_at(versions: &[Entry], number: u64) -> Place<Slot>
+pub(crate) fn place_at(versions: &[ColumnEntry], number: u64) -> Place<Slot>
     ensures { result ≡ place_at versions.now number }
 {
     let mut place = Place {
@@ -150,7 +145,7 @@ pub(crate) fn reach(versions: &mut Entries, upto: u64, top: u64)
     ensures { versions.new.items ≡ reached upto top versions.old.items }
 {
     if upto < top {
-        versions.push(Entry::new(Version {
+        versions.push(ColumnEntry::new(Version {
             from: upto + 1,
             place: Place {
                 left: false,
@@ -183,7 +178,7 @@ pub(crate) fn cell_end(since: u64, ttl: u32) -> u64
 }
 
 // The first moment at which an entry ends.
-pub(crate) fn first_end(versions: &[Entry]) -> u64
+pub(crate) fn first_end(versions: &[ColumnEntry]) -> u64
     ensures { result ≡ first_end versions.now }
 {
     let mut end = u64::MAX;

@@ -10,7 +10,8 @@ use Rattle.command_text.specs.declared.words.Channel.{Channel}
 use Rattle.command_text.specs.declared.words.Channel.TheVariants.{Script, Control}
 use Rattle.command_text.specs.Line.{is_silent, says, takes_memory}
 use Rattle.command_text.specs.Obeying.{Place, DoesUnless, Obeys}
-use Rattle.command_text.specs.Control.{Ticks, Calls, DoesAt, Controls}
+use Rattle.clock.specs.Ticks.{Ticks}
+use Rattle.command_text.specs.Control.{Calls, DoesAt, Controls}
 
 -- two lines that are taken as one where they come from there
 abbrev Same : Channel → List ℕ → List ℕ → Type 0

@@ -1,6 +1,7 @@
 -- Control lines: the effect of each, and its reply.
-use Rattle.std.specs.Prelude.{◌≡◌, ℕ, Bool, true, false, IsTrue, ◌⊎◌, Result, Ok, Err, List, [], codes}
+use Rattle.std.specs.Prelude.{◌≡◌, ℕ, Bool, true, false, IsTrue, ◌⊎◌, Result, Ok, Err, IsErrOf, List, [], codes}
 use Rattle.streams.specs.Split.{with_end}
+use Rattle.clock.specs.Ticks.{Ticks}
 use Rattle.history.specs.declared.event.Event.{Event}
 use Rattle.history.specs.declared.event.Reply.{Reply}
 use Rattle.history.specs.declared.desk.DeskFault.{DeskFault}
@@ -10,14 +11,11 @@ use Rattle.command_text.specs.declared.line.Line.TheVariants.{Silent, Request as
 use Rattle.command_text.specs.declared.fault.LineFault.{LineFault}
 use Rattle.command_text.specs.declared.fault.LineFault.TheVariants.{Unknown, NoMemory}
 use Rattle.command_text.specs.declared.words.Channel.TheVariants.{Control}
+use Rattle.command_text.specs.Fault.{Gives}
 use Rattle.command_text.specs.Request.{event_at}
 use Rattle.command_text.specs.Line.{says, takes_memory}
 use Rattle.command_text.specs.Text.{line_fault_text}
 use Rattle.command_text.specs.Obeying.{IsTextOf}
-
--- One reading of a clock: the clock before, the moment, the clock after.
-abbrev pub Ticks : Type 0 → Type 1
-Ticks C = C → ℕ → C → Type 0
 
 -- One call of a desk: the desk before, the event, its answer, the desk after.
 abbrev pub Calls : Type 0 → Type 1
@@ -37,7 +35,12 @@ pub record IsTold {C D : Type 0} (clock : C) (desk : D) (this text : List ℕ) (
   pub same_clock : clock' ≡ clock
   pub same_desk : desk' ≡ desk
 
--- The effect of a line that is read as this. Only a script has the lines that give moments and finds: here they are unknown commands.
+-- A control line is read as this: as what it says, or it needs memory and there is none.
+abbrev pub IsReadAs : List ℕ → Result Line LineFault → Type 0
+IsReadAs line said = Gives said (says Control line) × (IsErrOf said NoMemory → IsTrue (takes_memory Control line))
+
+-- The effect of a line that is read as this. Only a script has the lines that give moments and finds, and only a service answers
+-- `status` and `stats`: here they are unknown commands.
 abbrev pub DoesAt : {C D : Type 0} → Ticks C → Calls D → C → D → Result Line LineFault → List ℕ → Bool → C → D → Type 0
 DoesAt ticks calls clock desk (Ok Silent) text ends clock' desk' = IsTold clock desk [] text clock' desk' × (ends ≡ false)
 DoesAt ticks calls clock desk (Ok (RequestLine request)) text ends clock' desk' = IsAsked ticks calls clock desk request text clock' desk' × (ends ≡ false)

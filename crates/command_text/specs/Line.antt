@@ -9,12 +9,12 @@ use Rattle.history.specs.declared.event.Move.{Move}
 use Rattle.history.specs.declared.event.Move.TheVariants as move
 use Rattle.history.specs.declared.event.Command.TheVariants.{Flush as FlushCommand, FlushType as FlushTypeCommand, FlushZone as FlushZoneCommand}
 use Rattle.command_text.specs.declared.line.Line.{Line}
-use Rattle.command_text.specs.declared.line.Line.TheVariants.{Silent, At as AtLine, Admit as AdmitLine, Deny as DenyLine, Request as RequestLine, Stop as StopLine}
+use Rattle.command_text.specs.declared.line.Line.TheVariants.{Silent, At as AtLine, Admit as AdmitLine, Deny as DenyLine, Request as RequestLine, Stop as StopLine, Status as StatusLine, Stats as StatsLine}
 use Rattle.command_text.specs.declared.request.Request.TheVariants.{Look as LookRequest, Sweep as SweepRequest, Forget as ForgetRequest, Do as DoRequest, Undo as UndoRequest, Redo as RedoRequest, UndoOf as UndoOfRequest, RedoOf as RedoOfRequest}
 use Rattle.command_text.specs.declared.fault.LineFault.{LineFault}
 use Rattle.command_text.specs.declared.fault.LineFault.TheVariants.{Unknown, BadData, TooLong}
 use Rattle.command_text.specs.declared.words.Verb.{Verb}
-use Rattle.command_text.specs.declared.words.Verb.TheVariants.{At, Admit, NoData, NoName, Forget, Oldest, Look, Servers, Sweep, Flush, FlushType, FlushZone, LocalZone, LocalZoneRemove, LocalData, LocalDataRemove, StubAdd, StubRemove, ListLocalZones, ListLocalData, ListStubs, ListCommands, ListBuried, Undo, Redo, LookUndo, LookRedo, LookWithout, WhatUndo, Stop}
+use Rattle.command_text.specs.declared.words.Verb.TheVariants.{At, Admit, NoData, NoName, Forget, Oldest, Look, Servers, Sweep, Flush, FlushType, FlushZone, LocalZone, LocalZoneRemove, LocalData, LocalDataRemove, StubAdd, StubRemove, ListLocalZones, ListLocalData, ListStubs, ListCommands, ListBuried, Undo, Redo, LookUndo, LookRedo, LookWithout, WhatUndo, Stop, Status, Stats}
 use Rattle.command_text.specs.declared.words.Channel.{Channel}
 use Rattle.command_text.specs.Words.{verb_in}
 use Rattle.command_text.specs.Parts.{word_in, ends, question_words, needs_question, question_in, only_name}
@@ -106,7 +106,7 @@ look_in text = do
 unfoldable pub look_after_in : Move → List ℕ → Result Line LineFault
 look_after_in step text = do
   question ← question_in text
-  Ok (RequestLine (LookRequest (After step question)))
+  Ok (RequestLine (LookRequest (After question step)))
 
 -- `look_without N NAME TYPE`: the same for the undo of the command of a ticket.
 unfoldable pub look_without_in : List ℕ → Result Line LineFault
@@ -115,7 +115,7 @@ look_without_in text = do
   found ← needs_question n.1
   ticket ← ticket_of n.0
   question ← question_in n.1
-  Ok (RequestLine (LookRequest (After (move.UndoOf ticket) question)))
+  Ok (RequestLine (LookRequest (After question (move.UndoOf ticket))))
 
 -- `servers NAME`: the lookup of the servers to ask for a name.
 unfoldable pub servers_in : List ℕ → Result Line LineFault
@@ -209,6 +209,8 @@ said_by LookRedo text = look_after_in move.Redo text
 said_by LookWithout text = look_without_in text
 said_by WhatUndo text = alone (RequestLine (LookRequest NextUndo)) text
 said_by Stop text = alone StopLine text
+said_by Status text = alone StatusLine text
+said_by Stats text = alone StatsLine text
 
 -- Reads a line. It is unknown if it has no word, or if its first word is no command of the channel.
 abbrev pub read_of : Channel → List ℕ → Result Line LineFault
@@ -258,6 +260,8 @@ takes_by LookRedo text = is_ok (question_words text)
 takes_by LookWithout text = is_ok (word_in text >>= λ n. needs_question n.1)
 takes_by WhatUndo text = false
 takes_by Stop text = false
+takes_by Status text = false
+takes_by Stats text = false
 
 abbrev takes_if : Option Verb → List ℕ → Bool
 takes_if None text = false

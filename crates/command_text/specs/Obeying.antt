@@ -11,7 +11,7 @@ use Rattle.history.specs.declared.desk.DeskFault.{DeskFault}
 use Rattle.history.specs.Answers.{Answers, history_after}
 use Rattle.history.specs.Desk.{desk_answer}
 use Rattle.command_text.specs.declared.line.Line.{Line}
-use Rattle.command_text.specs.declared.line.Line.TheVariants.{Silent, At, Admit, Deny, Request, Stop}
+use Rattle.command_text.specs.declared.line.Line.TheVariants.{Silent, At, Admit, Deny, Request, Stop, Status, Stats}
 use Rattle.command_text.specs.declared.fault.LineFault.{LineFault}
 use Rattle.command_text.specs.declared.fault.LineFault.TheVariants.{Unknown, NoMemory}
 use Rattle.command_text.specs.declared.words.Channel.TheVariants.{Script}
@@ -42,7 +42,7 @@ Asks settings place event text next =
 abbrev pub Drops : Place → List ℕ → Place → Type 0
 Drops place text next = (text ≡ line_fault_text NoMemory) × (next ≡ place)
 
--- The effect of a line that is read as this. A script has no `stop`: here it is an unknown command.
+-- The effect of a line that is read as this. A script has no `stop`, `status` or `stats`: here they are unknown commands.
 abbrev pub Does : Settings → Place → Result Line LineFault → List ℕ → Place → Type 0
 Does settings place (Ok Silent) text next = (text ≡ []) × (next ≡ place)
 Does settings place (Ok (At moment)) text next = (text ≡ with_end (codes "ok")) × (next ≡ record { history = place.history; moment = moment })
@@ -50,6 +50,8 @@ Does settings place (Ok (Admit given)) text next = ((find : Find) × IsFindOf gi
 Does settings place (Ok (Deny denied)) text next = ((find : Find) × IsDenialOf denied find × Asks settings place (AdmitEvent place.moment find) text next) ⊎ Drops place text next
 Does settings place (Ok (Request request)) text next = Asks settings place (event_at place.moment request) text next
 Does settings place (Ok Stop) text next = (text ≡ line_fault_text Unknown) × (next ≡ place)
+Does settings place (Ok Status) text next = (text ≡ line_fault_text Unknown) × (next ≡ place)
+Does settings place (Ok Stats) text next = (text ≡ line_fault_text Unknown) × (next ≡ place)
 Does settings place (Err fault) text next = (text ≡ line_fault_text fault) × (next ≡ place)
 
 -- From whatever history the book stands for before, `goes` leads to one that it stands for afterwards, at the moment after.

@@ -8,8 +8,8 @@ ghost use Rattle.streams.specs.Transcript.{paired};
 ghost use Rattle.streams.specs.Engine.{RunsLines, FailsToRead};
 ghost use Rattle.command_text.specs.Control.{Controls};
 
-use crate::clock::Clock;
 use crate::control_line::obey_control;
+use clock::Clock;
 use history::Desk;
 use std::alloc::Global;
 use streams::{Ended, LineReply, Obeyer, ScriptFault, Sink, Source, run_lines};

@@ -2,14 +2,14 @@
 
 ghost use Rattle.std.specs.Prelude.{◌≡◌, false, Ok};
 ghost use Rattle.streams.specs.Text.{octets_in};
-ghost use Rattle.command_text.specs.Control.{IsAsked, DoesAt, Controls};
+ghost use Rattle.command_text.specs.Control.{IsAsked, IsReadAs, DoesAt, Controls};
 
-use crate::clock::Clock;
 use crate::fault::LineFault;
 use crate::line::{Line, is_silent, read_line};
 use crate::request::{Request, event_at};
 use crate::text::{answer_text, line_fault_text};
 use crate::words::Channel;
+use clock::Clock;
 use history::Desk;
 use std::alloc::Global;
 use streams::{LineReply, Text};
@@ -45,6 +45,36 @@ fn obey_line<C: Clock, D: Desk>(alloc: Global, clock: &mut C, desk: &mut D, line
         Line::At { .. } | Line::Admit(_) | Line::Deny(_) => {
             going_on(line_fault_text(LineFault::Unknown))
         }
+        // A service answers these two before they come here.
+        Line::Status | Line::Stats => going_on(line_fault_text(LineFault::Unknown)),
+    }
+}
+
+/// Reads a control line. An empty line or a comment says nothing, however long it is.
+pub fn read_control(alloc: Global, line: &[u8]) -> Result<Line, LineFault>
+    ensures { IsReadAs line.now result }
+{
+    if is_silent(line) {
+        return Ok(Line::Silent);
+    }
+    match read_line(alloc, Channel::Control, line) {
+        Ok(said) => Ok(said),
+        Err(fault) => Err(fault),
+    }
+}
+
+/// Obeys a control line that was read. Returns the reply, and whether the line was `stop`.
+pub fn obey_said<C: Clock, D: Desk>(
+    alloc: Global,
+    clock: &mut C,
+    desk: &mut D,
+    said: Result<Line, LineFault>,
+) -> LineReply
+    ensures { DoesAt C.ticks D.calls clock.old desk.old said (octets_in result.text) result.stops clock.new desk.new }
+{
+    match said {
+        Ok(line) => obey_line(alloc, clock, desk, line),
+        Err(fault) => going_on(line_fault_text(fault)),
     }
 }
 

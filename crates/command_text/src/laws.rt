@@ -27,11 +27,12 @@ pub fn words_are()
     ensures some { (text : List ℕ) → AreWords text (words_of text) }
 {}
 
-/// The control socket does not know the lines that only scripts have, and scripts do not know `stop`, whatever follows the word.
+/// The control socket does not know the lines that only scripts have, and scripts do not know `stop`, `status` and `stats`,
+/// whatever follows the word.
 pub fn channels_are_apart()
     ensures control { AllByRecursion (IsUnknown Control)
         (codes "at" ∷ codes "admit" ∷ codes "nodata" ∷ codes "noname" ∷ codes "forget" ∷ codes "oldest" ∷ []) }
-    ensures script { IsUnknown Script (codes "stop") }
+    ensures script { AllByRecursion (IsUnknown Script) (codes "stop" ∷ codes "status" ∷ codes "stats" ∷ []) }
 {}
 
 /// The line that gives a command is read back as that command, in a script and on the control socket.

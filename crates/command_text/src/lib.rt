@@ -43,8 +43,6 @@ mod text;
 mod obeying;
 // Scripts.
 mod script;
-// The trait of clocks.
-mod clock;
 // The effect of one control line.
 mod control_line;
 // The control socket.
@@ -56,6 +54,7 @@ pub use admission_find::Admission;
 pub use clock::Clock;
 pub use command_words::push_command;
 pub use control::serve_control;
+pub use control_line::{obey_said, read_control};
 pub use denial_find::Denial;
 pub use fault::LineFault;
 pub use laws::{bars_are, channels_are_apart, commands_are_read_back, words_are};

@@ -38,6 +38,10 @@ pub enum Line {
     Request(Request),
     /// Ends the service: no line after it is obeyed. Control only.
     Stop,
+    /// Asks what a service is and holds. Control only, and only a service has the answer.
+    Status,
+    /// Asks for the counters of a service. Control only, and only a service has the answer.
+    Stats,
 }
 
 /// Whether a line is empty or a comment.
@@ -318,6 +322,8 @@ fn read_command(alloc: Global, verb: Verb, text: &[u8]) -> Result<Line, LineFaul
         Verb::LookWithout => read_look_without(alloc, text),
         Verb::WhatUndo => read_alone(Line::Request(Request::Look(Ask::NextUndo)), text),
         Verb::Stop => read_alone(Line::Stop, text),
+        Verb::Status => read_alone(Line::Status, text),
+        Verb::Stats => read_alone(Line::Stats, text),
     }
 }
 

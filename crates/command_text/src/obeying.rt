@@ -95,8 +95,10 @@ fn obey_line<B: Book>(alloc: Global, book: &mut B, moment: &mut u64, line: Line)
         Line::Admit(admission) => obey_admit(alloc, book, *moment, admission),
         Line::Deny(denial) => obey_deny(alloc, book, *moment, denial),
         Line::Request(request) => obey_request(alloc, book, *moment, request),
-        // Unreachable: in a script `read_line` does not know this command.
+        // Unreachable: in a script `read_line` does not know these commands.
         Line::Stop => line_fault_text(LineFault::Unknown),
+        Line::Status => line_fault_text(LineFault::Unknown),
+        Line::Stats => line_fault_text(LineFault::Unknown),
     }
 }
 

@@ -39,6 +39,8 @@ pub(crate) enum Verb {
     LookWithout,
     WhatUndo,
     Stop,
+    Status,
+    Stats,
 }
 
 /// The place that lines come from.
@@ -61,7 +63,7 @@ struct Usage {
     in_control: bool,
 }
 
-static COMMANDS: [Usage; 30] = [
+static COMMANDS: [Usage; 32] = [
     Usage {
         verb: Verb::At,
         word: "at",
@@ -268,6 +270,20 @@ static COMMANDS: [Usage; 30] = [
     Usage {
         verb: Verb::Stop,
         word: "stop",
+        form: "",
+        in_script: false,
+        in_control: true,
+    },
+    Usage {
+        verb: Verb::Status,
+        word: "status",
+        form: "",
+        in_script: false,
+        in_control: true,
+    },
+    Usage {
+        verb: Verb::Stats,
+        word: "stats",
         form: "",
         in_script: false,
         in_control: true,

@@ -1,4 +1,3 @@
-mod Durations
 mod Passing
 mod Reading
 mod Striking

@@ -3,8 +3,8 @@ use Rattle.std.specs.Prelude.{◌≡◌, ◌≤◌, ◌⊎◌, ◌+◌, ℕ, Lis
 use Rattle.std.specs.declared.net.SocketAddr.{SocketAddr}
 use Rattle.mio.specs.declared.token.Token.{Token}
 use Rattle.dns_sockets.specs.declared.name_servers.fitting.TheConstants.{MOST_MISFITS}
-use Rattle.dns_sockets.specs.declared.name_servers.heard.Heard.{Heard}
-use Rattle.dns_sockets.specs.declared.name_servers.heard.Heard.TheVariants.{Nothing, Reply, Misfits}
+use Rattle.dns_sockets.specs.declared.name_servers.heard.UdpHeard.{UdpHeard}
+use Rattle.dns_sockets.specs.declared.name_servers.heard.UdpHeard.TheVariants.{Nothing, Reply, Misfits}
 use Rattle.dns_sockets.specs.Fits.{Fits}
 
 -- the state of an exchange over UDP, as contracts see it
@@ -17,7 +17,7 @@ abbrev pub IsStruckOut : {S : Type 0} → UdpState S → Type 0
 IsStruckOut line = MOST_MISFITS ≤ line.misfits + 1
 
 -- A datagram that does not fit is counted, and the poll reports once more what came after it. Or it is one too many.
-abbrev pub IsStruck : {S : Type 0} → (S → Token → Type 0) → Token → Heard → UdpState S → UdpState S → Type 0
+abbrev pub IsStruck : {S : Type 0} → (S → Token → Type 0) → Token → UdpHeard → UdpState S → UdpState S → Type 0
 IsStruck reported_again token Nothing old new = (new.misfits ≡ old.misfits + 1) × reported_again old.socket token
 IsStruck reported_again token (Reply count) old new = ⊥
 IsStruck reported_again token Misfits old new = IsStruckOut old

@@ -6,7 +6,6 @@ pub mod Failures
 pub mod Fits
 pub mod Heard
 pub mod Line
-pub mod Moments
 pub mod Own
 pub mod Place
 pub mod Ranges

@@ -5,16 +5,8 @@
 
 // The length of a message over TCP.
 mod lengths;
-// Deadlines, and the times that sockets wait and rest.
-mod deadline;
 // Errors of calls that never wait.
-mod waiting;
-// The time since a moment, by the system's monotonic clock.
-mod monotonic;
-// Timeouts of a connection's calls.
-mod timeouts;
-// The flag by which workers stop.
-mod stop_flag;
+mod call_errors;
 // Sockets at which clients' queries come in.
 mod clients;
 // Files whose octets come when another program writes them.
@@ -22,6 +14,7 @@ mod polled_file;
 // Sockets by which queries go out to name servers.
 mod name_servers;
 
+pub use call_errors::would_wait;
 pub use clients::answerable::is_answerable;
 pub use clients::connections::Connections;
 pub use clients::descriptors::lacks_descriptors;
@@ -30,12 +23,12 @@ pub use clients::frame_writer::{FrameWriter, StreamWriter};
 pub use clients::options::{descriptor_limit, takes_octets};
 pub use clients::tcp_binding::{bind_clients, bind_tcp, bind_with_backlog, wake_tcp};
 pub use clients::udp_binding::bind_each;
-pub use deadline::{REST_SECONDS, glance};
-pub use monotonic::{Elapsing, MonotonicClock};
+pub use clock::{Elapsing, MonotonicClock, REST_SECONDS, StopFlag, Timeouts, glance};
+pub use name_servers::fault_line::{WITHHELD, cause_of, log_exchange, log_too_long};
 pub use name_servers::fitting::{MOST_MISFITS, fits};
 pub use name_servers::framed_query::MOST_QUERY;
 pub use name_servers::framed_reply::octets_wanting;
-pub use name_servers::heard::Heard;
+pub use name_servers::heard::UdpHeard;
 pub use name_servers::one_socket::OneSocket;
 pub use name_servers::place::place_of;
 pub use name_servers::range::AddressRange;
@@ -46,6 +39,3 @@ pub use name_servers::tcp_line::TcpLine;
 pub use name_servers::udp_line::UdpLine;
 pub use name_servers::withheld::{MOST_LISTED, is_of_strangers, is_withheld, limits_law};
 pub use polled_file::PolledFile;
-pub use stop_flag::StopFlag;
-pub use timeouts::Timeouts;
-pub use waiting::would_wait;

@@ -24,6 +24,8 @@ pub mod own;
 pub mod range;
 // Servers that are not asked, because of the list that named their address.
 pub mod withheld;
+// The log lines about a question: an exchange that failed, and a reply that no message holds.
+pub mod fault_line;
 // The result of one call that listens to an exchange over UDP.
 pub mod heard;
 // A query and its reply over UDP, without waiting.

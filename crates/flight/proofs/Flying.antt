@@ -21,7 +21,8 @@ use Rattle.iterate.specs.Task.{IsDueAt}
 use Rattle.iterate.specs.Exchanges.{exchanges_of}
 use Rattle.iterate.specs.Wanted.{MayWant, id_drawn, stream_behind}
 use Rattle.rand_core.specs.Stream.{Stream}
-use Rattle.front_workers.specs.Leads.{Calls, Ticks, Draws}
+use Rattle.clock.specs.Ticks.{Ticks}
+use Rattle.front_workers.specs.Leads.{Calls, Draws}
 use Rattle.flight.specs.Asking.{IsAskedBy}
 use Rattle.flight.specs.Flight.{Sent, Hears, CallsSoon, Answered, replied, refused, put_off, came, failed, Flies, begins, goes_on, IsOpen, Awaits, Lands, query_to}
 

@@ -9,7 +9,8 @@ use Rattle.std.specs.Prelude.{Result, Ok, Err}
 use Rattle.std.specs.List.{AllByRecursion}
 use Rattle.shared_book.specs.Calling.{SeatCall, IsJustified}
 use Rattle.shared_book.specs.Pass.{PassState}
-use Rattle.front_workers.specs.Leads.{Calls, Ticks}
+use Rattle.clock.specs.Ticks.{Ticks}
+use Rattle.front_workers.specs.Leads.{Calls}
 use Rattle.dns_text.specs.declared.record.Question.{Question}
 use Rattle.iterate.specs.declared.want.Input.{Input}
 use Rattle.iterate.specs.declared.want.Input.TheVariants.{Reply as Replied}

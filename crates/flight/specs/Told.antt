@@ -8,14 +8,15 @@ use Rattle.iterate.specs.declared.answer.Answer.{Answer}
 use Rattle.iterate.specs.declared.answer.Answer.TheVariants.{Reply as Replies, Silent}
 use Rattle.iterate.specs.declared.answer.Soa.{Soa}
 use Rattle.iterate.specs.declared.answer.AnswerSet.{AnswerSet}
-use Rattle.front_workers.specs.Leads.{Calls, Ticks}
+use Rattle.clock.specs.Ticks.{Ticks}
+use Rattle.front_workers.specs.Leads.{Calls}
 use Rattle.front_workers.specs.Serves.{fault_octets, reply_told, Tells, Written}
 use Rattle.flight.specs.declared.reply.ReplyOctets.{ReplyOctets}
 use Rattle.flight.specs.declared.reply.ReplyOctets.TheVariants.{Header, Message}
 use Rattle.flight.specs.declared.outside.Listened.{Listened}
 use Rattle.flight.specs.declared.outside.Listened.TheVariants.{Anew, Came, Broken, NoMemory, Nothing}
-use Rattle.flight.specs.declared.refused.Heard.{Heard}
-use Rattle.flight.specs.declared.refused.Heard.TheVariants.{Anew as HeardAnew, Came as HeardCame, Broken as HeardBroken, NoMemory as HeardNoMemory, Nothing as HeardNothing}
+use Rattle.flight.specs.declared.refused.HeardOrRefused.{HeardOrRefused}
+use Rattle.flight.specs.declared.refused.HeardOrRefused.TheVariants.{Anew as HeardAnew, Came as HeardCame, Broken as HeardBroken, NoMemory as HeardNoMemory, Nothing as HeardNothing}
 use Rattle.flight.specs.Flight.{Hears, Lands}
 
 -- The octets of a client over this transport may get this reply: the one that reports their fault, or the one that spells an answer in which their question ended. Its task began when the desk knew of so many calls.
@@ -32,7 +33,7 @@ pub data IsUntold {D C : Type 0} (calls : Calls D) (seen : D → ℕ) (hears : H
   silent : {query : Query} → AsksFor m (Good query) → Lands calls seen hears ticks since port query.question Silent → IsUntold calls seen hears ticks since port m
 
 -- what listening gave, without what was refused
-abbrev pub listened_of : Heard → Listened
+abbrev pub listened_of : HeardOrRefused → Listened
 listened_of HeardNothing = Nothing
 listened_of (HeardCame octets) = Came octets
 listened_of HeardBroken = Broken

@@ -5,7 +5,7 @@ ghost use Rattle.iterate.specs.declared.want.Want.{Want};
 ghost use Rattle.flight.specs.Asking.{IsCalled};
 ghost use Rattle.flight.specs.Flight.{Answered};
 
-use crate::line::InFlight;
+use crate::in_flight::InFlight;
 use crate::numbered::Numbered;
 use crate::refused::WorkerTask;
 use dns_wire::Query;

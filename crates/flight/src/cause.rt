@@ -8,13 +8,13 @@ ghost use Rattle.flight.specs.Places.{HasPlace};
 ghost use Rattle.flight.specs.declared.cause.Unserved.TheVariants.{Elsewhere, NoMemory, TooLarge, TooLong, TooMany};
 
 use crate::asking::Asking;
+use crate::in_flight::InFlight;
 use crate::kept::MOST_AT_REST;
-use crate::line::InFlight;
 use crate::numbered::Numbered;
 use crate::outside::{Client, Outside};
 use crate::refused::Refused;
 use crate::table::{LAST_BEGINNING, Table};
-use command_text::Clock;
+use clock::Clock;
 use rand_core::Rng;
 
 /// The reason for a SERVFAIL that is not the answer to the question.

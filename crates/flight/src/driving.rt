@@ -16,13 +16,13 @@ ghost use Rattle.iterate.specs.declared.want.Want.{Want};
 use crate::asking::{Asking, ask_soon};
 use crate::cause::Cause;
 use crate::engine::Flight;
+use crate::in_flight::InFlight;
 use crate::job::Job;
-use crate::line::InFlight;
 use crate::numbered::Numbered;
 use crate::outside::{Client, Outside};
-use crate::refused::{Heard, hear};
+use crate::refused::{HeardOrRefused, hear};
 use crate::telling::{refuse, tell};
-use command_text::Clock;
+use clock::Clock;
 use dns_text::Octets;
 use iterate::{Allowance, Input, Want, due_law};
 use rand_core::Rng;
@@ -55,7 +55,7 @@ impl<D: Numbered, L: InFlight, C: Clock, G: Rng, K: Client> Flight<D, L, C, G, K
         } = job;
         let heard = hear::<D, L, C, K, O>(outside, &mut line);
         match &heard {
-            Heard::Nothing => outside.expire(line),
+            HeardOrRefused::Nothing => outside.expire(line),
             _ => drop(line),
         }
         self.go_on(desk, outside, now, asking, octets, heard);
@@ -70,7 +70,7 @@ impl<D: Numbered, L: InFlight, C: Clock, G: Rng, K: Client> Flight<D, L, C, G, K
         now: u64,
         asking: Asking<G, K>,
         octets: Octets,
-        heard: Heard,
+        heard: HeardOrRefused,
     )
         requires asked { IsAskedBy K.sent asking.port octets asking.client asking.query asking.task }
         requires heard { HasHeard D.calls D.seen L.hears C.ticks (K.since asking.client) asking.port asking.query.question
@@ -83,7 +83,7 @@ impl<D: Numbered, L: InFlight, C: Clock, G: Rng, K: Client> Flight<D, L, C, G, K
             desk.old self.old (O.outbox outside.old) desk.new self.new (O.outbox outside.new) }
     {
         let input = match heard {
-            Heard::Came(reply) => {
+            HeardOrRefused::Came(reply) => {
                 let allowance = match asking.task.hunt() {
                     Some(hunt) => outside.allowance(&hunt.servers.get().zone),
                     None => Allowance::full(),
@@ -93,14 +93,14 @@ impl<D: Numbered, L: InFlight, C: Clock, G: Rng, K: Client> Flight<D, L, C, G, K
                     allowance,
                 }
             }
-            Heard::Nothing => Input::Failed,
-            Heard::Broken => Input::Failed,
-            Heard::NoMemory(refused) => {
+            HeardOrRefused::Nothing => Input::Failed,
+            HeardOrRefused::Broken => Input::Failed,
+            HeardOrRefused::NoMemory(refused) => {
                 let cause = Cause::no_memory(refused);
                 refuse::<D, L, C, G, K, O>(outside, asking, octets.as_slice(), cause);
                 return;
             }
-            Heard::Anew => {
+            HeardOrRefused::Anew => {
                 self.begin_again(desk, outside, now, asking, octets.as_slice());
                 return;
             }

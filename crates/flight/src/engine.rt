@@ -13,16 +13,16 @@ ghost use Rattle.flight.specs.Waiting.{EarlyGoOn, IsPatient, IsPatientUntil, IsT
 ghost use Rattle.flight.specs.Waiting.{exchange_at, outstanding, since_at, time_left};
 
 use crate::cause::Cause;
+use crate::in_flight::InFlight;
 use crate::job::Job;
 use crate::kept::{MOST_ALL_KEPT, MOST_AT_REST};
-use crate::line::InFlight;
 use crate::numbered::Numbered;
 use crate::outside::{Client, Outside};
-use crate::refused::{Heard, hear, read_question};
+use crate::refused::{HeardOrRefused, hear, read_question};
 use crate::reply::ReplyOctets;
 use crate::table::{PATIENCE, QUESTION_PATIENCE, Table};
 use crate::telling::{fault_of, give_up};
-use command_text::Clock;
+use clock::Clock;
 use dns_wire::{Asked, one_verdict};
 use rand_core::Rng;
 use std::alloc::Global;
@@ -161,7 +161,7 @@ impl<D: Numbered, L: InFlight, C: Clock, G: Rng, K: Client> Flight<D, L, C, G, K
             clock,
         } = job;
         match hear::<D, L, C, K, O>(outside, &mut line) {
-            Heard::Nothing => self.table.put_back(Job {
+            HeardOrRefused::Nothing => self.table.put_back(Job {
                 asking,
                 octets,
                 line,

@@ -1,11 +1,11 @@
 //! A client's question that waits for the reply to an upstream query.
 
 use crate::asking::Asking;
-use crate::line::InFlight;
+use crate::in_flight::InFlight;
 use crate::numbered::Numbered;
 use crate::outside::Client;
 use crate::zone::zone_octets;
-use command_text::Clock;
+use clock::Clock;
 use dns_text::Octets;
 use rand_core::Rng;
 use std::marker::{Model, PhantomData};

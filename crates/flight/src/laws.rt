@@ -2,9 +2,9 @@
 
 ghost use Rattle.flight.specs.Laws.{NumbersNeverFall, ReceiptsAreLater, ReceiptsRise};
 
-use crate::line::InFlight;
+use crate::in_flight::InFlight;
 use crate::numbered::Numbered;
-use command_text::Clock;
+use clock::Clock;
 use history::{Book, Desk};
 use shared_book::{CallLedger, Seat};
 use std::sync::Wait;

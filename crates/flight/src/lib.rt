@@ -7,7 +7,7 @@
 // A desk that numbers its calls.
 mod numbered;
 // An exchange under way with a name server.
-mod line;
+mod in_flight;
 // The counters of a worker.
 mod counts;
 // The octets of a reply.
@@ -43,9 +43,9 @@ mod laws;
 pub use cause::{Cause, Unserved};
 pub use counts::Counts;
 pub use engine::Flight;
+pub use in_flight::InFlight;
 pub use kept::{MOST_ALL_KEPT, MOST_AT_REST, MOST_KEPT, kept_law};
 pub use laws::{fall_law, later_law, rise_law};
-pub use line::InFlight;
 pub use numbered::Numbered;
 pub use outside::{Client, Listened, Outside};
 pub use reply::ReplyOctets;

@@ -14,10 +14,10 @@ ghost use Rattle.flight.specs.Flight.{query_to};
 ghost use Rattle.flight.specs.Told.{octets_of, IsHeard, IsTold, IsUntold, Keeps};
 
 use crate::cause::Cause;
-use crate::line::InFlight;
+use crate::in_flight::InFlight;
 use crate::numbered::Numbered;
 use crate::reply::ReplyOctets;
-use command_text::Clock;
+use clock::Clock;
 use dns_name::Name;
 use dns_query::Over;
 use dns_text::{Addr, Octets, Shared};

@@ -18,11 +18,11 @@ ghost use Rattle.iterate.specs.Told.{IsFit};
 ghost use Rattle.flight.specs.Counted.{CountsListened};
 ghost use Rattle.flight.specs.Told.{listened_of, IsHeard, Keeps};
 
-use crate::line::InFlight;
+use crate::in_flight::InFlight;
 use crate::numbered::Numbered;
 use crate::outside::{Client, Listened, Outside};
 use crate::table::Wait;
-use command_text::Clock;
+use clock::Clock;
 use dns_query::Over;
 use dns_text::{Octets, Question};
 use dns_wire::{Asked, Query};
@@ -45,7 +45,7 @@ pub(crate) struct Refused {
 
 /// The result of listening to an exchange, as `Listened` is, with the refusal if there is no memory for what came.
 #[derive(Drop)]
-pub(crate) enum Heard {
+pub(crate) enum HeardOrRefused {
     Nothing,
     Came(Octets),
     Broken,
@@ -57,7 +57,7 @@ pub(crate) enum Heard {
 pub(crate) fn hear<D: Numbered, L: InFlight, C: Clock, K: Client, O: Outside<D, L, C, K>>(
     outside: &mut O,
     line: &mut L,
-) -> Heard
+) -> HeardOrRefused
     ensures heard { IsHeard (L.hears (L.asked line.old)) (listened_of result) }
     ensures asked { L.asked line.new ≡ L.asked line.old }
     ensures watched { L.key line.new ≡ L.key line.old }
@@ -67,11 +67,11 @@ pub(crate) fn hear<D: Numbered, L: InFlight, C: Clock, K: Client, O: Outside<D, 
     ensures keeps { Keeps O.server_port O.outbox outside.old outside.new }
 {
     match outside.hear(line) {
-        Listened::Nothing => Heard::Nothing,
-        Listened::Came(octets) => Heard::Came(octets),
-        Listened::Broken => Heard::Broken,
-        Listened::NoMemory => Heard::NoMemory(Refused { by: AllocError }),
-        Listened::Anew => Heard::Anew,
+        Listened::Nothing => HeardOrRefused::Nothing,
+        Listened::Came(octets) => HeardOrRefused::Came(octets),
+        Listened::Broken => HeardOrRefused::Broken,
+        Listened::NoMemory => HeardOrRefused::NoMemory(Refused { by: AllocError }),
+        Listened::Anew => HeardOrRefused::Anew,
     }
 }
 

@@ -15,15 +15,14 @@ ghost use Rattle.flight.specs.declared.cause.Unserved.TheVariants.{TooLarge, Too
 
 use crate::asking::Asking;
 use crate::cause::Cause;
+use crate::in_flight::InFlight;
 use crate::job::Job;
 use crate::kept::{MOST_ALL_KEPT, MOST_KEPT, kept_in};
-use crate::line::InFlight;
 use crate::numbered::Numbered;
 use crate::outside::Client;
 use crate::refused::reserve;
-use command_text::Clock;
+use clock::{Clock, PATIENCE_SECONDS};
 use dns_text::Octets;
-use front_workers::PATIENCE_SECONDS;
 use rand_core::Rng;
 use slab::Slab;
 use std::alloc::Global;
@@ -64,7 +63,7 @@ pub(crate) struct Wait {
 
 /// What a question that may wait takes with it.
 #[derive(Drop)]
-pub(crate) struct Room {
+pub(crate) struct MadeRoom {
     /// The octets of its client.
     pub(crate) octets: Octets,
     /// The octets that its steps keep.
@@ -179,7 +178,7 @@ impl<D: Numbered, L: InFlight, C: Clock, G: Rng, K: Client> Table<D, L, C, G, K>
         now: u64,
         asking: &Asking<G, K>,
         octets: &[u8],
-    ) -> Result<Room, Cause>
+    ) -> Result<MadeRoom, Cause>
         requires { WantsSend D.calls D.seen L.hears C.ticks K.since asking.now }
         ensures room { OnOk result (HasRoomFor self.new.jobs 1) }
         ensures queue_room { OnOk result (deque_len self.new.waits < deque_capacity self.new.waits) }
@@ -207,7 +206,7 @@ impl<D: Numbered, L: InFlight, C: Clock, G: Rng, K: Client> Table<D, L, C, G, K>
             return Err(Cause::too_large(self, asking));
         }
         match reserve(self.alloc, octets, &mut self.waits, &mut self.jobs) {
-            Ok(octets) => Ok(Room { octets, kept }),
+            Ok(octets) => Ok(MadeRoom { octets, kept }),
             Err(refused) => Err(Cause::no_memory(refused)),
         }
     }

@@ -15,13 +15,13 @@ ghost use Rattle.flight.specs.Told.{IsGiven};
 
 use crate::asking::Asking;
 use crate::cause::Cause;
+use crate::in_flight::InFlight;
 use crate::job::Job;
-use crate::line::InFlight;
 use crate::numbered::Numbered;
 use crate::outside::{Client, Outside};
 use crate::refused::write_answer;
 use crate::reply::ReplyOctets;
-use command_text::Clock;
+use clock::Clock;
 use dns_wire::{Query, Rcode, fault_reply};
 use iterate::Answer;
 use rand_core::Rng;

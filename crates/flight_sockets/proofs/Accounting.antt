@@ -11,7 +11,7 @@ use Rattle.flight_sockets.specs.Accounts.{WorkerState, Accounts, GoesOn, KeepsTi
 use Rattle.flight_sockets.specs.Asking.{AskingState}
 use Rattle.flight_sockets.specs.Endings.{Endings}
 use Rattle.mio.specs.declared.event.event.Event.{Event}
-use Rattle.dns_sockets.specs.Moments.{ClockState, millis_at}
+use Rattle.clock.specs.Moments.{ClockState, millis_at}
 use Rattle.flight_sockets.specs.Moves.{AllMoved, Datagram, Moves}
 use Rattle.flight_sockets.specs.Outgoing.{OutboxState, Posts}
 use Rattle.flight_sockets.proofs.Posting.{clients_then, endings_none, leaving_then, posts_none, posts_taken, posts_then}

@@ -1,7 +1,7 @@
 -- How a worker that takes messages by connections goes on.
 use Rattle.std.proofs.Common.{◌≡◌, ◌∙◌, ◌≤◌, ℕ, List, [], ◌∷◌, ap, inl, inr, refl, subst, sym, arith}
 use Rattle.mio.specs.declared.event.event.Event.{Event}
-use Rattle.dns_sockets.specs.Moments.{ClockState}
+use Rattle.clock.specs.Moments.{ClockState}
 use Rattle.front_workers.specs.Counts.{Rises}
 use Rattle.front_workers.specs.Framing.{HasLength}
 use Rattle.flight.specs.declared.counts.Counts.{Counts}

@@ -12,8 +12,8 @@ use Rattle.dns_sockets.specs.Line.{LineState}
 use Rattle.flight.specs.declared.outside.Listened.{Listened}
 use Rattle.flight.specs.declared.outside.Listened.TheVariants.{Anew, Nothing, Came, Broken, NoMemory}
 use Rattle.flight.specs.Told.{IsHeard}
-use Rattle.flight_sockets.specs.declared.transport.Way.{Way}
-use Rattle.flight_sockets.specs.declared.transport.Way.TheVariants.{Udp, Tcp, Waiting, Closed}
+use Rattle.flight_sockets.specs.declared.transport.Transport.{Transport}
+use Rattle.flight_sockets.specs.declared.transport.Transport.TheVariants.{Udp, Tcp, Waiting, Closed}
 use Rattle.flight_sockets.specs.Exchanges.{ExchangeState, AsksOn, HasMisfit, HasNoneYet, IsBroken, IsCutOff, IsDearReply, IsQuiet, IsStruck, IsUnderWay, OnUnbroken, WentOn}
 use Rattle.flight_sockets.specs.Exchanges.IsBroken.{cut_off, had_ended, too_dear}
 use Rattle.flight_sockets.specs.Replies.{IfCame, IsReply, IsWholeReply, MayCome}
@@ -45,7 +45,7 @@ heard_on opened sent came connected reported contents remaining exchange query o
 
 -- An exchange whose way has none yet is quiet.
 pub quiet : {S C : Type 0} (opened : S → SocketAddr → Type 0) (reported : S → Token → Type 0) (sent : S → List ℕ → Type 0) (connected : C → SocketAddr → Type 0) (reported' : C → Token → Type 0)
-    (contents remaining : C → Option (List ℕ)) (drained : S → Type 0) (again : S → Token → Type 0) (exchange : ExchangeState) (way : Way S C)
+    (contents remaining : C → Option (List ℕ)) (drained : S → Type 0) (again : S → Token → Type 0) (exchange : ExchangeState) (way : Transport S C)
     → IsUnderWay opened reported sent connected reported' contents remaining exchange way → HasNoneYet drained again exchange.token way → IsQuiet sent drained again exchange
 quiet opened reported sent connected reported' contents remaining drained again exchange (Udp line) under none over = (line.socket, under.asks, none)
 quiet opened reported sent connected reported' contents remaining drained again exchange (Tcp line) under none over =
@@ -55,7 +55,7 @@ quiet opened reported sent connected reported' contents remaining drained again 
 
 -- Whether an exchange has ended changes nothing of its way.
 pub under_as : {S C : Type 0} (opened : S → SocketAddr → Type 0) (reported : S → Token → Type 0) (sent : S → List ℕ → Type 0) (connected : C → SocketAddr → Type 0) (reported' : C → Token → Type 0)
-    (contents remaining : C → Option (List ℕ)) (exchange : ExchangeState) (ended : Bool) (way : Way S C)
+    (contents remaining : C → Option (List ℕ)) (exchange : ExchangeState) (ended : Bool) (way : Transport S C)
     → IsUnderWay opened reported sent connected reported' contents remaining exchange way
     → IsUnderWay opened reported sent connected reported' contents remaining (record exchange { ended = ended }) way
 under_as opened reported sent connected reported' contents remaining exchange ended (Udp line) under =
@@ -87,7 +87,7 @@ dear may sent came failed exchange Anew is long = absurd long
 
 -- An exchange to whose socket a datagram came that does not fit is struck.
 pub struck : {S C : Type 0} (opened : S → SocketAddr → Type 0) (reported : S → Token → Type 0) (sent came : S → List ℕ → Type 0) (connected : C → SocketAddr → Type 0) (reported' : C → Token → Type 0)
-    (contents remaining : C → Option (List ℕ)) (exchange : ExchangeState) (way : Way S C)
+    (contents remaining : C → Option (List ℕ)) (exchange : ExchangeState) (way : Transport S C)
     → IsUnderWay opened reported sent connected reported' contents remaining exchange way → HasMisfit came exchange.asked.query way → IsStruck sent came exchange
 struck opened reported sent came connected reported' contents remaining exchange (Udp line) under misfit = (line.socket, misfit.0, under.asks, misfit.1, misfit.2)
 struck opened reported sent came connected reported' contents remaining exchange (Tcp line) under misfit = absurd misfit

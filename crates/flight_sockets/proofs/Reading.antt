@@ -3,7 +3,7 @@ use Rattle.std.proofs.Common.{◌≤◌, ℕ, arith}
 use Rattle.std.specs.Prelude.{Option, Some, None}
 use Rattle.std.specs.declared.time.Duration.{Duration}
 use Rattle.std.specs.declared.time.Instant.{Instant}
-use Rattle.dns_sockets.specs.Moments.{ClockState, IsRead, moment_after}
+use Rattle.clock.specs.Moments.{ClockState, IsRead, moment_after}
 use Rattle.flight_sockets.specs.Patience.{AreRead, IsReadOn, once_more, unread}
 
 -- A clock that is read does not go back.

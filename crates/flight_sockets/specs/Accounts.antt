@@ -2,7 +2,7 @@
 use Rattle.std.specs.Prelude.{◌≡◌, ◌⊎◌, ◌≤◌, ℕ, ◌+◌, ◌-◌, ◌^◌, max, [], List}
 use Rattle.std.specs.declared.time.Instant.{Instant}
 use Rattle.mio.specs.declared.event.event.Event.{Event}
-use Rattle.dns_sockets.specs.Moments.{ClockState, millis_at}
+use Rattle.clock.specs.Moments.{ClockState, millis_at}
 use Rattle.flight.specs.declared.counts.Counts.{Counts}
 use Rattle.flight.specs.Bounds.{IsBounded}
 use Rattle.flight.specs.Counted.{NeverFall, IsFull, no_counts}

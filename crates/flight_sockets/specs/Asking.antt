@@ -2,7 +2,7 @@
 use Rattle.std.specs.Prelude.{◌≡◌, ℕ, List}
 use Rattle.std.specs.declared.net.SocketAddr.{SocketAddr}
 use Rattle.dns_sockets.specs.declared.name_servers.range.AddressRange.{AddressRange}
-use Rattle.flight_sockets.specs.declared.asking.Asking.{Asking}
+use Rattle.flight_sockets.specs.declared.asking.AskingTerms.{AskingTerms}
 
 -- how a worker asks name servers
 pub record AskingState : Type 0 where
@@ -11,7 +11,7 @@ pub record AskingState : Type 0 where
   pub do_not_query : List AddressRange  -- the addresses that are queried only as those of stubs or hints
 
 -- so asks a worker whose service listens at this address
-abbrev pub asking_at : SocketAddr → Asking → AskingState
+abbrev pub asking_at : SocketAddr → AskingTerms → AskingState
 asking_at place asking = record { server_port = asking.server_port; place = place; do_not_query = asking.do_not_query.now }
 
 -- the outbox of a worker, and how it asks name servers

@@ -2,7 +2,7 @@
 use Rattle.std.specs.Prelude.{◌≡◌, ℕ, Option, Some, None, List, [], ◌∷◌, take}
 use Rattle.std.specs.List.{AllByRecursion}
 use Rattle.std.specs.declared.net.SocketAddr.{SocketAddr}
-use Rattle.front_workers.specs.declared.port.Came.{Came}
+use Rattle.front_workers.specs.declared.came.Came.{Came}
 use Rattle.front_workers.specs.Counts.{Rises}
 use Rattle.flight.specs.Leaving.{Ends}
 use Rattle.flight.specs.Waiting.{FlightState, outstanding}

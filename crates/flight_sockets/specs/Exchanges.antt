@@ -16,9 +16,9 @@ use Rattle.flight.specs.declared.outside.Listened.{Listened}
 use Rattle.flight.specs.declared.outside.Listened.TheVariants.{Anew, Broken, Came, Nothing}
 use Rattle.flight.specs.Flight.{Sent}
 use Rattle.flight_sockets.specs.Replies.{IsTooDear}
-use Rattle.flight_sockets.specs.declared.transport.Way.{Way}
+use Rattle.flight_sockets.specs.declared.transport.Transport.{Transport}
 use Rattle.flight_sockets.specs.declared.flaw.Flaw.{Flaw}
-use Rattle.flight_sockets.specs.declared.transport.Way.TheVariants.{Udp, Tcp, Waiting, Closed}
+use Rattle.flight_sockets.specs.declared.transport.Transport.TheVariants.{Udp, Tcp, Waiting, Closed}
 
 -- the visible state of an exchange
 pub record ExchangeState : Type 0 where
@@ -55,21 +55,21 @@ WentOn {C} contents remaining old new = (fresh : C) → WentFrom contents remain
 
 -- The state of an exchange, by its transport. One that has no transport yet waits. Nothing is said of one that has ended.
 abbrev pub IsUnderWay : {S C : Type 0} → (S → SocketAddr → Type 0) → (S → Token → Type 0) → (S → List ℕ → Type 0) → (C → SocketAddr → Type 0) → (C → Token → Type 0) → (C → Option (List ℕ)) → (C → Option (List ℕ))
-    → ExchangeState → Way S C → Type 0
+    → ExchangeState → Transport S C → Type 0
 IsUnderWay opened reported sent connected reported' contents remaining exchange (Udp line) = AsksBy opened reported sent exchange line.socket
 IsUnderWay opened reported sent connected reported' contents remaining exchange (Tcp line) = AsksOn connected reported' contents remaining exchange line
 IsUnderWay opened reported sent connected reported' contents remaining exchange Waiting = exchange.waits ≡ true
 IsUnderWay opened reported sent connected reported' contents remaining exchange Closed = Unit {0}
 
 -- The socket of an exchange over UDP had nothing more, or the poll will report it once more.
-abbrev pub HasNoneYet : {S C : Type 0} → (S → Type 0) → (S → Token → Type 0) → Token → Way S C → Type 0
+abbrev pub HasNoneYet : {S C : Type 0} → (S → Type 0) → (S → Token → Type 0) → Token → Transport S C → Type 0
 HasNoneYet drained reported_again token (Udp line) = drained line.socket ⊎ reported_again line.socket token
 HasNoneYet drained reported_again token (Tcp line) = Unit {0}
 HasNoneYet drained reported_again token Waiting = ⊥
 HasNoneYet drained reported_again token Closed = ⊥
 
 -- whether an exchange has ended, by its transport
-abbrev pub is_ended : {S C : Type 0} → Way S C → Bool
+abbrev pub is_ended : {S C : Type 0} → Transport S C → Bool
 is_ended Closed = true
 is_ended _ = false
 
@@ -78,7 +78,7 @@ abbrev pub IsCutOff : {S : Type 0} → (S → List ℕ → Type 0) → (S → Ty
 IsCutOff {S} sent failed exchange = exchange.asked.over ≡ OverUdp → (socket : S) × sent socket exchange.asked.query × failed socket
 
 -- Over UDP a datagram came that cannot be the reply to the query.
-abbrev pub HasMisfit : {S C : Type 0} → (S → List ℕ → Type 0) → List ℕ → Way S C → Type 0
+abbrev pub HasMisfit : {S C : Type 0} → (S → List ℕ → Type 0) → List ℕ → Transport S C → Type 0
 HasMisfit came query (Udp line) = (octets : List ℕ) × came line.socket octets × ¬ (Fits query octets)
 HasMisfit came query _ = ⊥
 

@@ -2,7 +2,7 @@
 use Rattle.std.specs.Prelude.{◌≤◌, ℕ, ◌*◌, min, Option, Some, None}
 use Rattle.std.specs.declared.time.Duration.{Duration}
 use Rattle.std.specs.declared.time.Instant.{Instant}
-use Rattle.dns_sockets.specs.Moments.{ClockState, IsRead, millis_at}
+use Rattle.clock.specs.Moments.{ClockState, IsRead, millis_at}
 use Rattle.flight.specs.declared.kept.TheConstants.{MOST_AT_REST}
 use Rattle.flight.specs.declared.table.TheConstants.{PATIENCE, QUESTION_PATIENCE}
 use Rattle.flight.specs.Bounds.{kept_all}

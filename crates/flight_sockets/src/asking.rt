@@ -7,7 +7,7 @@ use std::sync::atomic::AtomicU64;
 
 /// How the workers of a service ask name servers. All of them share it.
 #[derive(Clone, Copy)]
-pub struct Asking<'a> {
+pub struct AskingTerms<'a> {
     /// The port at which servers are queried whose addresses are learnt.
     pub server_port: u16,
     /// The addresses that are queried only as those of stubs or hints.

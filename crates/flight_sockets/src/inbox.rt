@@ -35,7 +35,7 @@ pub(crate) enum Arrival<S> {
 
 /// A room for one datagram.
 #[derive(Drop)]
-pub(crate) struct Slot<S: ServiceSocket> {
+pub(crate) struct InboxSlot<S: ServiceSocket> {
     /// The datagram that fills the front of the room. The field is before the room, next to the octets that are read first.
     came: Option<Came>,
     pub(crate) room: [u8; DATAGRAM_ROOM],
@@ -43,10 +43,10 @@ pub(crate) struct Slot<S: ServiceSocket> {
     ghost came_so: { ∥ IfSome came (λ c. CameBy S.takes c.peer (take c.count room)) ∥₁ },
 }
 
-impl<S: ServiceSocket> Slot<S> {
+impl<S: ServiceSocket> InboxSlot<S> {
     /// An empty room.
-    fn new() -> Slot<S> {
-        Slot {
+    fn new() -> InboxSlot<S> {
+        InboxSlot {
             came: None,
             room: [0; DATAGRAM_ROOM],
             socket: PhantomData,
@@ -88,7 +88,7 @@ impl<S: ServiceSocket> Slot<S> {
 /// A batch of datagrams that have come in.
 #[derive(Drop)]
 pub(crate) struct Inbox<S: ServiceSocket> {
-    slots: Vec<Slot<S>>,
+    slots: Vec<InboxSlot<S>>,
     /// The number of slots, from the first on, that have a datagram.
     filled: usize,
     ghost whole: { vec_len slots ≡ BATCH },
@@ -106,7 +106,7 @@ impl<S: ServiceSocket> Inbox<S> {
     {
         let mut slots = Vec::new(alloc);
         for _ in 0..BATCH {
-            slots.push(Slot::new())?;
+            slots.push(InboxSlot::new())?;
         }
         Ok(Inbox { slots, filled: 0 })
     }
@@ -130,7 +130,7 @@ impl<S: ServiceSocket> Inbox<S> {
     }
 
     /// The datagrams of the inbox, in the order in which they came.
-    pub fn datagrams(&self) -> &[Slot<S>]
+    pub fn datagrams(&self) -> &[InboxSlot<S>]
         ensures { result.now ≡ take self.now.filled self.now.slots.items }
     {
         &self.slots[..self.filled]

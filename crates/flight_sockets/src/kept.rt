@@ -12,7 +12,7 @@ use std::hash::Hash;
 const MOST_LOOKED_AT: usize = 8;
 
 /// A note that matters until a moment.
-pub(crate) trait Ends: Drop {
+pub(crate) trait Expires: Drop {
     /// That moment.
     ghost until: { Self → ℕ };
 
@@ -22,11 +22,11 @@ pub(crate) trait Ends: Drop {
 }
 
 /// A table of notes. Strangers choose the keys, so their hashes are seeded.
-pub(crate) type Kept<K, V> = IndexMap<K, V, NameSeed>;
+pub(crate) type Notes<K, V> = IndexMap<K, V, NameSeed>;
 
 /// The place of a note that has ended, among the next few behind the cursor. The cursor goes on, round and round.
-fn free_place<K: Eq + Hash, V: Ends>(
-    kept: &Kept<K, V>,
+fn free_place<K: Eq + Hash, V: Expires>(
+    kept: &Notes<K, V>,
     cursor: &mut usize,
     now: u64,
 ) -> Option<usize>
@@ -48,8 +48,8 @@ fn free_place<K: Eq + Hash, V: Ends>(
 }
 
 /// Makes room for one more note in a full table: a note that has ended goes. Returns whether there is room.
-fn make_room<K: Eq + Hash + Drop, V: Ends>(
-    kept: &mut Kept<K, V>,
+fn make_room<K: Eq + Hash + Drop, V: Expires>(
+    kept: &mut Notes<K, V>,
     cursor: &mut usize,
     most: usize,
     now: u64,
@@ -70,8 +70,8 @@ fn make_room<K: Eq + Hash + Drop, V: Ends>(
 }
 
 /// Adds a note under a new key. If there is no room, or no memory, it is not remembered.
-pub(crate) fn add<K: Eq + Hash + Drop, V: Ends>(
-    kept: &mut Kept<K, V>,
+pub(crate) fn add<K: Eq + Hash + Drop, V: Expires>(
+    kept: &mut Notes<K, V>,
     cursor: &mut usize,
     most: usize,
     key: K,

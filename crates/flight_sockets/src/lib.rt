@@ -15,8 +15,6 @@ mod listener;
 mod network;
 // The client of a datagram, which waits for its reply.
 mod client;
-// The line of the log for an exchange that failed.
-mod fault_line;
 // What is wrong with what came of an exchange.
 mod flaw;
 // The transport of an exchange.
@@ -82,8 +80,8 @@ mod udp_worker;
 // Messages that come by connections of clients.
 mod tcp;
 
-pub use asking::Asking;
-pub use fault_line::cause_of;
+pub use asking::AskingTerms;
+pub use dns_sockets::cause_of;
 pub use limit::{
     MOST_CONNECTIONS, MOST_EXCHANGES, SPARE_DESCRIPTORS, limits_law, most_connections,
     most_exchanges,

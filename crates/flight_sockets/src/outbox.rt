@@ -7,10 +7,10 @@ ghost use Rattle.flight_sockets.specs.Outgoing.{Posts, datagram_of};
 
 use crate::buffers::Buffers;
 use crate::client::UdpClient;
-use crate::fault_line::cause_of;
 use crate::outgoing::Outgoing;
 use crate::reply_sender::ReplySender;
 use crate::service_socket::ServiceSocket;
+use dns_sockets::cause_of;
 use flight::ReplyOctets;
 use front_workers::DEVICE_FAULT;
 use log::{Log, warn};

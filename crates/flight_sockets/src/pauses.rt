@@ -6,9 +6,9 @@ ghost use Rattle.flight_sockets.specs.declared.servers.TheConstants.{MOST_SERVER
 ghost use Rattle.flight_sockets.specs.declared.questions.TheConstants.{MOST_QUESTIONS};
 
 use crate::asked::asked_at;
-use crate::questions::{self, MOST_QUESTIONS, Questions};
+use crate::questions::{self, MOST_QUESTIONS, PausedQuestions};
 use crate::server::Server;
-use crate::servers::{self, MOST_SERVERS, Servers};
+use crate::servers::{self, MOST_SERVERS, SilentServers};
 use cell_store::NameSeed;
 use dns_query::Over;
 use dns_text::{Addr, NoMemory};
@@ -19,8 +19,8 @@ use std::alloc::Global;
 /// in milliseconds, by one clock. What finds no memory or no room is not remembered.
 #[derive(Drop)]
 pub(crate) struct Pauses {
-    pub servers: Servers,
-    pub questions: Questions,
+    pub servers: SilentServers,
+    pub questions: PausedQuestions,
     server_cursor: usize,
     question_cursor: usize,
     ghost most_servers: { index_map_len servers ≤ MOST_SERVERS },

@@ -7,7 +7,7 @@ ghost use Rattle.flight_sockets.specs.Silences.{pause_after, pause_struck, trial
 ghost use Rattle.flight_sockets.specs.Kept.{Changes};
 ghost use Rattle.flight_sockets.specs.Pauses.{question_at_eq, known_pause, IsQuestionPaused, RemembersQuestion};
 
-use crate::kept::{Ends, Kept, add};
+use crate::kept::{Expires, Notes, add};
 use crate::pause::Pause;
 use crate::server::QuestionAt;
 
@@ -15,9 +15,9 @@ use crate::server::QuestionAt;
 pub(crate) const MOST_QUESTIONS: usize = 4_096;
 
 /// The pause of each question to a server that is remembered.
-pub(crate) type Questions = Kept<QuestionAt, Pause>;
+pub(crate) type PausedQuestions = Notes<QuestionAt, Pause>;
 
-impl Ends for Pause {
+impl Expires for Pause {
     ghost until = { λ pause. pause.until };
 
     fn until(&self) -> u64 {
@@ -26,7 +26,7 @@ impl Ends for Pause {
 }
 
 /// Whether a server is passed over for a question.
-pub(crate) fn is_paused(questions: &Questions, question: &QuestionAt, now: u64) -> bool
+pub(crate) fn is_paused(questions: &PausedQuestions, question: &QuestionAt, now: u64) -> bool
     ensures { IsTrue result ↔ IsQuestionPaused question.now now questions.now }
 {
     match questions.get(question) {
@@ -36,7 +36,7 @@ pub(crate) fn is_paused(questions: &Questions, question: &QuestionAt, now: u64) 
 }
 
 /// Notes that a query begins, which is a trial if its question was paused.
-pub(crate) fn begin_trial(questions: &mut Questions, question: &QuestionAt, now: u64)
+pub(crate) fn begin_trial(questions: &mut PausedQuestions, question: &QuestionAt, now: u64)
     ensures changes { Changes question_at_eq (trial_at now) question.now questions.old questions.new }
     ensures len { index_map_len questions.new ≡ index_map_len questions.old }
 {
@@ -47,7 +47,7 @@ pub(crate) fn begin_trial(questions: &mut Questions, question: &QuestionAt, now:
 }
 
 /// Notes that a query was answered. Its server is not passed over for the question any more.
-pub(crate) fn answer(questions: &mut Questions, question: &QuestionAt)
+pub(crate) fn answer(questions: &mut PausedQuestions, question: &QuestionAt)
     ensures updates { Updates question_at_eq questions.old questions.new question.now None }
     ensures len { index_map_len questions.new ≤ index_map_len questions.old }
 {
@@ -55,7 +55,7 @@ pub(crate) fn answer(questions: &mut Questions, question: &QuestionAt)
 }
 
 /// What is known of the pause of a question.
-fn known(questions: &Questions, question: &QuestionAt) -> Pause
+fn known(questions: &PausedQuestions, question: &QuestionAt) -> Pause
     ensures { result ≡ known_pause questions.now question.now }
 {
     match questions.get(question) {
@@ -66,7 +66,7 @@ fn known(questions: &Questions, question: &QuestionAt) -> Pause
 
 /// Remembers the pause of a question.
 fn remember(
-    questions: &mut Questions,
+    questions: &mut PausedQuestions,
     cursor: &mut usize,
     question: QuestionAt,
     pause: Pause,
@@ -84,7 +84,12 @@ fn remember(
 }
 
 /// Notes that a query went unanswered. Its server is passed over for the question from now on.
-pub(crate) fn miss(questions: &mut Questions, cursor: &mut usize, question: QuestionAt, now: u64)
+pub(crate) fn miss(
+    questions: &mut PausedQuestions,
+    cursor: &mut usize,
+    question: QuestionAt,
+    now: u64,
+)
     requires { index_map_len questions.old ≤ MOST_QUESTIONS }
     ensures remembers { RemembersQuestion now question (pause_after (known_pause questions.old question) now) questions.old questions.new }
     ensures bound { index_map_len questions.new ≤ MOST_QUESTIONS }
@@ -95,7 +100,12 @@ pub(crate) fn miss(questions: &mut Questions, cursor: &mut usize, question: Ques
 
 /// Notes that datagrams came in the place of the reply to a query that cannot be it. Its server is passed over for the question from
 /// now on.
-pub(crate) fn strike(questions: &mut Questions, cursor: &mut usize, question: QuestionAt, now: u64)
+pub(crate) fn strike(
+    questions: &mut PausedQuestions,
+    cursor: &mut usize,
+    question: QuestionAt,
+    now: u64,
+)
     requires { index_map_len questions.old ≤ MOST_QUESTIONS }
     ensures remembers { RemembersQuestion now question (pause_struck (known_pause questions.old question) now) questions.old questions.new }
     ensures bound { index_map_len questions.new ≤ MOST_QUESTIONS }

@@ -6,7 +6,7 @@ ghost use Rattle.indexmap.specs.IndexMap.{index_map_len};
 ghost use Rattle.flight_sockets.specs.declared.refused_zones.TheConstants.{MOST_REFUSALS};
 ghost use Rattle.flight_sockets.specs.Refusals.{list_of_strangers, refused_pause, zone_at, IsRefusal, IsZonePaused, RemembersZone};
 
-use crate::kept::{Kept, add};
+use crate::kept::{Notes, add};
 use crate::pause::Pause;
 use crate::server::{Server, ZoneAt};
 use dns_name::Name;
@@ -25,7 +25,7 @@ pub(crate) const MOST_REFUSALS: usize = 4_096;
 const REFUSED: u8 = 5;
 
 /// The pause of each zone at a server that refused it.
-pub(crate) type ZonePauses = Kept<ZoneAt, Pause>;
+pub(crate) type ZonePauses = Notes<ZoneAt, Pause>;
 
 /// Whether a response refuses its question.
 pub(crate) fn is_refusal(response: &[u8]) -> bool

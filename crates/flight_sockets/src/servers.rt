@@ -7,7 +7,7 @@ ghost use Rattle.flight_sockets.specs.Silences.{answered_at, closed_at, tried_at
 ghost use Rattle.flight_sockets.specs.Kept.{Changes};
 ghost use Rattle.flight_sockets.specs.Pauses.{server_at, server_eq, known_silence, GivesWay, IsServerPaused, MissesAt, RemembersServer};
 
-use crate::kept::{Kept, add};
+use crate::kept::{Notes, add};
 use crate::server::Server;
 use crate::silence::Silence;
 use dns_name::Name;
@@ -18,10 +18,10 @@ use dns_text::Addr;
 pub(crate) const MOST_SERVERS: usize = 4_096;
 
 /// The silence of each server that is remembered.
-pub(crate) type Servers = Kept<Server, Silence>;
+pub(crate) type SilentServers = Notes<Server, Silence>;
 
 /// Whether a server is passed over for every question.
-pub(crate) fn is_paused(servers: &Servers, server: &Server, now: u64) -> bool
+pub(crate) fn is_paused(servers: &SilentServers, server: &Server, now: u64) -> bool
     ensures { IsTrue result ↔ IsServerPaused server.now now servers.now }
 {
     match servers.get(server) {
@@ -31,7 +31,7 @@ pub(crate) fn is_paused(servers: &Servers, server: &Server, now: u64) -> bool
 }
 
 /// Whether a server answers: it did, and has left no query unanswered since.
-fn answers(servers: &Servers, server: &Server) -> bool
+fn answers(servers: &SilentServers, server: &Server) -> bool
     ensures { IsTrue result ↔ IsSomeAnd (get server_eq servers.now server.now) IsAnswering }
 {
     match servers.get(server) {
@@ -41,7 +41,7 @@ fn answers(servers: &Servers, server: &Server) -> bool
 }
 
 /// Whether one of these addresses answers, over a transport.
-fn any_answers(servers: &Servers, addrs: &[Addr], over: Over) -> bool
+fn any_answers(servers: &SilentServers, addrs: &[Addr], over: Over) -> bool
     ensures { IsTrue result ↔ Any (λ addr. IsSomeAnd (get server_eq servers.now (server_at addr over)) IsAnswering) addrs.now }
 {
     for addr in addrs {
@@ -54,7 +54,7 @@ fn any_answers(servers: &Servers, addrs: &[Addr], over: Over) -> bool
 }
 
 /// Whether a server rests.
-fn rests(servers: &Servers, server: &Server, now: u64) -> bool
+fn rests(servers: &SilentServers, server: &Server, now: u64) -> bool
     ensures { IsTrue result ↔ IsSomeAnd (get server_eq servers.now server.now) (λ silence. now < silence.rest.until) }
 {
     match servers.get(server) {
@@ -64,14 +64,14 @@ fn rests(servers: &Servers, server: &Server, now: u64) -> bool
 }
 
 /// Whether a server rests, and another of these addresses answers.
-pub(crate) fn gives_way(servers: &Servers, server: &Server, others: &[Addr], now: u64) -> bool
+pub(crate) fn gives_way(servers: &SilentServers, server: &Server, others: &[Addr], now: u64) -> bool
     ensures { IsTrue result ↔ GivesWay server.now others.now now servers.now }
 {
     rests(servers, server, now) && any_answers(servers, others, server.over)
 }
 
 /// Notes that a query to a server begins, which is a trial if the server was paused.
-pub(crate) fn begin_trial(servers: &mut Servers, server: &Server, now: u64)
+pub(crate) fn begin_trial(servers: &mut SilentServers, server: &Server, now: u64)
     ensures changes { Changes server_eq (tried_at now) server.now servers.old servers.new }
     ensures len { index_map_len servers.new ≡ index_map_len servers.old }
 {
@@ -82,7 +82,7 @@ pub(crate) fn begin_trial(servers: &mut Servers, server: &Server, now: u64)
 }
 
 /// Notes that a server answered. It is not passed over any more.
-pub(crate) fn answer(servers: &mut Servers, cursor: &mut usize, server: Server, now: u64)
+pub(crate) fn answer(servers: &mut SilentServers, cursor: &mut usize, server: Server, now: u64)
     requires { index_map_len servers.old ≤ MOST_SERVERS }
     ensures remembers { RemembersServer now server (answered_at now) servers.old servers.new }
     ensures bound { index_map_len servers.new ≤ MOST_SERVERS }
@@ -102,7 +102,13 @@ pub(crate) fn answer(servers: &mut Servers, cursor: &mut usize, server: Server, 
 }
 
 /// Notes that a server left a query for a name unanswered.
-pub(crate) fn miss(servers: &mut Servers, cursor: &mut usize, server: Server, name: Name, now: u64)
+pub(crate) fn miss(
+    servers: &mut SilentServers,
+    cursor: &mut usize,
+    server: Server,
+    name: Name,
+    now: u64,
+)
     requires { index_map_len servers.old ≤ MOST_SERVERS }
     ensures misses { MissesAt now server name servers.old servers.new }
     ensures bound { index_map_len servers.new ≤ MOST_SERVERS }
@@ -117,7 +123,7 @@ pub(crate) fn miss(servers: &mut Servers, cursor: &mut usize, server: Server, na
 }
 
 /// Notes that the port of a server is closed.
-pub(crate) fn close(servers: &mut Servers, cursor: &mut usize, server: Server, now: u64)
+pub(crate) fn close(servers: &mut SilentServers, cursor: &mut usize, server: Server, now: u64)
     requires { index_map_len servers.old ≤ MOST_SERVERS }
     ensures remembers { RemembersServer now server (closed_at now (known_silence servers.old server)) servers.old servers.new }
     ensures bound { index_map_len servers.new ≤ MOST_SERVERS }

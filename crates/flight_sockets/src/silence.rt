@@ -2,7 +2,7 @@
 
 ghost use Rattle.std.specs.Prelude.{◌≡◌, ◌<◌, ◌≤◌, ◌+◌, ◌↔◌, IsTrue, IsSomeAnd};
 
-use crate::kept::Ends;
+use crate::kept::Expires;
 use crate::missed::Missed;
 use crate::pause::Pause;
 use dns_name::Name;
@@ -28,7 +28,7 @@ pub(crate) struct Silence {
     pub rest: Pause,
 }
 
-impl Ends for Silence {
+impl Expires for Silence {
     ghost use Rattle.flight_sockets.specs.Silences.{matters_until};
 
     ghost until = { matters_until };

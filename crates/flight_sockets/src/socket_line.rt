@@ -12,13 +12,12 @@ ghost use Rattle.flight_sockets.specs.Exchanges.{IsBroken, IsDearReply, IsNotToB
 ghost use Rattle.flight_sockets.specs.Replies.{MayCome};
 ghost use Rattle.flight_sockets.specs.declared.flaw.Flaw.TheVariants.{Misfits};
 
-use crate::fault_line::log_exchange;
 use crate::flaw::Flaw;
 use crate::permits::{NoPermit, Permit};
-use crate::transport::Way;
+use crate::transport::Transport;
 use dns_name::Name;
 use dns_query::Over;
-use dns_sockets::{OneSocket, ReadyNet, TcpLine, UdpLine, place_of};
+use dns_sockets::{OneSocket, ReadyNet, TcpLine, UdpLine, log_exchange, place_of};
 use dns_text::{Addr, Octets, Shared};
 use flight::{Counts, InFlight, Listened};
 use front_workers::is_dear;
@@ -43,7 +42,7 @@ pub(crate) struct SocketLine<R: ReadyNet> {
     token: Token,
     /// The list that has the server, if strangers may have named it.
     list: Option<Shared<Servers>>,
-    way: Way<R::Datagrams, R::Connection>,
+    way: Transport<R::Datagrams, R::Connection>,
     /// Whether nothing was sent, since it waits for a permit.
     waits: bool,
     /// What is wrong with what came, if that ended it.
@@ -137,8 +136,10 @@ impl<R: ReadyNet> SocketLine<R> {
         let place = place_of(server);
         let octets = query.get().as_slice();
         let way = match over {
-            Over::Udp => Way::Udp(UdpLine::begin(right, registry, token, service, place, octets)?),
-            Over::Tcp => Way::Tcp(TcpLine::begin(
+            Over::Udp => Transport::Udp(UdpLine::begin(
+                right, registry, token, service, place, octets,
+            )?),
+            Over::Tcp => Transport::Tcp(TcpLine::begin(
                 right, alloc, registry, token, service, place, octets,
             )?),
         };
@@ -180,7 +181,7 @@ impl<R: ReadyNet> SocketLine<R> {
             query,
             token,
             list,
-            way: Way::Waiting,
+            way: Transport::Waiting,
             waits: true,
             flaw: None,
         }
@@ -273,14 +274,14 @@ impl<R: ReadyNet> SocketLine<R> {
         match self.way.hear(alloc, registry, self.token, query, room) {
             Some(Listened::Nothing) => Listened::Nothing,
             Some(heard) => {
-                self.way = Way::Closed;
+                self.way = Transport::Closed;
                 if is_too_dear(&heard) {
                     return self.end_by(Flaw::Dear);
                 }
                 heard
             }
             None => {
-                self.way = Way::Closed;
+                self.way = Transport::Closed;
                 self.end_by(Flaw::Misfits)
             }
         }

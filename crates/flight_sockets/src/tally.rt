@@ -154,7 +154,7 @@ impl Tally {
 
     /// Counts the query that was taken last as a hit or as a miss, unless that was done: once it waits for a name server, or before its
     /// reply leaves.
-    pub fn sort(&self) {
+    pub fn count_hit_or_miss(&self) {
         if !self.unsorted.load(Ordering::SeqCst) {
             return;
         }
@@ -179,7 +179,7 @@ impl Tally {
 
     /// Counts a reply that is about to leave, by the RCODE in its header (RFC 1035, section 4.1.1).
     pub fn reply(&self, reply: &[u8]) {
-        self.sort();
+        self.count_hit_or_miss();
         let Some(octet) = reply.get(3) else {
             return;
         };

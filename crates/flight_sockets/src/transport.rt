@@ -7,7 +7,7 @@ ghost use Rattle.flight.specs.Told.{IsHeard};
 ghost use Rattle.flight_sockets.specs.Exchanges.{ExchangeState, HasMisfit, HasNoneYet, IsCutOff, IsUnderWay, OnUnbroken, WentOn, is_ended};
 ghost use Rattle.flight_sockets.specs.Replies.{IfCame, IsWholeReply, MayCome};
 
-use dns_sockets::{Heard, ReadyConnection, ReadySocket, TcpLine, UdpLine, fits};
+use dns_sockets::{ReadyConnection, ReadySocket, TcpLine, UdpHeard, UdpLine, fits};
 use dns_text::Octets;
 use flight::Listened;
 use mio::{Registry, Token};
@@ -16,7 +16,7 @@ use std::io::ErrorKind;
 
 /// The transport of an exchange: the socket or connection by which its query left.
 #[derive(Drop)]
-pub(crate) enum Way<S, C> {
+pub(crate) enum Transport<S, C> {
     Udp(UdpLine<S>),
     Tcp(TcpLine<C>),
     /// Nothing was sent yet: the exchange waits for a permit.
@@ -70,7 +70,7 @@ fn hear_tcp<C: ReadyConnection>(
     }
 }
 
-impl<S: ReadySocket, C: ReadyConnection> Way<S, C> {
+impl<S: ReadySocket, C: ReadyConnection> Transport<S, C> {
     /// Reads and writes as far as the socket allows. `None` if too many datagrams came that cannot be the reply.
     pub fn hear(
         &mut self,
@@ -97,15 +97,15 @@ impl<S: ReadySocket, C: ReadyConnection> Way<S, C> {
             → IsUnderWay S.opened S.reported S.sent C.connected C.reported C.contents C.remaining exchange self.new }
     {
         match self {
-            Way::Udp(line) => match line.hear(registry, token, query, room) {
-                Ok(Heard::Reply(count)) => Some(came(alloc, &room[..count])),
-                Ok(Heard::Nothing) => Some(Listened::Nothing),
-                Ok(Heard::Misfits) => None,
+            Transport::Udp(line) => match line.hear(registry, token, query, room) {
+                Ok(UdpHeard::Reply(count)) => Some(came(alloc, &room[..count])),
+                Ok(UdpHeard::Nothing) => Some(Listened::Nothing),
+                Ok(UdpHeard::Misfits) => None,
                 Err(_) => Some(Listened::Broken),
             },
-            Way::Tcp(line) => Some(hear_tcp(alloc, line, query, room)),
-            Way::Waiting => Some(Listened::Anew),
-            Way::Closed => Some(Listened::Broken),
+            Transport::Tcp(line) => Some(hear_tcp(alloc, line, query, room)),
+            Transport::Waiting => Some(Listened::Anew),
+            Transport::Closed => Some(Listened::Broken),
         }
     }
 }

@@ -4,7 +4,7 @@ ghost use Rattle.std.specs.Prelude.{◌≡◌, ◌≤◌, [], false, map, max, t
 ghost use Rattle.std.specs.Duration.{as_nanos};
 ghost use Rattle.front_workers.specs.Counts.{Rises};
 ghost use Rattle.mio.specs.Events.{items};
-ghost use Rattle.dns_sockets.specs.Moments.{millis_at, IsRead};
+ghost use Rattle.clock.specs.Moments.{millis_at, IsRead};
 ghost use Rattle.flight.specs.declared.kept.TheConstants.{MOST_AT_REST};
 ghost use Rattle.flight.specs.declared.table.TheConstants.{PATIENCE, QUESTION_PATIENCE};
 ghost use Rattle.flight.specs.Bounds.{AllGoOn, Relieves, kept_all};
@@ -17,9 +17,9 @@ ghost use Rattle.flight_sockets.specs.Looked.{AllLookedAt, LooksAtAll};
 ghost use Rattle.flight_sockets.specs.Patience.{AreRead, EndsOverdue, IsReadOn, patience_of};
 ghost use Rattle.flight_sockets.specs.Taken.{IsQuery};
 
-use crate::asking::Asking;
+use crate::asking::AskingTerms;
 use crate::client::UdpClient;
-use crate::inbox::{Arrival, BATCH, Inbox, Slot};
+use crate::inbox::{Arrival, BATCH, Inbox, InboxSlot};
 use crate::listener::{SERVICE, UdpListener};
 use crate::outbox::Outbox;
 use crate::reply_sender::ReplySender;
@@ -28,8 +28,8 @@ use crate::socket_line::SocketLine;
 use crate::table_seed::TableSeed;
 use crate::tally::Tally;
 use crate::worker_sockets::WorkerSockets;
-use command_text::Clock;
-use dns_sockets::{Elapsing, MonotonicClock, ReadyNet};
+use clock::{Clock, Elapsing, MonotonicClock};
+use dns_sockets::ReadyNet;
 use dns_text::NoMemory;
 use flight::{Client, Flight, Numbered};
 use log::Log;
@@ -58,11 +58,11 @@ pub(crate) type Questions<D, C, G, R, S> = Flight<D, SocketLine<R>, C, G, UdpCli
 
 /// A turn that did not fail. Only `Turns::turn` makes one, so whoever has one took a turn.
 #[derive(Drop)]
-pub(crate) struct Turned {
+pub(crate) struct TurnTaken {
     more: bool,
 }
 
-impl Turned {
+impl TurnTaken {
     /// Whether more datagrams may be there.
     pub fn has_more(&self) -> bool
         ensures { result ≡ self.now.more }
@@ -107,7 +107,7 @@ impl<'a, R: ReadyNet + Log + Elapsing + Wait, S: ServiceSocket> Turns<'a, R, S> 
         tally: &'a Tally,
         alloc: Global,
         listener: UdpListener<S>,
-        asking: Asking<'a>,
+        asking: AskingTerms<'a>,
         seed: TableSeed,
         start: Instant,
     ) -> Result<Turns<'a, R, S>, NoMemory>
@@ -166,7 +166,7 @@ impl<'a, R: ReadyNet + Log + Elapsing + Wait, S: ServiceSocket> Turns<'a, R, S> 
         &mut self,
         desk: &mut D,
         questions: &mut Questions<D, C, G, R, S>,
-        slot: &Slot<S>,
+        slot: &InboxSlot<S>,
     )
         ensures begun { IsQuery slot.now.came → Rises self.old.taken self.new.taken }
         ensures goes_on { GoesOn S.takes S.sends questions.old self.old questions.new self.new }
@@ -182,7 +182,7 @@ impl<'a, R: ReadyNet + Log + Elapsing + Wait, S: ServiceSocket> Turns<'a, R, S> 
                 self.count_taken();
                 self.sockets.tally.take();
                 questions.begin(desk, &mut self.sockets, now, client, octets);
-                self.sockets.tally.sort();
+                self.sockets.tally.count_hit_or_miss();
             }
         }
     }
@@ -352,7 +352,7 @@ impl<'a, R: ReadyNet + Log + Elapsing + Wait, S: ServiceSocket> Turns<'a, R, S> 
         questions: &mut Questions<D, C, G, R, S>,
         inbox: &mut Inbox<S>,
         were_left: bool,
-    ) -> io::Result<Turned>
+    ) -> io::Result<TurnTaken>
         ensures drained { IfOk result (λ turned. turned.more ≡ false → S.drained) }
         ensures goes_on { GoesOn S.takes S.sends questions.old self.old questions.new self.new }
         ensures sent { self.old.outbox.waiting ≡ [] → self.new.outbox.waiting ≡ [] }
@@ -363,7 +363,7 @@ impl<'a, R: ReadyNet + Log + Elapsing + Wait, S: ServiceSocket> Turns<'a, R, S> 
         self.go_on(desk, questions);
         // The event of the service's socket may come after those of many replies.
         let more = self.take_datagrams(desk, questions, inbox)?;
-        Ok(Turned { more })
+        Ok(TurnTaken { more })
     }
 }
 

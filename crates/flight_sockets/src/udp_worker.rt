@@ -10,16 +10,15 @@ ghost use Rattle.flight_sockets.specs.Accounts.{Accounts, KeepsTime, fresh_worke
 ghost use Rattle.flight_sockets.specs.Asking.{asking_at};
 ghost use Rattle.flight_sockets.specs.Begun.{Runs, none_in_flight};
 
-use crate::asking::Asking;
-use crate::fault_line::cause_of;
+use crate::asking::AskingTerms;
 use crate::inbox::Inbox;
 use crate::listener::UdpListener;
 use crate::service_socket::ServiceSocket;
 use crate::table_seed::TableSeed;
 use crate::tally::Tally;
 use crate::turns::Turns;
-use command_text::Clock;
-use dns_sockets::{Elapsing, ReadyNet, StopFlag};
+use clock::{Clock, Elapsing, StopFlag};
+use dns_sockets::{ReadyNet, cause_of};
 use dns_text::NoMemory;
 use flight::{Flight, Numbered};
 use front_workers::{DEVICE_FAULT, MOST_FAILURES, WORKER_ENDED, WorkEnd};
@@ -54,7 +53,7 @@ impl<'a, R: ReadyNet + Log + Elapsing + Wait, S: ServiceSocket> UdpWorker<'a, R,
         tally: &'a Tally,
         alloc: Global,
         listener: UdpListener<S>,
-        asking: Asking<'a>,
+        asking: AskingTerms<'a>,
         seed: TableSeed,
         start: Instant,
     ) -> Result<UdpWorker<'a, R, S>, NoMemory>

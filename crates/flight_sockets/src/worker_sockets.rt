@@ -3,7 +3,7 @@
 ghost use Rattle.std.specs.Prelude.{◌≡◌, ◌⊎◌, ◌≤◌, [], ◌∷◌, false, length, map, take, true, vec_len};
 ghost use Rattle.std.specs.Prelude.{IfNone, IfOk, IfSome, IsSomeAnd, OnErr, OnSome};
 ghost use Rattle.std.specs.Option.{option_copied};
-ghost use Rattle.dns_sockets.specs.Moments.{millis_at};
+ghost use Rattle.clock.specs.Moments.{millis_at};
 ghost use Rattle.dns_sockets.specs.Own.{MayAskServer};
 ghost use Rattle.dns_sockets.specs.Withheld.{IsWithheld};
 ghost use Rattle.dns_wire.specs.declared.server.query.Asked.TheVariants.{Drop};
@@ -25,8 +25,7 @@ ghost use Rattle.flight_sockets.specs.Refusals.{IsLeftAlone, LooksUpList, NotesA
 ghost use Rattle.flight_sockets.specs.Replies.{IsTooDear, MayCome};
 ghost use Rattle.flight_sockets.specs.declared.inbox.TheConstants.{BATCH};
 
-use crate::asking::Asking;
-use crate::fault_line::{cause_of, log_exchange, log_too_long};
+use crate::asking::AskingTerms;
 use crate::inbox::{BATCH, Inbox};
 use crate::network::network_of;
 use crate::noting::note_heard;
@@ -46,10 +45,12 @@ use crate::tcp::client_stream::ClientStream;
 use crate::tcp::front::TcpFront;
 use crate::worker_permits::{PERMIT_GLANCE, WorkerPermits};
 use crate::zone_shares::ZoneShares;
-use command_text::Clock;
+use clock::{Clock, MonotonicClock, glance};
 use dns_name::Name;
 use dns_query::Over;
-use dns_sockets::{AddressRange, MonotonicClock, OneSocket, ReadyNet, glance, is_withheld};
+use dns_sockets::{
+    AddressRange, OneSocket, ReadyNet, WITHHELD, cause_of, is_withheld, log_exchange, log_too_long,
+};
 use dns_text::{Addr, NoMemory, Octets, Shared};
 use dns_wire::Rcode;
 use flight::{Cause, Client, Counts, InFlight, Listened, Numbered, Outside, ReplyOctets, Unserved};
@@ -64,9 +65,6 @@ use std::net::SocketAddr;
 use std::sync::Wait;
 use std::sync::atomic::{AtomicU64, Ordering};
 use std::time::Duration;
-
-/// The cause of an exchange that fails because its server is withheld, in words.
-const WITHHELD: &str = "withheld";
 
 /// The sockets of one worker: those by which replies leave, and those of its exchanges.
 #[derive(Drop)]
@@ -116,7 +114,7 @@ impl<'a, R: Log, B: Drop> WorkerSockets<'a, R, B> {
         poll: Poll,
         place: SocketAddr,
         outbox: B,
-        asking: Asking<'a>,
+        asking: AskingTerms<'a>,
         seed: TableSeed,
     ) -> Result<WorkerSockets<'a, R, B>, NoMemory>
         ensures asks { IfOk result (λ sockets. asking_of sockets ≡ asking_at place asking.entry) }
@@ -302,7 +300,7 @@ impl<'a, R: Log, S: ServiceSocket> WorkerSockets<'a, R, Outbox<S>> {
     {
         if wants_reply(front) {
             self.tally.take();
-            self.tally.sort();
+            self.tally.count_hit_or_miss();
             self.send(peer, report_of(front, Rcode::FORMAT_ERROR));
         }
     }

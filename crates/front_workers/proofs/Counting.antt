@@ -5,7 +5,8 @@ use Rattle.streams.specs.declared.engine.TheConstants.{MOST_READS}
 use Rattle.front_workers.specs.Counts.{Rises}
 use Rattle.front_workers.specs.declared.fault.StreamFault.{StreamFault}
 use Rattle.front_workers.specs.declared.fault.StreamFault.TheVariants.{Read, Write, Short, NoMemory}
-use Rattle.front_workers.specs.Working.{HasFailed, IsExcused}
+use Rattle.front_workers.specs.TcpWorking.{IsExcused}
+use Rattle.front_workers.specs.Working.{HasFailed}
 
 -- One failure more is counted.
 pub raised : (n base old new : ℕ) → HasFailed n base old → Rises old new → HasFailed (n + 1) base new

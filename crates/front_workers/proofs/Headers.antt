@@ -3,7 +3,8 @@ use Rattle.std.proofs.Common.{◌<◌, ◌≤◌, ℕ, List, length, arith}
 use Rattle.dns_wire.specs.declared.server.query.Query.{Query}
 use Rattle.dns_wire.specs.declared.server.query.Asked.TheVariants.{Drop, Good}
 use Rattle.dns_wire.specs.Server.Asking.{AsksFor, no_header, good}
-use Rattle.front_workers.specs.Leads.{Calls, Asks, Ticks, Lent}
+use Rattle.clock.specs.Ticks.{Ticks}
+use Rattle.front_workers.specs.Leads.{Calls, Asks, Lent}
 use Rattle.front_workers.specs.Serves.{IsUnserved, unread, broken_off, unwritten}
 
 answer_header : {m : List ℕ} {query : Query} → AsksFor m (Good query) → 12 ≤ length m

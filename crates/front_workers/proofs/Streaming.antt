@@ -10,7 +10,8 @@ use Rattle.front_workers.specs.declared.fault.StreamFault.{StreamFault}
 use Rattle.front_workers.specs.declared.fault.StreamFault.TheVariants.{Read, Write, Short, NoMemory}
 use Rattle.front_workers.specs.Framing.{framed, length_octets, HasLength, MessageCame}
 use Rattle.dns_query.specs.declared.over.Over.TheVariants.{Tcp}
-use Rattle.front_workers.specs.Leads.{Calls, Asks, Ticks, Lent}
+use Rattle.clock.specs.Ticks.{Ticks}
+use Rattle.front_workers.specs.Leads.{Calls, Asks, Lent}
 use Rattle.front_workers.specs.Stream.{Serving, Lacking, Served, ServedOne, Streams, serving, lacking, unread, unserved, untold}
 
 -- One message more is read.

@@ -7,7 +7,8 @@ use Rattle.dns_wire.specs.declared.server.query.Asked.TheVariants.{Good}
 use Rattle.dns_wire.specs.Server.Asking.{AsksFor}
 use Rattle.iterate.specs.declared.answer.Answer.{Answer}
 use Rattle.iterate.specs.declared.answer.Answer.TheVariants.{Reply as Replies, Silent}
-use Rattle.front_workers.specs.Leads.{Calls, Asks, Ticks, Lent, EndsInAnswer}
+use Rattle.clock.specs.Ticks.{Ticks}
+use Rattle.front_workers.specs.Leads.{Calls, Asks, Lent, EndsInAnswer}
 use Rattle.front_workers.specs.Serves.{Serves, silent, answered, Tells}
 
 pub served_by : {D X C : Type 0} {calls : Calls D} {asks : Asks X} {ticks : Ticks C} {port : ℕ} {over : Over} {m : List ℕ} {query : Query} {desk d : D} {exchange x : X} {lent l : Lent C}

@@ -1,5 +1,6 @@
 -- The calls of a task: of a desk, an exchange, a clock and a generator.
 use Rattle.std.specs.Prelude.{◌≡◌, ℕ, Option, Result, Ok, Err, List, [], ◌∷◌, ◌++◌}
+use Rattle.clock.specs.Ticks.{Ticks}
 use Rattle.dns_query.specs.declared.over.Over.{Over}
 use Rattle.dns_text.specs.declared.addr.Addr.{Addr}
 use Rattle.dns_text.specs.declared.record.Question.{Question}
@@ -30,10 +31,6 @@ Calls D = D → Event → Result Reply DeskFault → D → Type 0
 -- One exchange with a name server: the client before, the server, the list that has it, the transport, the query, the response or the fault, the client after.
 abbrev pub Asks : Type 0 → Type 1
 Asks X = X → Addr → Option Hunt → Over → List ℕ → Result (List ℕ) DeviceFault → X → Type 0
-
--- One reading of a clock: the clock before, the moment, the clock after.
-abbrev pub Ticks : Type 0 → Type 1
-Ticks C = C → ℕ → C → Type 0
 
 -- a clock, and the words that a generator gives from here on
 abbrev pub Lent : Type 0 → Type 0

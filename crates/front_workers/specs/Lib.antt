@@ -7,5 +7,7 @@ pub mod Turning
 pub mod Framing
 pub mod Stream
 pub mod Working
+pub mod UdpWorking
+pub mod TcpWorking
 pub mod States
 pub mod Dear

@@ -17,7 +17,8 @@ use Rattle.iterate.specs.declared.answer.Answer.TheVariants.{Reply as Replies, S
 use Rattle.iterate.specs.declared.answer.Soa.{Soa}
 use Rattle.iterate.specs.declared.answer.AnswerSet.{AnswerSet}
 use Rattle.front_workers.specs.declared.limits.TheConstants.{MOST_DATAGRAM, MOST_MESSAGE, MOST_UDP_REPLY}
-use Rattle.front_workers.specs.Leads.{Calls, Asks, Ticks, Lent, EndsInAnswer, BreaksOff}
+use Rattle.clock.specs.Ticks.{Ticks}
+use Rattle.front_workers.specs.Leads.{Calls, Asks, Lent, EndsInAnswer, BreaksOff}
 use Rattle.front_workers.specs.Lending.{answer_parts, authority_parts}
 
 -- the most octets that a reply may have (RFC 1035, section 4.2)

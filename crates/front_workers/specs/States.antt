@@ -8,13 +8,16 @@ use Rattle.dns_query.specs.declared.over.Over.TheVariants.{Udp, Tcp}
 use Rattle.iterate.specs.declared.answer.Answer.{Answer}
 use Rattle.front_workers.specs.declared.device.DeviceFault.{DeviceFault}
 use Rattle.front_workers.specs.declared.fault.StreamFault.{StreamFault}
-use Rattle.front_workers.specs.declared.port.Came.{Came}
+use Rattle.front_workers.specs.declared.came.Came.{Came}
 use Rattle.front_workers.specs.declared.tools.Tools.{Tools}
 use Rattle.front_workers.specs.declared.work_end.WorkEnd.{WorkEnd}
-use Rattle.front_workers.specs.Leads.{Calls, Asks, Ticks, Lent, EndsInAnswer, BreaksOff}
+use Rattle.clock.specs.Ticks.{Ticks}
+use Rattle.front_workers.specs.Leads.{Calls, Asks, Lent, EndsInAnswer, BreaksOff}
 use Rattle.front_workers.specs.Serves.{Serves, IsUnserved}
 use Rattle.front_workers.specs.Stream.{serving, lacking, ServedOne, Streams}
-use Rattle.front_workers.specs.Working.{Answered, Given, Streamed, datagrams, answering, connections, streaming, WorksUntil}
+use Rattle.front_workers.specs.UdpWorking.{Answered, Given, datagrams, answering}
+use Rattle.front_workers.specs.TcpWorking.{Streamed, connections, streaming}
+use Rattle.front_workers.specs.Working.{WorksUntil}
 
 -- the clock of the tools, and the words that their generator gives from here on
 abbrev pub lent_of : {X C R : Type 0} → (R → Stream) → Tools X C R → Lent C

@@ -5,7 +5,8 @@ use Rattle.streams.specs.Transcript.{Obeying, Transcript}
 use Rattle.dns_query.specs.declared.over.Over.{Over}
 use Rattle.front_workers.specs.declared.fault.StreamFault.{StreamFault}
 use Rattle.front_workers.specs.declared.fault.StreamFault.TheVariants.{Read, Write, Short, NoMemory}
-use Rattle.front_workers.specs.Leads.{Calls, Asks, Ticks, Lent}
+use Rattle.clock.specs.Ticks.{Ticks}
+use Rattle.front_workers.specs.Leads.{Calls, Asks, Lent}
 use Rattle.front_workers.specs.Serves.{Serves, IsUnserved}
 use Rattle.front_workers.specs.Framing.{framed, length_octets, HasLength, IsPartial}
 

@@ -6,12 +6,12 @@ use Rattle.iterate.specs.declared.search.Hunt.{Hunt}
 use Rattle.iterate.specs.declared.want.Want.{Want}
 use Rattle.iterate.specs.declared.want.Want.TheVariants.{Send, Finish}
 use Rattle.front_workers.specs.declared.device.DeviceFault.TheVariants.{NoMemory}
-use Rattle.front_workers.specs.declared.run.Outcome.{Outcome}
-use Rattle.front_workers.specs.declared.run.Outcome.TheVariants.{Go, Done}
+use Rattle.front_workers.specs.declared.run.WantOutcome.{WantOutcome}
+use Rattle.front_workers.specs.declared.run.WantOutcome.TheVariants.{Go, Done}
 use Rattle.front_workers.specs.Leads.{Calls, Asks, Met}
 
 -- A call met the want, or the want is an answer.
-abbrev pub TakesTurn : {D X : Type 0} → Calls D → Asks X → D → X → Option Hunt → Want → Outcome → D → X → Type 0
+abbrev pub TakesTurn : {D X : Type 0} → Calls D → Asks X → D → X → Option Hunt → Want → WantOutcome → D → X → Type 0
 TakesTurn calls asks d x hunt want (Go next) d' x' = Met calls asks d x hunt want next d' x'
 TakesTurn calls asks d x hunt want (Done answer) d' x' = (want ≡ Finish answer) × (d' ≡ d) × (x' ≡ x)
 

@@ -11,6 +11,8 @@ mod log_lines;
 mod device;
 // Exchanges with name servers: a query goes out, and its response comes in.
 mod exchange;
+// A datagram that came in.
+mod came;
 // Ports, at which datagrams come in and replies go out.
 mod port;
 // Listeners, at which connections come in.
@@ -41,9 +43,11 @@ mod stream;
 mod work_end;
 // A worker that serves connections.
 mod tcp_worker;
-// A worker that serves datagrams, for tests and readers: the service has `fly_udp` of `flight_sockets`.
-mod udp_worker;
+// A worker that serves datagrams one after another, for tests and readers: the service has `fly_udp` of `flight_sockets`.
+mod plain_udp;
 
+pub use came::Came;
+pub use clock::PATIENCE_SECONDS;
 pub use dear::is_dear;
 pub use device::DeviceFault;
 pub use exchange::Exchange;
@@ -51,12 +55,13 @@ pub use fault::StreamFault;
 pub use framing::{frame, size_of};
 pub use limits::{
     DATAGRAM_ROOM, ITEM_STEPS, MOST_DATAGRAM, MOST_FAILURES, MOST_MESSAGE, MOST_STEPS,
-    MOST_UDP_REPLY, PATIENCE_SECONDS, STEP_OCTETS, limits_law,
+    MOST_UDP_REPLY, STEP_OCTETS, limits_law,
 };
 pub use listener::Listener;
 pub use log_lines::{DEVICE_FAULT, WORKER_ENDED};
 pub use owed::wants_reply;
-pub use port::{Came, Port};
+pub use plain_udp::work_udp;
+pub use port::Port;
 pub use query::serve_query;
 pub use reply::write_answer;
 pub use run::run_task;
@@ -64,5 +69,4 @@ pub use sizing::data_size;
 pub use stream::serve_stream;
 pub use tcp_worker::work_tcp;
 pub use tools::Tools;
-pub use udp_worker::work_udp;
 pub use work_end::WorkEnd;

@@ -1,6 +1,7 @@
 //! The limits of messages, of exchanges and of a worker's failures.
 
 ghost use Rattle.std.specs.Prelude.{◌≡◌};
+ghost use Rattle.clock.specs.declared.deadline.TheConstants.{PATIENCE_SECONDS};
 
 use dns_wire::{MOST_OCTETS, MOST_UDP_OCTETS};
 
@@ -24,9 +25,6 @@ pub const ITEM_STEPS: usize = 4;
 
 /// A label takes one step, and one more for each so many of its octets.
 pub const STEP_OCTETS: usize = 8;
-
-/// The seconds that an exchange with a name server may take, connecting included, and so a client's message over TCP.
-pub const PATIENCE_SECONDS: u64 = 2;
 
 /// A worker ends after so many failures in a row.
 pub const MOST_FAILURES: u8 = 16;

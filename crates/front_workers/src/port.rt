@@ -3,20 +3,12 @@
 ghost use Rattle.std.specs.Prelude.{◌≡◌, ℕ, ◌≤◌, List, Option, Result, length, IfOk, IfSome};
 ghost use Rattle.std.specs.declared.net.SocketAddr.{SocketAddr};
 ghost use Rattle.front_workers.specs.declared.device.DeviceFault.{DeviceFault};
-ghost use Rattle.front_workers.specs.declared.port.Came.{Came};
+ghost use Rattle.front_workers.specs.declared.came.Came.{Came};
 ghost use Rattle.front_workers.specs.Counts.{CountsFault};
 
+use crate::came::Came;
 use crate::device::DeviceFault;
 use std::net::SocketAddr;
-
-/// A datagram that came in.
-#[derive(Clone, Copy)]
-pub struct Came {
-    /// Who sent it.
-    pub peer: SocketAddr,
-    /// The number of octets at the front of the room that it fills.
-    pub count: usize,
-}
 
 /// A socket at which datagrams come in and replies go out.
 pub trait Port {

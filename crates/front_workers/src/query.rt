@@ -12,7 +12,7 @@ use crate::owed::wants_reply;
 use crate::reply::{write_answer, write_fault};
 use crate::run::run_task;
 use crate::tools::Tools;
-use command_text::Clock;
+use clock::Clock;
 use dns_name::NoMemory;
 use dns_query::Over;
 use dns_text::Question;

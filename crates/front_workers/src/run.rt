@@ -9,7 +9,7 @@ ghost use Rattle.front_workers.specs.Turning.{TakesTurn, Lacks};
 use crate::device::DeviceFault;
 use crate::exchange::Exchange;
 use crate::tools::Tools;
-use command_text::Clock;
+use clock::Clock;
 use dns_name::NoMemory;
 use dns_text::Question;
 use history::Desk;
@@ -18,7 +18,7 @@ use rand_core::Rng;
 use std::alloc::{AllocError, Global};
 
 /// The outcome of a want.
-pub(crate) enum Outcome {
+pub(crate) enum WantOutcome {
     /// The task goes on with this input.
     Go(Input),
     /// The task has ended in this answer.
@@ -31,29 +31,29 @@ fn meet<D: Desk, X: Exchange>(
     exchange: &mut X,
     hunt: Option<&Hunt>,
     want: Want,
-) -> Result<Outcome, NoMemory>
+) -> Result<WantOutcome, NoMemory>
     ensures turns { IfOk result (λ outcome. TakesTurn D.calls X.asks desk.old exchange.old (option_copied hunt.entry) want outcome
         desk.new exchange.new) }
     ensures lacks { OnErr result (Lacks X.asks desk.old exchange.old (option_copied hunt.entry) want desk.new exchange.new) }
 {
     match want {
         Want::Book(event) => match desk.call(event) {
-            Ok(reply) => Ok(Outcome::Go(Input::Reply(reply))),
-            Err(fault) => Ok(Outcome::Go(Input::Refused(AskFault::Desk(fault)))),
+            Ok(reply) => Ok(WantOutcome::Go(Input::Reply(reply))),
+            Err(fault) => Ok(WantOutcome::Go(Input::Refused(AskFault::Desk(fault)))),
         },
         Want::Send {
             server,
             over,
             bytes,
         } => match exchange.ask(&server, hunt, over, bytes.get().as_slice()) {
-            Ok(octets) => Ok(Outcome::Go(Input::Came {
+            Ok(octets) => Ok(WantOutcome::Go(Input::Came {
                 octets,
                 allowance: Allowance::full(),
             })),
-            Err(DeviceFault::Device) => Ok(Outcome::Go(Input::Failed)),
+            Err(DeviceFault::Device) => Ok(WantOutcome::Go(Input::Failed)),
             Err(DeviceFault::NoMemory) => Err(AllocError),
         },
-        Want::Finish(answer) => Ok(Outcome::Done(answer)),
+        Want::Finish(answer) => Ok(WantOutcome::Done(answer)),
     }
 }
 
@@ -77,8 +77,8 @@ pub fn run_task<D: Desk, X: Exchange, C: Clock, R: Rng>(
         let moment = tools.clock.now();
         let want = task.step(moment, &mut tools.ids, input)?;
         match meet(desk, &mut tools.exchange, task.hunt(), want)? {
-            Outcome::Go(next) => input = next,
-            Outcome::Done(answer) => return Ok(answer),
+            WantOutcome::Go(next) => input = next,
+            WantOutcome::Done(answer) => return Ok(answer),
         }
     }
 }

@@ -13,7 +13,7 @@ use crate::fault::StreamFault;
 use crate::framing::{frame, take_message};
 use crate::query::serve_query;
 use crate::tools::Tools;
-use command_text::Clock;
+use clock::Clock;
 use dns_query::Over;
 use dns_text::Octets;
 use history::Desk;

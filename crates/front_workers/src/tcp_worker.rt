@@ -16,7 +16,7 @@ use crate::log_lines::{DEVICE_FAULT, WORKER_ENDED};
 use crate::stream::serve_stream;
 use crate::tools::Tools;
 use crate::work_end::WorkEnd;
-use command_text::Clock;
+use clock::Clock;
 use history::Desk;
 use log::{Log, warn};
 use rand_core::Rng;

@@ -64,13 +64,13 @@ move_eq_itself move.Undo = refl
 move_eq_itself move.Redo = refl
 move_eq_itself (move.UndoOf t) = same t
 
-after_exact : (s : Move) (q : Question) (b : Ask) → ask_eq (ask.After s q) b ≡ true → ask.After s q ≡ b
-after_exact s q (ask.After t r) e =
+after_exact : (q : Question) (s : Move) (b : Ask) → ask_eq (ask.After q s) b ≡ true → ask.After q s ≡ b
+after_exact q s (ask.After r t) e =
     let parts = and_parts _ _ e in
-    let same_step : s ≡ t = move_eq_exact s t parts.0 in
-    let same_question : q ≡ r = question_eq_exact q r parts.1 in
-    λ i. ask.After (same_step i) (same_question i)
-after_exact s q _ e = absurd (false≢true e)
+    let same_question : q ≡ r = question_eq_exact q r parts.0 in
+    let same_step : s ≡ t = move_eq_exact s t parts.1 in
+    λ i. ask.After (same_question i) (same_step i)
+after_exact q s _ e = absurd (false≢true e)
 
 pub ask_eq_exact : (a b : Ask) → ask_eq a b ≡ true → a ≡ b
 ask_eq_exact (ask.Answer q) (ask.Answer r) e = ap ask.Answer (question_eq_exact q r e)
@@ -81,7 +81,7 @@ ask_eq_exact ask.Commands ask.Commands e = refl
 ask_eq_exact ask.Buried ask.Buried e = refl
 ask_eq_exact (ask.Servers name) (ask.Servers other) e = ap ask.Servers (name_eq_exact name other e)
 ask_eq_exact ask.Oldest ask.Oldest e = refl
-ask_eq_exact (ask.After step question) b e = after_exact step question b e
+ask_eq_exact (ask.After question step) b e = after_exact question step b e
 ask_eq_exact ask.NextUndo ask.NextUndo e = refl
 ask_eq_exact _ _ e = absurd (false≢true e)
 
@@ -94,7 +94,7 @@ ask_eq_itself ask.Commands = refl
 ask_eq_itself ask.Buried = refl
 ask_eq_itself (ask.Servers name) = name_eq_itself name
 ask_eq_itself ask.Oldest = refl
-ask_eq_itself (ask.After step question) = both_true (move_eq_itself step) (question_eq_itself question)
+ask_eq_itself (ask.After question step) = both_true (question_eq_itself question) (move_eq_itself step)
 ask_eq_itself ask.NextUndo = refl
 
 -- ---- commands

@@ -139,7 +139,7 @@ seen_of settings past CommandsAsked moment = Commands (commands_of past)
 seen_of settings past BuriedAsked moment = BuriedSeen (buried_in (commands_of past))
 seen_of settings past (ServersAsked name) moment = Servers (servers_of settings past name moment)
 seen_of settings past OldestAsked moment = Oldest (oldest_of past (max past.now moment))
-seen_of settings past (After step question) moment = answer_after settings.journal past step question moment
+seen_of settings past (After question step) moment = answer_after settings.journal past step question moment
 seen_of settings past NextUndo moment = next_seen (next_undo past.marks (commands_of past))
 
 -- what is lent, as what is seen

@@ -15,7 +15,7 @@ use std::alloc::Global;
 use stub_table::{Stub, StubTable};
 
 /// The servers of the closest name at or above this one that has any, else the hints.
-pub fn servers<C: CellSource>(
+pub fn closest_servers<C: CellSource>(
     alloc: Global,
     settings: &Settings,
     cells: &C,
@@ -29,7 +29,7 @@ pub fn servers<C: CellSource>(
         return Ok(servers);
     }
     match name.parent(alloc)? {
-        Some(parent) => servers(alloc, settings, cells, stubs, &parent, moment),
+        Some(parent) => closest_servers(alloc, settings, cells, stubs, &parent, moment),
         None => servers_in_hints(alloc, settings),
     }
 }

@@ -1,4 +1,4 @@
-//! The desk: a book after whatever a caller can hand an event to.
+//! The desk: whatever a caller can hand an event to, as a book of its own or a seat at a shared one.
 
 ghost use Rattle.std.specs.Prelude.{◌≡◌, Result};
 ghost use Rattle.history.specs.declared.event.Event.{Event};

@@ -32,7 +32,7 @@ pub enum Ask {
     /// The name to forget first when the cells are full.
     Oldest,
     /// The answer for a question right after an undo or a redo, which is not made.
-    After { step: Move, question: Question },
+    After { question: Question, step: Move },
     /// The command that an undo would take back.
     NextUndo,
 }

@@ -52,10 +52,10 @@ pub fn redo_puts_back()
 pub fn preview_law()
     ensures granted { (settings : Settings) (history : List Event) (m : ℕ) (step : Move) (q : Question) →
         refusal_in (reply_to settings history (move_at m step)) ≡ None →
-        reply_to settings history (Look m (After step q)) ≡ reply_to settings (history ++ move_at m step ∷ []) (Look m (Answer q)) }
+        reply_to settings history (Look m (After q step)) ≡ reply_to settings (history ++ move_at m step ∷ []) (Look m (Answer q)) }
     ensures refused { (settings : Settings) (history : List Event) (m : ℕ) (step : Move) (q : Question) (why : Refusal) →
         refusal_in (reply_to settings history (move_at m step)) ≡ Some why →
-        reply_to settings history (Look m (After step q)) ≡ Seen (RefusedSeen why) }
+        reply_to settings history (Look m (After q step)) ≡ Seen (RefusedSeen why) }
     ensures choice { (bound : ℕ) (past : Past) (m : ℕ) (step : Move) (q : Question) →
         answer_of (followed_by bound past (move_at m step)) q m
         ≡ answer_by (is_unstruck (marks_moved past step)) past.log q (max past.now m) }

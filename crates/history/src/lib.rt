@@ -13,13 +13,11 @@ mod copies;
 mod limits;
 // The tables that the operator's commands make: local zones, records and stubs.
 mod tables;
-// The change that a command makes of the tables.
-mod changes;
 // The commands in the way of an undo or a redo of a ticket.
 mod reach;
 // The promise that every book keeps.
 mod book;
-// The desk: a book after whatever a caller can hand an event to.
+// The desk: whatever a caller can hand an event to.
 mod desk;
 // A run of any book over a list of events.
 mod runs;
@@ -35,7 +33,7 @@ mod closest;
 mod lookup;
 
 pub use book::{Book, StepFault};
-pub use closest::servers as closest_servers;
+pub use closest::closest_servers;
 pub use desk::{Desk, DeskFault};
 pub use event::{
     Ask, BuriedCommand, Command, Entry, Event, Journalled, Look, Move, Reason, Refusal, Reply,
@@ -51,7 +49,7 @@ pub use limits::{
     LAGGING_CELLS, MOMENT_END, MOST_CELLS, MOST_COMMANDS, MOST_EVENTS, MOST_HINTS, MakeFault,
     are_settings, limits_law,
 };
-pub use lookup::{share_records, share_stubs, share_zones, sight as question_sight, sight_beside};
+pub use lookup::{question_sight, share_records, share_stubs, share_zones, sight_beside};
 pub use reach::{buried, over, under};
 pub use runs::{RunFault, run};
 pub use servers::{Origin, Servers};

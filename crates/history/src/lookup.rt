@@ -13,7 +13,7 @@ use std::alloc::Global;
 use stub_table::{Stub, StubTable};
 
 /// The reply to a lookup of a question: the answer of the table, or the cell if the table has none.
-pub fn sight<'a, C: CellSource>(
+pub fn question_sight<'a, C: CellSource>(
     cells: &'a C,
     table: &'a ZoneTable,
     question: &'a Question,

@@ -12,8 +12,8 @@ use Rattle.dns_text.specs.declared.record.Question.{Question}
 use Rattle.history.specs.declared.servers.Servers.{Servers}
 use Rattle.iterate.specs.declared.search.Nested.{Nested}
 use Rattle.iterate.specs.declared.search.Hunt.{Hunt}
-use Rattle.iterate.specs.declared.search.Move.{Move}
-use Rattle.iterate.specs.declared.search.Move.TheVariants.{Ask, Seek, Pass, Close}
+use Rattle.iterate.specs.declared.search.NextMove.{NextMove}
+use Rattle.iterate.specs.declared.search.NextMove.TheVariants.{Ask, Seek, Pass, Close}
 use Rattle.iterate.specs.declared.search.Search.{Search}
 use Rattle.iterate.specs.Exchanges.{Exchange, AreQuiet}
 use Rattle.iterate.specs.Known.{Known, Listed}
@@ -161,7 +161,7 @@ abbrev pub AreAllAsked : Hunt → Type 0
 AreAllAsked hunt = length hunt.addrs.items ≤ hunt.asked
 
 -- What comes next for the innermost question.
-abbrev pub IsNextStep : Search → Move → Type 0
+abbrev pub IsNextStep : Search → NextMove → Type 0
 IsNextStep search (Ask server) = (rest : List Addr) × (drop (hunt_of search).asked (hunt_of search).addrs.items ≡ server ∷ rest)
 IsNextStep search (Seek target) = IsNext (hunt_of search) target × MayBeSought search target × AreAllAsked (hunt_of search)
 IsNextStep search Pass = (target : Labels) × IsNext (hunt_of search) target × (¬ (MayBeSought search target)) × AreAllAsked (hunt_of search)

@@ -235,7 +235,7 @@ pub(crate) fn close(alloc: Global, search: Search, found: &[Addr]) -> Result<Sea
 // ---- the next move
 
 /// The next move for the innermost question.
-pub(crate) enum Move {
+pub(crate) enum NextMove {
     /// Ask this server.
     Ask(Addr),
     /// Look up this server, which has no address.
@@ -314,23 +314,23 @@ fn next_missing(hunt: &Hunt) -> Option<&Name>
 }
 
 /// The next move for the innermost question: its servers are asked in turn, then those without an address are looked up.
-fn choose(search: &Search) -> Result<Move, NoMemory>
+fn choose(search: &Search) -> Result<NextMove, NoMemory>
     ensures { IfOk result (λ next. IsNextStep search.now next) }
 {
     let hunt = search.hunt();
     if let Some(server) = addr_at(&hunt.addrs, hunt.asked) {
-        return Ok(Move::Ask(server));
+        return Ok(NextMove::Ask(server));
     }
     match next_missing(hunt) {
         Some(name) => {
             if may_seek(search, name) {
                 let target = name.clone()?;
-                Ok(Move::Seek(target))
+                Ok(NextMove::Seek(target))
             } else {
-                Ok(Move::Pass)
+                Ok(NextMove::Pass)
             }
         }
-        None => Ok(Move::Close),
+        None => Ok(NextMove::Close),
     }
 }
 
@@ -359,10 +359,10 @@ pub(crate) fn go_on<R: Rng>(
     let mut current = search;
     'going: loop {
         match choose(&current)? {
-            Move::Ask(server) => return ask(alloc, ids, current, server),
-            Move::Seek(target) => return seek(alloc, moment, current, target, Stage::Address),
-            Move::Pass => current = supply(alloc, current, &[])?,
-            Move::Close => {
+            NextMove::Ask(server) => return ask(alloc, ids, current, server),
+            NextMove::Seek(target) => return seek(alloc, moment, current, target, Stage::Address),
+            NextMove::Pass => current = supply(alloc, current, &[])?,
+            NextMove::Close => {
                 if is_outermost(&current) {
                     return Ok(failed(alloc));
                 }

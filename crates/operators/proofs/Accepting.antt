@@ -7,7 +7,8 @@ use Rattle.streams.specs.Transcript.{Transcript, paired}
 use Rattle.streams.specs.declared.fault.Ended.{Ended}
 use Rattle.streams.specs.declared.fault.Ended.TheVariants.{EndOfInput}
 use Rattle.streams.specs.declared.fault.ScriptFault.{ScriptFault}
-use Rattle.command_text.specs.Control.{Calls, Controls, Ticks}
+use Rattle.clock.specs.Ticks.{Ticks}
+use Rattle.command_text.specs.Control.{Calls, Controls}
 use Rattle.operators.specs.FirstLines.{AcceptsInput, AcceptsLine}
 
 all_read : (unread left : Option (List ℕ)) (input : List ℕ) → Consumes unread left input → IsAtEnd left → IfSome unread (λ octets. input ≡ octets)

@@ -3,7 +3,8 @@ use Rattle.std.specs.Prelude.{◌≡◌, ◌++◌, ◌||◌, ℕ, Bool, false, L
 use Rattle.std.specs.List.{starts_with}
 use Rattle.streams.specs.Split.{IsLineHeard, lines_of}
 use Rattle.streams.specs.Transcript.{Obeying, Transcript, paired}
-use Rattle.command_text.specs.Control.{Calls, Controls, Ticks}
+use Rattle.clock.specs.Ticks.{Ticks}
+use Rattle.command_text.specs.Control.{Calls, Controls}
 
 -- The reply says that its line was not obeyed.
 abbrev pub says_refused : List ℕ → Bool

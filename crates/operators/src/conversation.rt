@@ -2,8 +2,8 @@
 //!
 //! Neither waits for the other, so that many lines need no reply to each, and a client need not know where a reply ends.
 
+use crate::control_peer::Peer;
 use crate::fault::CliFault;
-use crate::peer::Peer;
 use crate::replies::{Replies, is_silent};
 use dns_sockets::would_wait;
 use std::alloc::Global;
@@ -51,7 +51,7 @@ impl Talk {
 
 /// The outcome of a conversation.
 #[derive(Drop)]
-pub(crate) struct Outcome {
+pub(crate) struct ConversationEnd {
     /// Whether all lines were obeyed.
     pub obeyed: bool,
     /// The line that the service did not take any more, since it had ended the connection.
@@ -205,7 +205,7 @@ pub(crate) fn converse<R: Threads + Wait + Clock + Sync, B: BufRead + Drop>(
     out: Stdout,
     first: Vec<u8>,
     lines: &mut Split<B, Global>,
-) -> Result<Outcome, CliFault> {
+) -> Result<ConversationEnd, CliFault> {
     let glance = Some(Duration::from_millis(GLANCE_MILLISECONDS));
     let patience = Some(peer.patience());
     if stream.set_read_timeout(glance).is_err() || stream.set_write_timeout(patience).is_err() {
@@ -221,7 +221,7 @@ pub(crate) fn converse<R: Threads + Wait + Clock + Sync, B: BufRead + Drop>(
         shared.is_all_sent.store(true, Ordering::SeqCst);
         let _ = stream.shutdown(Shutdown::Write);
         let obeyed = judge(shared, receiver.join(rt))?;
-        Ok(Outcome {
+        Ok(ConversationEnd {
             obeyed,
             left: sent?,
         })

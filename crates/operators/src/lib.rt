@@ -7,13 +7,13 @@
 // The end of a run that failed: exit status and message.
 mod fault;
 // The service to which a client's lines go.
-mod peer;
+mod control_peer;
 // The replies that come to a client.
 mod replies;
 // The conversation of a client with a service.
 mod conversation;
 // The mode `control`: the client of a service's control socket.
-mod client;
+mod control_client;
 // A book whose figures anyone can read, without its lock.
 mod book_figures;
 // The octets with which an operator's line may begin.
@@ -24,8 +24,6 @@ mod operator;
 mod operator_queue;
 // The turn of an operator, and the patience with it.
 mod operator_turn;
-// The lines that a service answers by itself.
-mod own_lines;
 // The texts that the log wrote lately.
 mod recent_texts;
 // The log of a service.
@@ -44,14 +42,13 @@ mod watched_fifo;
 mod first_lines;
 
 pub use book_figures::{BookFigures, WatchedBook, read_figure};
-pub use client::send;
+pub use control_client::send;
+pub use control_peer::Peer;
 pub use fault::{CliFault, end_for};
 pub use first_lines::{obey_fifo, obey_file};
 pub use lookout::Lookout;
 pub use operator::Operator;
 pub use operator_queue::OperatorQueue;
-pub use operator_turn::{Turn, TurnEnd};
-pub use own_lines::{OwnLine, OwnLines};
-pub use peer::Peer;
+pub use operator_turn::{OperatorTurn, TurnEnd};
 pub use service_log::ServiceLog;
 pub use service_runtime::ServiceRuntime;

@@ -2,7 +2,7 @@
 
 ghost use Rattle.std.specs.Prelude.{◌≡◌, ◌≤◌, length, if◌then◌else◌};
 ghost use Rattle.std.specs.Io.BufRead.{take_through};
-ghost use Rattle.operators.specs.declared.operator_turn.TheConstants.{TURN_SECONDS, PATIENCE_SECONDS};
+ghost use Rattle.operators.specs.declared.operator_turn.TheConstants.{TURN_SECONDS, OPERATOR_PATIENCE_SECONDS};
 
 use crate::first_octet::begins_as_line;
 use crate::operator::Operator;
@@ -19,7 +19,7 @@ use std::time::{Duration, Instant};
 pub(crate) const TURN_SECONDS: u64 = 1;
 
 /// How long an operator may complete no line if nobody waits, in seconds.
-const PATIENCE_SECONDS: u64 = 60;
+const OPERATOR_PATIENCE_SECONDS: u64 = 60;
 
 /// How long a turn lasts at most while another operator waits with a whole line, in seconds.
 const LONGEST_TURN_SECONDS: u64 = 5;
@@ -50,12 +50,12 @@ fn first_line(octets: &[u8]) -> &[u8]
 
 /// How long an operator may complete no line, in seconds.
 fn patience(another_waits: bool) -> u64
-    ensures { result ≡ (if another_waits then TURN_SECONDS else PATIENCE_SECONDS) }
+    ensures { result ≡ (if another_waits then TURN_SECONDS else OPERATOR_PATIENCE_SECONDS) }
 {
     if another_waits {
         TURN_SECONDS
     } else {
-        PATIENCE_SECONDS
+        OPERATOR_PATIENCE_SECONDS
     }
 }
 
@@ -70,13 +70,13 @@ pub enum TurnEnd {
     Yields,
 }
 
-/// The turn of an operator. `&Turn` reads the connection, one line at most in a read, and writes to it.
+/// The turn of an operator. `&OperatorTurn` reads the connection, one line at most in a read, and writes to it.
 ///
 /// Both fail once the operator has completed no line for too long: none came whole, and no reply left whole. An error ends the
 /// connection in the middle of a line, where an end of the input would have the begun line obeyed. The input seems to end between
 /// two lines if the turn has been long and another operator waits with a whole line.
 #[derive(Drop)]
-pub struct Turn<'a, 'q, R: Clock + Log> {
+pub struct OperatorTurn<'a, 'q, R: Clock + Log> {
     rt: &'a R,
     operator: &'a Operator,
     queue: RefCell<&'a mut OperatorQueue<'q, R>>,
@@ -92,18 +92,18 @@ pub struct Turn<'a, 'q, R: Clock + Log> {
     yields: Cell<bool>,
 }
 
-impl<'a, 'q, R: Clock + Log> Turn<'a, 'q, R> {
+impl<'a, 'q, R: Clock + Log> OperatorTurn<'a, 'q, R> {
     /// The turn of this operator begins.
     pub fn new(
         rt: &'a R,
         operator: &'a Operator,
         queue: &'a mut OperatorQueue<'q, R>,
-    ) -> io::Result<Turn<'a, 'q, R>> {
+    ) -> io::Result<OperatorTurn<'a, 'q, R>> {
         operator.stream.set_read_timeout(Some(glance()))?;
         operator.stream.set_write_timeout(Some(glance()))?;
         operator.stream.set_nodelay(true)?;
         let began = Instant::now(rt)?;
-        Ok(Turn {
+        Ok(OperatorTurn {
             rt,
             operator,
             queue: RefCell::new(queue),
@@ -206,7 +206,7 @@ impl<'a, 'q, R: Clock + Log> Turn<'a, 'q, R> {
     }
 }
 
-impl<'a, 'q, R: Clock + Log> Read for &Turn<'a, 'q, R> {
+impl<'a, 'q, R: Clock + Log> Read for &OperatorTurn<'a, 'q, R> {
     fn read(&mut self, room: &mut [u8]) -> io::Result<usize> {
         match self.operator.stream.peek(room) {
             Ok(0) => Ok(0),
@@ -229,7 +229,7 @@ impl<'a, 'q, R: Clock + Log> Read for &Turn<'a, 'q, R> {
     }
 }
 
-impl<'a, 'q, R: Clock + Log> Write for &Turn<'a, 'q, R> {
+impl<'a, 'q, R: Clock + Log> Write for &OperatorTurn<'a, 'q, R> {
     fn write(&mut self, octets: &[u8]) -> io::Result<usize> {
         if self.is_behind.get() {
             self.check_patience()?;

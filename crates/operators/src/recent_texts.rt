@@ -71,7 +71,7 @@ pub(crate) struct Recent {
 
 /// What becomes of a text.
 #[derive(Clone, Copy)]
-pub(crate) enum Fate {
+pub(crate) enum TextFate {
     /// It is written, after a line that says how often it came earlier, if it did.
     Written { earlier: u64 },
     /// It is counted.
@@ -98,12 +98,12 @@ impl RecentTexts {
     }
 
     /// Counts a line that is left out.
-    fn leave_out(&mut self, now: u64) -> Fate {
+    fn leave_out(&mut self, now: u64) -> TextFate {
         if self.left_out == 0 {
             self.since = now;
         }
         self.left_out = self.left_out.saturating_add(1);
-        Fate::Counted
+        TextFate::Counted
     }
 
     /// How many servers or sets are named beside a cause.
@@ -133,53 +133,53 @@ impl RecentTexts {
     }
 
     /// Counts a text that came lately. None if it did not.
-    fn meet_again(&mut self, known: &str, now: u64) -> Option<Fate> {
+    fn meet_again(&mut self, known: &str, now: u64) -> Option<TextFate> {
         for recent in &mut self.texts {
             if recent.text.as_str() == known {
                 if now.saturating_sub(recent.since) < WHILE_SECONDS {
                     recent.more = recent.more.saturating_add(1);
-                    return Some(Fate::Counted);
+                    return Some(TextFate::Counted);
                 }
                 let earlier = recent.more;
                 recent.since = now;
                 recent.more = 0;
-                return Some(Fate::Written { earlier });
+                return Some(TextFate::Written { earlier });
             }
         }
         None
     }
 
     /// Counts a text that names one server or set too many beside its cause, with these words in its place.
-    fn meet_other(&mut self, cause: &str, others: &str, now: u64) -> Fate {
+    fn meet_other(&mut self, cause: &str, others: &str, now: u64) -> TextFate {
         let others = words_of(cause, others);
         for recent in &mut self.texts {
             if recent.text.as_str() == others.as_str() {
                 recent.more = recent.more.saturating_add(1);
-                return Fate::Counted;
+                return TextFate::Counted;
             }
         }
         if self.begin(others, now, 1) {
-            Fate::Counted
+            TextFate::Counted
         } else {
             self.leave_out(now)
         }
     }
 
     /// Counts a line. Only a line that names a server or a set may be left out.
-    pub fn meet(&mut self, text: &str, now: u64) -> Fate {
+    pub fn meet(&mut self, text: &str, now: u64) -> TextFate {
         let known = known_by(text);
         if let Some(fate) = self.meet_again(known, now) {
             return fate;
         }
         let Some((cause, others)) = cause_in(known) else {
             let _ = self.begin(words_of(known, ""), now, 0);
-            return Fate::Written { earlier: 0 };
+            return TextFate::Written { earlier: 0 };
         };
         if self.named_beside(cause) >= MOST_NAMED {
             return self.meet_other(cause, others, now);
         }
         if self.begin(words_of(known, ""), now, 0) {
-            Fate::Written { earlier: 0 }
+            TextFate::Written { earlier: 0 }
         } else {
             self.leave_out(now)
         }

@@ -1,7 +1,7 @@
 //! The log of a service, on standard error. Whoever logs never waits: a line joins those that wait, and a thread of its own writes them.
 
 use crate::recent_texts::{
-    Fate, MOST_TEXTS, RecentTexts, WHILE_SECONDS, Words, known_by, words_of,
+    MOST_TEXTS, RecentTexts, TextFate, WHILE_SECONDS, Words, known_by, words_of,
 };
 use circular_buffer::HeapCircularBuffer;
 use dns_sockets::takes_octets;
@@ -36,13 +36,13 @@ type Time = i64;
 
 /// A line that waits to be written: its text, how often that came without being written, and the time.
 #[derive(Drop)]
-struct Line {
+struct LogLine {
     text: Words,
     more: u64,
     time: Time,
 }
 
-impl Display for Line {
+impl Display for LogLine {
     fn fmt<W: Write>(&self, f: &mut Formatter<W>) -> fmt::Result {
         f.write_str(self.text.as_str())?;
         if self.more > 0 {
@@ -60,17 +60,17 @@ impl Display for Line {
 
 /// What a log keeps: the texts that came lately, and the lines that wait.
 #[derive(Drop)]
-struct Kept {
+struct KeptLines {
     recents: RecentTexts,
-    lines: HeapCircularBuffer<Line, Global>,
+    lines: HeapCircularBuffer<LogLine, Global>,
     /// How many lines found no room among those that wait.
     lost: u64,
 }
 
-impl Kept {
+impl KeptLines {
     /// No line, with room for all that are kept at once.
-    fn new(alloc: Global) -> Result<Kept, AllocError> {
-        Ok(Kept {
+    fn new(alloc: Global) -> Result<KeptLines, AllocError> {
+        Ok(KeptLines {
             recents: RecentTexts::new(alloc)?,
             lines: HeapCircularBuffer::with_capacity(alloc, MOST_WAITING)?,
             lost: 0,
@@ -79,14 +79,18 @@ impl Kept {
 
     /// Has a line wait. It is counted if there is no room.
     fn wait(&mut self, text: Words, more: u64, time: Time) {
-        if self.lines.try_push_back(Line { text, more, time }).is_err() {
+        if self
+            .lines
+            .try_push_back(LogLine { text, more, time })
+            .is_err()
+        {
             self.lost = self.lost.saturating_add(1).saturating_add(more);
         }
     }
 
     /// Has the line of a text wait if the text is to be written.
     fn meet(&mut self, text: Words, now: u64, time: Time) {
-        if let Fate::Written { earlier } = self.recents.meet(text.as_str(), now) {
+        if let TextFate::Written { earlier } = self.recents.meet(text.as_str(), now) {
             if earlier > 0 {
                 self.wait(words_of(known_by(text.as_str()), ""), earlier, time);
             }
@@ -114,7 +118,7 @@ impl Kept {
     }
 
     /// Takes out the line that is to be written next. Once none waits, it is the one that says how many found no room.
-    fn next(&mut self, time: Time) -> Option<Line> {
+    fn next(&mut self, time: Time) -> Option<LogLine> {
         if let Some(line) = self.lines.pop_front() {
             return Some(line);
         }
@@ -128,7 +132,7 @@ impl Kept {
             text,
             "resolver: standard error took no lines: {lost} found no room"
         );
-        Some(Line {
+        Some(LogLine {
             text,
             more: 0,
             time,
@@ -141,7 +145,7 @@ impl Kept {
 pub struct ServiceLog<'a, R> {
     rt: &'a R,
     start: Instant,
-    kept: Mutex<Kept>,
+    kept: Mutex<KeptLines>,
 }
 
 impl<'a, R: Wait + Clock> ServiceLog<'a, R> {
@@ -150,7 +154,7 @@ impl<'a, R: Wait + Clock> ServiceLog<'a, R> {
         Ok(ServiceLog {
             rt,
             start,
-            kept: Mutex::new(Kept::new(alloc)?),
+            kept: Mutex::new(KeptLines::new(alloc)?),
         })
     }
 
@@ -175,7 +179,7 @@ impl<'a, R: Wait + Clock> ServiceLog<'a, R> {
     }
 
     /// Takes out the line that is to be written next.
-    fn next(&self) -> Option<Line> {
+    fn next(&self) -> Option<LogLine> {
         self.kept.lock(self.rt).next(self.time())
     }
 }

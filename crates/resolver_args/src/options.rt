@@ -29,7 +29,7 @@ impl LinesHelp {
     pub fn new(alloc: Global) -> Result<LinesHelp, AllocError> {
         Ok(LinesHelp {
             script: lines_of(alloc, Channel::Script)?,
-            control: control_lines(alloc)?,
+            control: lines_of(alloc, Channel::Control)?,
         })
     }
 }
@@ -39,13 +39,6 @@ fn lines_of(alloc: Global, channel: Channel) -> Result<String, AllocError> {
     let mut text = String::from_str(alloc, "Lines:\n")?;
     let lines = help_text(alloc, channel)?;
     text.push_str(lines.as_str())?;
-    Ok(text)
-}
-
-/// The lines of the control socket, as help shows them. A service answers the last two by itself.
-fn control_lines(alloc: Global) -> Result<String, AllocError> {
-    let mut text = lines_of(alloc, Channel::Control)?;
-    text.push_str("  status\n  stats\n")?;
     Ok(text)
 }
 

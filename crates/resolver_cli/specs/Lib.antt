@@ -1,1 +1,2 @@
+pub mod OperatorLines
 pub mod Version

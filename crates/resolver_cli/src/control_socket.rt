@@ -1,94 +1,77 @@
 //! The control socket, which serves one operator at a time.
 
-use crate::what_undo::what_undo;
+use crate::operator_lines::{OperatorLines, Served};
 use crate::worker::{Lent, ServiceBook};
-use command_text::{Clock, serve_control};
-use dns_sockets::{MonotonicClock, REST_SECONDS};
-use flight_sockets::cause_of;
+use clock::{Clock, MonotonicClock, REST_SECONDS};
+use dns_sockets::cause_of;
 use front_workers::DEVICE_FAULT;
 use history::Desk;
 use log::{Log, warn};
-use operators::{Operator, OperatorQueue, OwnLine, OwnLines, Turn, TurnEnd};
+use operators::{Operator, OperatorQueue, OperatorTurn, TurnEnd};
 use shared_book::{CallLedger, Seat};
-use std::alloc::{AllocError, Global};
+use std::alloc::Global;
 use std::io::{Read, Write};
 use std::sync::Wait;
 use std::thread;
 use std::time::Duration;
-use streams::{CountedReader, CountedWriter, Ended, ScriptFault, Text, send};
-
-/// The text of a reply, or of the fault if there is no memory for it.
-fn text_of(made: Result<String, AllocError>) -> Text {
-    match made {
-        Ok(text) => Text::Made(text.into_bytes()),
-        Err(_) => Text::Fixed(b"error no_memory\n"),
-    }
-}
-
-/// The reply to a line of the service's own, so many seconds after the start.
-fn reply_to<L: CallLedger, R: Wait + std::rt::Clock>(
-    rt: &R,
-    alloc: Global,
-    lent: &Lent<'_, L>,
-    desk: &mut Seat<'_, ServiceBook, L, R>,
-    own: OwnLine,
-    seconds: u64,
-) -> Text {
-    match own {
-        OwnLine::Status => text_of(lent.gauges.status(alloc, seconds)),
-        OwnLine::Stats => text_of(lent.gauges.stats(alloc, seconds)),
-        OwnLine::WhatUndo => what_undo(rt, alloc, lent, desk, seconds),
-        OwnLine::ExtraWord => Text::Fixed(b"error bad_data\n"),
-    }
-}
+use streams::{CountedReader, CountedWriter, Ended, ScriptFault, run_lines};
 
 /// Obeys lines up to the end of the input, or up to `stop`.
-fn obey_input<D: Desk, C: Clock, I: Read + Drop, O: Write + Drop>(
+fn obey_input<
+    'a,
+    'l,
+    C: Clock,
+    D: Desk,
+    L: CallLedger,
+    R: Wait + std::rt::Clock,
+    I: Read + Drop,
+    O: Write + Drop,
+>(
     alloc: Global,
+    served: &mut Served<'a, 'l, C, L, R>,
     desk: &mut D,
-    clock: &mut C,
     input: I,
     output: O,
 ) -> Result<Ended, ScriptFault> {
     let mut reader = CountedReader::new(input);
     let mut writer = CountedWriter::new(output);
-    serve_control(alloc, desk, clock, &mut reader, &mut writer)
+    run_lines::<Served<'a, 'l, C, L, R>, D, OperatorLines, CountedReader<I>, CountedWriter<O>>(
+        alloc,
+        served,
+        desk,
+        &mut reader,
+        &mut writer,
+    )
 }
 
 /// Obeys an operator's lines for a turn.
-pub(crate) fn obey_operator<'a, 'q, L: CallLedger, R: Wait + std::rt::Clock + Log>(
+pub(crate) fn obey_operator<
+    'a,
+    'q,
+    C: Clock,
+    D: Desk,
+    L: CallLedger,
+    R: Wait + std::rt::Clock + Log,
+>(
     rt: &'a R,
     alloc: Global,
-    lent: &Lent<'_, L>,
-    desk: &mut Seat<'_, ServiceBook, L, R>,
-    clock: &mut MonotonicClock<'_, R>,
+    served: &mut Served<'_, '_, C, L, R>,
+    desk: &mut D,
     operator: &'a Operator,
     queue: &'a mut OperatorQueue<'q, R>,
 ) -> TurnEnd {
-    let Ok(turn) = Turn::new(rt, operator, queue) else {
+    let Ok(turn) = OperatorTurn::new(rt, operator, queue) else {
         warn!(rt; "{DEVICE_FAULT}: no operator is served");
         return TurnEnd::Over;
     };
-    let mut lines = OwnLines::new(&turn, &lent.gauges.lines);
-    for _ in rt.forever() {
-        match obey_input(alloc, desk, clock, &mut lines, &turn) {
-            Ok(Ended::EndOfInput) => {}
-            Ok(Ended::Stop) => {
-                operator.drain();
-                return TurnEnd::Stop;
-            }
-            Err(_) => return TurnEnd::Over,
+    match obey_input(alloc, served, desk, &turn, &turn) {
+        Ok(Ended::EndOfInput) => turn.end(),
+        Ok(Ended::Stop) => {
+            operator.drain();
+            TurnEnd::Stop
         }
-        let Some(own) = lines.take_own() else {
-            return turn.end();
-        };
-        let reply = reply_to(rt, alloc, lent, desk, own, clock.now());
-        let mut writer = CountedWriter::new(&turn);
-        if send(&mut writer, reply.as_slice()).is_err() {
-            return TurnEnd::Over;
-        }
+        Err(_) => TurnEnd::Over,
     }
-    unreachable!()
 }
 
 /// Obeys the operators of a queue, one after another, until one sends `stop`. One whose turn ends between two lines waits for the next.
@@ -100,12 +83,12 @@ pub(crate) fn obey_operators<L: CallLedger, R: Wait + std::rt::Clock + Log>(
     mut queue: OperatorQueue<'_, R>,
     mut desk: Seat<'_, ServiceBook, L, R>,
 ) {
-    let mut clock = MonotonicClock::new(rt, lent.terms.start);
+    let mut served = Served::new(rt, lent, MonotonicClock::new(rt, lent.terms.start));
     for _ in rt.forever() {
         match queue.next() {
             Ok(operator) => {
-                let (desk, clock, queue) = (&mut desk, &mut clock, &mut queue);
-                match obey_operator(rt, alloc, lent, desk, clock, &operator, queue) {
+                let (served, desk, queue) = (&mut served, &mut desk, &mut queue);
+                match obey_operator(rt, alloc, served, desk, &operator, queue) {
                     TurnEnd::Stop => return,
                     TurnEnd::Over => {}
                     TurnEnd::Yields => queue.put_back(operator),

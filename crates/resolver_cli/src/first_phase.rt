@@ -1,8 +1,9 @@
 //! The first phase of a service: it obeys the lines of a file, if there is one, and serves nobody yet.
 
 use crate::control_socket::obey_operator;
+use crate::operator_lines::Served;
 use crate::worker::Lent;
-use dns_sockets::MonotonicClock;
+use clock::MonotonicClock;
 use log::Log;
 use operators::{CliFault, OperatorQueue, obey_fifo, obey_file};
 use shared_book::{CallLedger, Pass, Seat};
@@ -37,8 +38,9 @@ fn obey_first_fifo<L: CallLedger, R: Threads + Wait + Clock + Log>(
         (Ok(()), _) => Ok(Some(desk.into_pass())),
         (Err(fault), None) => Err(fault),
         (Err(_), Some(operator)) => {
-            let mut clock = MonotonicClock::new(rt, lent.terms.start);
-            let _ = obey_operator(rt, alloc, lent, &mut desk, &mut clock, &operator, queue);
+            let clock = MonotonicClock::new(rt, lent.terms.start);
+            let mut served = Served::new(rt, lent, clock);
+            let _ = obey_operator(rt, alloc, &mut served, &mut desk, &operator, queue);
             Ok(None)
         }
     }

@@ -5,8 +5,8 @@ ghost use Rattle.history.specs.Event.{AreSettings};
 use command_text::run_script;
 use history::Settings;
 use operators::CliFault;
+use store::ShelfBook;
 use streams::{CountedReader, CountedWriter, ScriptFault};
-use undo_book::ShelfBook;
 
 /// Obeys each line of standard input, and writes the replies to standard output.
 pub(crate) fn obey_input(rt: &HostRuntime, settings: Settings) -> Result<(), CliFault>

@@ -18,7 +18,7 @@ use crate::worker::{
 use cell_store::NameSeed;
 use dns_sockets::place_of;
 use dns_text::Shared;
-use flight_sockets::{Asking, Permits, Waker, ZoneShares};
+use flight_sockets::{AskingTerms, Permits, Waker, ZoneShares};
 use history::{Book, MakeFault, Settings};
 use log::{Log, info};
 use operators::{BookFigures, CliFault, OperatorQueue, ServiceLog, ServiceRuntime, WatchedBook};
@@ -34,7 +34,7 @@ use std::sync::atomic::{AtomicBool, Ordering};
 use std::thread;
 use std::thread::Threads;
 use std::time::Instant;
-use undo_book::ShelfBook;
+use store::ShelfBook;
 
 /// The parts of the first pass. Each new pass takes half of what is left, so this bounds the number of passes.
 const PARTS: u64 = 1 << 32;
@@ -277,7 +277,7 @@ where
         tcp,
         seed: service.seed,
         shares,
-        asking: Asking {
+        asking: AskingTerms {
             server_port: service.settings.server_port,
             do_not_query: do_not_query.as_slice(),
             permits: &permits,

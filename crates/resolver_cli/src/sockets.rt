@@ -95,7 +95,7 @@ fn hold_descriptors(alloc: Global, socket: &TcpListener, count: usize) -> Result
 
 /// The descriptors that workers may have.
 #[derive(Clone, Copy)]
-pub(crate) struct Shares {
+pub(crate) struct DescriptorShares {
     /// The most exchanges of each worker.
     pub exchanges: usize,
     /// The most connections of each TCP worker.
@@ -109,7 +109,7 @@ pub(crate) fn share_descriptors(
     socket: &TcpListener,
     udp: u8,
     tcp: u8,
-) -> Result<Shares, CliFault>
+) -> Result<DescriptorShares, CliFault>
     requires some { 1 ≤ tcp }
     requires few { udp + tcp ≤ MOST_WORKERS }
 {
@@ -125,7 +125,7 @@ pub(crate) fn share_descriptors(
         socket,
         exchanges.saturating_mul(workers).saturating_add(held),
     )?;
-    Ok(Shares {
+    Ok(DescriptorShares {
         exchanges,
         connections,
     })

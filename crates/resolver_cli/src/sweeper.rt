@@ -1,8 +1,7 @@
 //! The sweeper: it removes expired data from the cache, so that the cache takes memory only for live data.
 
 use crate::worker::Lent;
-use command_text::Clock;
-use dns_sockets::MonotonicClock;
+use clock::{Clock, MonotonicClock};
 use history::{Desk, Event};
 use log::{Log, info, warn};
 use operators::{BookFigures, read_figure};
@@ -38,7 +37,7 @@ pub(crate) fn sweep_often<L: CallLedger, R: Wait + std::rt::Clock + Log>(
     let mut desk = Seat::new(rt, lent.book, pass);
     let mut clock = MonotonicClock::new(rt, lent.terms.start);
     let mut due = LEAST_MILLISECONDS;
-    let mut room = Room::new();
+    let mut room = CacheRoom::new();
     for _ in rt.forever() {
         if lent.stop.load(Ordering::SeqCst) {
             return;
@@ -69,7 +68,7 @@ fn sweep_by_turns<L: CallLedger, R: Wait + std::rt::Clock>(rt: &R, lent: &Lent<'
 
 /// What the log says of the room in the cache.
 #[derive(Drop)]
-struct Room {
+struct CacheRoom {
     /// Whether the last line said that the cache is full.
     is_full: bool,
     /// The admissions that had found no room by then.
@@ -78,10 +77,10 @@ struct Room {
     forgotten: u64,
 }
 
-impl Room {
+impl CacheRoom {
     /// Nothing was said.
-    fn new() -> Room {
-        Room {
+    fn new() -> CacheRoom {
+        CacheRoom {
             is_full: false,
             seen: 0,
             forgotten: 0,

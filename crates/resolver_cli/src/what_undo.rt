@@ -1,9 +1,9 @@
 //! The reply to `what_undo` on the control socket: the command that an undo would take back, and of a flush how much it hides.
 
-use crate::worker::{Lent, ServiceBook};
+use crate::worker::Lent;
 use command_text::answer_text;
 use history::{Ask, Desk, DeskFault, Event, Reply, Seen};
-use shared_book::{CallLedger, Seat};
+use shared_book::CallLedger;
 use std::alloc::{AllocError, Global};
 use std::rt::Clock;
 use std::sync::Wait;
@@ -83,11 +83,11 @@ fn flush_in(answer: &Result<Reply, DeskFault>) -> Option<u64> {
 }
 
 /// The lines of the reply. If there is no memory for the second, it is left out.
-pub(crate) fn what_undo<L: CallLedger, R: Wait + Clock>(
+pub(crate) fn what_undo<D: Desk, L: CallLedger, R: Wait + Clock>(
     rt: &R,
     alloc: Global,
     lent: &Lent<'_, L>,
-    desk: &mut Seat<'_, ServiceBook, L, R>,
+    desk: &mut D,
     moment: u64,
 ) -> Text {
     let ask = Ask::NextUndo;

@@ -4,10 +4,10 @@ ghost use Rattle.std.specs.Prelude.{◌≡◌, ◌+◌, ◌≤◌, vec_len};
 ghost use Rattle.resolver_args.specs.declared.mode.TheConstants.{MOST_WORKERS};
 
 use crate::gauges::Gauges;
-use crate::sockets::{Shares, Sockets};
-use dns_sockets::MonotonicClock;
+use crate::sockets::{DescriptorShares, Sockets};
+use clock::MonotonicClock;
 use flight_sockets::{
-    Asking, TableSeed, Tally, TcpPoll, TcpWorker, UdpListener, UdpWorker, fly_tcp, fly_udp,
+    AskingTerms, TableSeed, Tally, TcpPoll, TcpWorker, UdpListener, UdpWorker, fly_tcp, fly_udp,
 };
 use log::Log;
 use operators::{CliFault, WatchedBook};
@@ -22,7 +22,7 @@ use std::rt::Clock;
 use std::sync::Wait;
 use std::sync::atomic::AtomicBool;
 use std::time::Instant;
-use undo_book::ShelfBook;
+use store::ShelfBook;
 
 /// The book of a service.
 pub(crate) type ServiceBook = WatchedBook<ShelfBook>;
@@ -39,9 +39,9 @@ pub(crate) struct Terms<'a> {
     /// The seed of the identifiers of queries, if the operator fixed one.
     pub seed: Option<u32>,
     /// The descriptors that workers may have.
-    pub shares: Shares,
+    pub shares: DescriptorShares,
     /// How name servers are asked.
-    pub asking: Asking<'a>,
+    pub asking: AskingTerms<'a>,
     /// The instant from which every worker's clock counts.
     pub start: Instant,
 }

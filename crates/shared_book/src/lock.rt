@@ -12,7 +12,7 @@ use crate::pass::Pass;
 use history::{Book, Event, Hidden, Reply};
 use std::sync::{Mutex, MutexGuard, Wait};
 
-/// What lies under the lock. Only this module reaches it without a `Held`.
+/// What lies under the lock. Only this module reaches it without a `LockHold`.
 #[derive(Drop)]
 pub(crate) struct Lock<B: Book, L: CallLedger> {
     kept: Mutex<Kept<B, L>>,
@@ -26,8 +26,8 @@ impl<B: Book, L: CallLedger> Lock<B, L> {
     }
 
     /// Waits for the lock.
-    pub fn hold<R: Wait>(&self, rt: &R) -> Held<'_, B, L> {
-        Held {
+    pub fn hold<R: Wait>(&self, rt: &R) -> LockHold<'_, B, L> {
+        LockHold {
             kept: self.kept.lock(rt),
         }
     }
@@ -41,11 +41,11 @@ impl<B: Book, L: CallLedger> Lock<B, L> {
 
 /// One hold of the lock. Each use of it consumes it, so whoever takes a second turn of a sweep lets others have the lock before.
 #[derive(Drop)]
-pub(crate) struct Held<'a, B: Book, L: CallLedger> {
+pub(crate) struct LockHold<'a, B: Book, L: CallLedger> {
     kept: MutexGuard<'a, Kept<B, L>>,
 }
 
-impl<'a, B: Book, L: CallLedger> Held<'a, B, L> {
+impl<'a, B: Book, L: CallLedger> LockHold<'a, B, L> {
     /// Half of a pass's parts, in a pass with a caller number of its own, which has seen as much.
     pub fn split(self, pass: &mut Pass<L>) -> Result<Pass<L>, SplitFault>
         ensures split { IfOk result (λ new. IsSplit pass.old new pass.new) }
@@ -53,7 +53,7 @@ impl<'a, B: Book, L: CallLedger> Held<'a, B, L> {
         ensures one_part { pass.old.parts ≡ 1 → IsErr result }
         ensures unsplit { IfErr result (IsUnsplit pass.old) }
     {
-        let Held { mut kept } = self;
+        let LockHold { mut kept } = self;
         kept.split(pass)
     }
 
@@ -61,7 +61,7 @@ impl<'a, B: Book, L: CallLedger> Held<'a, B, L> {
     pub fn join(self, first: Pass<L>, second: Pass<L>) -> Pass<L>
         ensures { IsJoined L.parts first second result }
     {
-        let Held { mut kept } = self;
+        let LockHold { mut kept } = self;
         kept.join(first, second)
     }
 
@@ -72,7 +72,7 @@ impl<'a, B: Book, L: CallLedger> Held<'a, B, L> {
         ensures err { IfErr result (λ fault. IsFaultOf L.settings pass.old event fault pass.new) }
         ensures locked { IsLocked B.stands_for B.settings B.stored B.is_free L.settings pass.old event result pass.new }
     {
-        let Held { mut kept } = self;
+        let LockHold { mut kept } = self;
         kept.call(pass, event, copy)
     }
 
@@ -80,7 +80,7 @@ impl<'a, B: Book, L: CallLedger> Held<'a, B, L> {
     pub fn sweep_some(self) -> bool
         ensures { IsTurnThere B.stands_for B.settings B.stored B.unswept L.settings result }
     {
-        let Held { mut kept } = self;
+        let LockHold { mut kept } = self;
         kept.sweep_some()
     }
 
@@ -93,18 +93,18 @@ impl<'a, B: Book, L: CallLedger> Held<'a, B, L> {
     pub fn turn(self, whole: bool) -> bool
         ensures { IsTurnForThere B.stands_for B.settings B.stored B.unswept L.settings whole result }
     {
-        let Held { mut kept } = self;
+        let LockHold { mut kept } = self;
         kept.turn(whole)
     }
 
     /// A turn of a sweep of the book. If it left nothing, the lock stays held.
-    pub fn swept(self) -> Option<Held<'a, B, L>>
+    pub fn swept(self) -> Option<LockHold<'a, B, L>>
         ensures { IfNone result (IsTurnForThere B.stands_for B.settings B.stored B.unswept L.settings false true) }
     {
-        let Held { mut kept } = self;
+        let LockHold { mut kept } = self;
         if kept.sweep_book() {
             return None;
         }
-        Some(Held { kept })
+        Some(LockHold { kept })
     }
 }

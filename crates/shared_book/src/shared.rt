@@ -13,7 +13,7 @@ use crate::copies::three_copies;
 use crate::fault::{CallFault, SplitFault};
 use crate::kept::Kept;
 use crate::ledger::{Blank, CallLedger};
-use crate::lock::{Held, Lock};
+use crate::lock::{Lock, LockHold};
 use crate::pass::Pass;
 use crate::receipt::Receipt;
 use dns_text::Shared;
@@ -203,7 +203,7 @@ impl<B: Book, L: CallLedger> SharedBook<B, L> {
     /// Holds the lock right after a turn that left nothing of the book to sweep. For the name to forget first is then one path of a tree
     /// away, and before it may be as far as all names. It takes as many turns as that needs: behind 256 permanent flushes a million for a
     /// million names.
-    fn hold_swept<R: Wait>(&self, rt: &R) -> Held<'_, B, L> {
+    fn hold_swept<R: Wait>(&self, rt: &R) -> LockHold<'_, B, L> {
         for _ in 0..u32::MAX {
             match self.kept.hold(rt).swept() {
                 Some(held) => return held,

@@ -19,11 +19,11 @@ use Rattle.cell_store.specs.declared.owner.KindColumn.{KindColumn}
 use Rattle.cell_store.specs.declared.owner.WholeFind.{WholeFind}
 use Rattle.cell_store.specs.declared.owner.OwnerCells.{OwnerCells}
 use Rattle.cell_store.specs.Column.{Cells, is_counted}
-use Rattle.cell_store.specs.Owner.{cell_in, column_of, column_held, CanSettle, HasSameCells, IsUpTo, KeepsSettling, KeepsUpTo}
-use Rattle.cell_store.specs.Store.{cell_of, cell_by_owner, AreAbout, AreLeft, AreSameCells, AreUpTo, CanSettleAt}
-use Rattle.cell_store.specs.Count.{has_pair, has_place, HasSamePlaces, IsTidy, KeepPairs, LosesFinds}
+use Rattle.cell_store.specs.Owner.{cell_in, column_of, column_held, CanSettle, IsUpTo, KeepsUpTo}
+use Rattle.cell_store.specs.Store.{cell_of, cell_by_owner, AreAbout, AreLeft, AreSameCells, AreUpTo, CanSettleAt, GainNothing}
+use Rattle.cell_store.specs.Count.{has_pair, has_place, HasSameContent, IsTidy, KeepPairs, LosesFinds, LosesFindsOf}
 use Rattle.cell_store.specs.Prune.{is_asked}
-use Rattle.cell_store.specs.Sweep.{alive_at, is_dead, whole_swept}
+use Rattle.cell_store.specs.Sweep.{alive_at, is_dead, whole_swept, IsSeenAlive, KeepsAlive}
 use Rattle.cell_store.specs.Walk.{IsEach, IsEntry, IsFound}
 use Rattle.cell_store.specs.WalkLaws.{found_each}
 use Rattle.shelf.specs.declared.shelf.KeptFlush.{KeptFlush}
@@ -66,8 +66,12 @@ asked_version kept q v = ap (λ b. v == 0 || b) (any_numbers q v kept [])
 
 pub lost_twice : (old cur new : OwnerCells) → LosesFinds old cur → LosesFinds cur new → LosesFinds old new
 lost_twice old cur new first then = record {
-  count = omega (arith, first.count, then.count);
-  places = λ scope has. first.places scope (then.places scope has);
+  gains = record {
+    upto = λ top is. then.gains.upto top (first.gains.upto top is);
+    settles = λ n k is. then.gains.settles n k (first.gains.settles n k is);
+    count = omega (arith, first.gains.count, then.gains.count);
+    places = λ scope has. first.gains.places scope (then.gains.places scope has);
+  };
   cells = λ k v. elim (then.cells k v) [
     | inl same ↦ elim (first.cells k v) [ inl was ↦ inl (same ∙ was) | inr none ↦ inr (same ∙ none) ]
     | inr none ↦ inr none
@@ -78,8 +82,6 @@ pub record IsSweptTo (kept : List KeptFlush) (t : ℕ) (name : Labels) (place : 
   pub cells : (k v : ℕ) → is_version kept (record { owner = name; kind = k }) v ≡ true → alive_at t (cell_in new k v) ≡ alive_at t (cell_in old k v)
   pub alive : (i : ℕ) (d : KindColumn) → i < place → i < length new.kinds.items → has_place new (One (get_or new.kinds.items i d).kind) ≡ true → IsAlive kept name t new (get_or new.kinds.items i d).kind
   pub whole : new.whole ≡ whole_swept t old.whole
-  pub upto : (top : ℕ) → IsUpTo top old → IsUpTo top new
-  pub settles : (n k : ℕ) → CanSettle n k old → CanSettle n k new
   pub lost : LosesFinds old new
 
 kind_of : KindColumn → ℕ
@@ -102,19 +104,12 @@ same_kind xs ys i d is = sym (read_kind xs i d) ∙ (ap (λ (l : List ℕ). get_
 
 pub swept_more : (kept : List KeptFlush) (t : ℕ) (name : Labels) (place : ℕ) (old cur new : OwnerCells) (kind : ℕ) (numbers : List ℕ) → IsSweptTo kept t name place old cur
     → ((d : KindColumn) → kind ≡ (get_or cur.kinds.items place d).kind) → numbers ≡ numbers_of kept (record { owner = name; kind = kind })
-    → ((k v : ℕ) → ((kind == k) ≡ true → is_asked numbers v ≡ true) → alive_at t (cell_in new k v) ≡ alive_at t (cell_in cur k v))
-    → (has_place new (One kind) ≡ true → (v : ℕ) × ((is_asked numbers v ≡ true) × (is_some (alive_at t (cell_in new kind v)) ≡ true)))
-    → ((k : ℕ) → (kind == k) ≡ false → column_of new.kinds.items k ≡ column_of cur.kinds.items k)
-    → map (λ (own : KindColumn). own.kind) new.kinds.items ≡ map (λ (own : KindColumn). own.kind) cur.kinds.items → new.whole ≡ cur.whole
-    → ((top : ℕ) → IsUpTo top cur → IsUpTo top new) → ((n k : ℕ) → CanSettle n k cur → CanSettle n k new) → LosesFinds cur new
-    → IsSweptTo kept t name (place + 1) old new
-swept_more kept t name place old cur new kind numbers is here asked cells seen others kinds whole upto told lost = record {
+    → KeepsAlive kind numbers t cur new → IsSeenAlive kind numbers t new → LosesFindsOf kind cur new → IsSweptTo kept t name (place + 1) old new
+swept_more kept t name place old cur new kind numbers is here asked cells seen lost = record {
   cells = λ k v there. cells k v (λ same. version k v same there) ∙ is.cells k v there;
   alive = λ i d low few has. one i d low few (get_or new.kinds.items i d).kind refl has;
-  whole = whole ∙ is.whole;
-  upto = λ top u. upto top (is.upto top u);
-  settles = λ n k u. told n k (is.settles n k u);
-  lost = lost_twice old cur new is.lost lost;
+  whole = lost.whole ∙ is.whole;
+  lost = lost_twice old cur new is.lost lost.lost;
 }
   where
     version : (k v : ℕ) → (kind == k) ≡ true → is_version kept (record { owner = name; kind = k }) v ≡ true → is_asked numbers v ≡ true
@@ -128,13 +123,13 @@ swept_more kept t name place old cur new kind numbers is here asked cells seen o
           let there = seen (ap (λ n. has_place new (One n)) e ∙ has) in
           subst (λ n. IsAlive kept name t new n) e (there.0, (sym (asked_version kept (record { owner = name; kind = kind }) there.0) ∙ (ap (λ (l : List ℕ). is_asked l there.0) (sym asked) ∙ there.1.0), there.1.1))
       | inr apart ↦
-          let was : (get_or cur.kinds.items i d).kind ≡ k = sym (same_kind new.kinds.items cur.kinds.items i d kinds) ∙ at in
-          let column = others k apart in
-          let size : length new.kinds.items ≡ length cur.kinds.items = same_size new.kinds.items cur.kinds.items kinds in
+          let was : (get_or cur.kinds.items i d).kind ≡ k = sym (same_kind new.kinds.items cur.kinds.items i d lost.kinds) ∙ at in
+          let column = lost.others k apart in
+          let size : length new.kinds.items ≡ length cur.kinds.items = same_size new.kinds.items cur.kinds.items lost.kinds in
           let had : has_place cur (One k) ≡ true = ap (λ (o : Option Cells). option_map_or is_counted o false) (sym column) ∙ has in
           let before : i < place = elim (under i place low) [ inl less ↦ less | inr last ↦ absurd (false≢true (sym apart ∙ eq-eqb kind k (here d ∙ (ap (λ n. (get_or cur.kinds.items n d).kind) (sym last) ∙ was)))) ] in
           let rest : IsAlive kept name t cur k = subst (λ n. has_place cur (One n) ≡ true → IsAlive kept name t cur n) was (is.alive i d before (omega (arith, size, few))) had in
-          (rest.0, (rest.1.0, ap (λ (w : Option WholeFind). is_some (alive_at t (column_held w (column_of new.kinds.items k) rest.0))) whole ∙ (ap (λ (o : Option Cells). is_some (alive_at t (column_held cur.whole o rest.0))) column ∙ rest.1.1)))
+          (rest.0, (rest.1.0, ap (λ (w : Option WholeFind). is_some (alive_at t (column_held w (column_of new.kinds.items k) rest.0))) lost.whole ∙ (ap (λ (o : Option Cells). is_some (alive_at t (column_held cur.whole o rest.0))) column ∙ rest.1.1)))
     ]
       where
         under : (a b : ℕ) → a < b + 1 → (a < b) ⊎ (a ≡ b)
@@ -151,18 +146,19 @@ kind_found (x ∷ kinds) k has = elim (cases_Bool (x.kind == k)) [
 
 -- and then the columns without a find go
 pub swept_all : (kept : List KeptFlush) (t : ℕ) (name : Labels) (place : ℕ) (old cur new : OwnerCells) (d : KindColumn) → IsSweptTo kept t name place old cur → length cur.kinds.items ≤ place
-    → HasSameCells cur new → HasSamePlaces cur new → KeepsUpTo cur new → KeepsSettling cur new → new.whole ≡ cur.whole → IsTidy new → IsSwept kept t name old new
-swept_all kept t name place old cur new d is high same places upto settles whole tidy = record {
-  cells = λ k v there. ap (alive_at t) (same k v) ∙ is.cells k v there;
+    → HasSameContent cur new → KeepsUpTo cur new → new.whole ≡ cur.whole → IsTidy new → IsSwept kept t name old new
+swept_all kept t name place old cur new d is high same upto whole tidy = record {
+  cells = λ k v there. ap (alive_at t) (same.cells k v) ∙ is.cells k v there;
   alive = λ k has.
-      let had : has_place cur (One k) ≡ true = sym (places.places (One k)) ∙ has in
+      let had : has_place cur (One k) ≡ true = sym (same.places.places (One k)) ∙ has in
       let at = kind_found cur.kinds.items k had in
       let rest : IsAlive kept name t cur k = subst (λ n. has_place cur (One n) ≡ true → IsAlive kept name t cur n) (at.1.1 d) (is.alive at.0 d (omega (arith, at.1.0, high)) at.1.0) had in
-      (rest.0, (rest.1.0, ap (λ (h : Option (Admitted Find)). is_some (alive_at t h)) (same k rest.0) ∙ rest.1.1));
+      (rest.0, (rest.1.0, ap (λ (h : Option (Admitted Find)). is_some (alive_at t h)) (same.cells k rest.0) ∙ rest.1.1));
   whole = whole ∙ is.whole;
-  upto = λ top u. upto top (is.upto top u);
-  settles = λ n k u. settles n k (is.settles n k u);
-  lost = lost_twice old cur new is.lost (record { count = omega (arith, places.count); places = λ scope has. sym (places.places scope) ∙ has; cells = λ k v. inl (same k v) });
+  lost = lost_twice old cur new is.lost (record {
+    gains = record { upto = upto; settles = same.settles; count = omega (arith, same.places.count); places = λ scope has. sym (same.places.places scope) ∙ has };
+    cells = λ k v. inl (same.cells k v);
+  });
   tidy = tidy;
 }
 
@@ -196,10 +192,10 @@ module _ {S : Type 0} (kept : List KeptFlush) (t : ℕ) (old new : IndexMap Labe
   each_of P name step (Some o) (Some n) is was = step o n (subst (λ (m : Labels). IsLessened kept t m o n) (sym (name_eq_exact name is.0 is.1.0)) is.1.1) was
 
   pub swept_upto : (top : ℕ) → AreUpTo top old → AreUpTo top new
-  swept_upto top upto name = each_of (IsUpTo top) name (λ o n is was. is.upto top was) (get name_eq old name) (get name_eq new name) (found name) (upto name)
+  swept_upto top upto name = each_of (IsUpTo top) name (λ o n is was. is.lost.gains.upto top was) (get name_eq old name) (get name_eq new name) (found name) (upto name)
 
   pub swept_settles : (n k : ℕ) (name : Labels) → CanSettleAt n k name old → CanSettleAt n k name new
-  swept_settles n k name told = each_of (CanSettle n k) name (λ o m is was. is.settles n k was) (get name_eq old name) (get name_eq new name) (found name) told
+  swept_settles n k name told = each_of (CanSettle n k) name (λ o m is was. is.lost.gains.settles n k was) (get name_eq old name) (get name_eq new name) (found name) told
 
   lost_cells : (q : Question) (v : ℕ) (o n : Option OwnerCells) → IsFound (name_eq q.owner) (IsLessened kept t) o n → (cell_by_owner n q.kind v ≡ cell_by_owner o q.kind v) ⊎ (cell_by_owner n q.kind v ≡ None)
   lost_cells q v None None is = inl refl
@@ -218,13 +214,13 @@ module _ {S : Type 0} (kept : List KeptFlush) (t : ℕ) (old new : IndexMap Labe
   lost_pairs pair None None is has = has
   lost_pairs pair None (Some n) is has = absurd is
   lost_pairs pair (Some o) None is has = absurd is
-  lost_pairs pair (Some o) (Some n) is has = is.1.1.lost.places pair.1 has
+  lost_pairs pair (Some o) (Some n) is has = is.1.1.lost.gains.places pair.1 has
 
   pub swept_pairs : KeepPairs old new
   swept_pairs pair has = lost_pairs pair (get name_eq old pair.0) (get name_eq new pair.0) (found pair.0) has
 
   pub swept_less : AreLessened kept t old new
-  swept_less = record { cells = swept_cell; upto = swept_upto; settles = swept_settles; about = swept_about; pairs = swept_pairs }
+  swept_less = record { cells = swept_cell; about = swept_about; gains = record { upto = swept_upto; settles = swept_settles; pairs = swept_pairs } }
 
 -- ---- names are dropped
 
@@ -252,22 +248,30 @@ about_same old new same about q v = subst (λ (h : Option (Admitted Find)). IfSo
 -- ---- sweeps of some names
 
 pub less_same : {S : Type 0} (kept : List KeptFlush) (t : ℕ) (owners : IndexMap Labels OwnerCells S) → AreLessened kept t owners owners
-less_same kept t owners = record { cells = λ q v there. refl; upto = λ top is. is; settles = λ n k name is. is; about = λ is. is; pairs = λ pair has. has }
+less_same kept t owners = record { cells = λ q v there. refl; about = λ is. is; gains = record { upto = λ top is. is; settles = λ n k name is. is; pairs = λ pair has. has } }
+
+-- Two calls gain nothing, if neither does.
+pub gain_twice : {S : Type 0} (first middle last : IndexMap Labels OwnerCells S) → GainNothing first middle → GainNothing middle last → GainNothing first last
+gain_twice first middle last before after = record {
+  upto = λ top is. after.upto top (before.upto top is);
+  settles = λ n k name is. after.settles n k name (before.settles n k name is);
+  pairs = λ pair has. before.pairs pair (after.pairs pair has);
+}
 
 pub less_more : {S : Type 0} (kept : List KeptFlush) (t : ℕ) (first middle last : IndexMap Labels OwnerCells S) → AreLessened kept t first middle → AreLessened kept t middle last → AreLessened kept t first last
 less_more kept t first middle last before after = record {
   cells = λ q v there. after.cells q v there ∙ before.cells q v there;
-  upto = λ top is. after.upto top (before.upto top is);
-  settles = λ n k name is. after.settles n k name (before.settles n k name is);
   about = λ is. after.about (before.about is);
-  pairs = λ pair has. before.pairs pair (after.pairs pair has);
+  gains = gain_twice first middle last before.gains after.gains;
 }
 
 pub less_left : {S : Type 0} (kept : List KeptFlush) (t : ℕ) (old new : IndexMap Labels OwnerCells S) → AreSameCells old new → AreLeft old new → AreLessened kept t old new
 less_left kept t old new same left = record {
   cells = λ q v there. ap (alive_at t) (same q v);
-  upto = λ top is name. left_each old new (IsUpTo top) left name (is name);
-  settles = λ n k name is. left_each old new (CanSettle n k) left name is;
   about = about_same old new same;
-  pairs = left_pairs old new left;
+  gains = record {
+    upto = λ top is name. left_each old new (IsUpTo top) left name (is name);
+    settles = λ n k name is. left_each old new (CanSettle n k) left name is;
+    pairs = left_pairs old new left;
+  };
 }

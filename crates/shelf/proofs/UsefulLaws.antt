@@ -1,11 +1,11 @@
 -- No permanent flush of the list is outdone by a later one.
-use Rattle.std.proofs.Common.{◌≡◌, ℕ, Bool, true, false, cond, List, [], ◌∷◌, ◌++◌, length, refl, sym, subst}
-use Rattle.std.specs.Prelude.{◌==◌, nat_lt, not}
+use Rattle.std.proofs.Common.{◌≡◌, ℕ, Bool, true, false, cond, List, [], ◌∷◌, ◌++◌, refl, sym, subst}
+use Rattle.std.specs.Prelude.{◌==◌, not}
 use Rattle.std.specs.List.{AllByRecursion}
 use Rattle.std.proofs.lemmas.Bool.{false≢true}
 use Rattle.dns_name.specs.Labels.{Labels}
 use Rattle.shelf.specs.declared.settling.Settling.{Settling}
-use Rattle.shelf.specs.Settling.{first_at, is_outdone, most_settling, with_left, with_room, without_outdone, AreUseful}
+use Rattle.shelf.specs.Settling.{first_at, is_outdone, with_left, without_outdone, AreUseful}
 
 all_without : (P : Settling → Type 0) (zone : Labels) (number : ℕ) (settlings : List Settling) → AllByRecursion P settlings → AllByRecursion P (without_outdone zone number settlings)
 all_without P zone number [] all = tt
@@ -51,11 +51,3 @@ useful_stepped left (own ∷ later) now at is = subst (λ (l : List Settling). A
     split : (b : Bool) → AreUseful (cond b later (with_left left own ∷ later))
     split true = is.1
     split false = is
-
--- the first may have gone
-pub useful_room : (was now : List Settling) → now ≡ with_room was → AreUseful was → AreUseful now
-useful_room was now at is = subst (λ (l : List Settling). AreUseful l) (sym at) (split (nat_lt (length was) most_settling))
-  where
-    split : (b : Bool) → AreUseful (cond b was (first_at 0 was))
-    split true = is
-    split false = useful_stepped 0 was (first_at 0 was) refl is

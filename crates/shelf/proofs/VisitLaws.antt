@@ -16,7 +16,7 @@ use Rattle.cell_store.specs.Count.{count_of, has_place, stored_in, IsTidy}
 use Rattle.cell_store.specs.Ends.{latest, name_end}
 use Rattle.cell_store.specs.EndLaws.{alive_before, alive_earlier, some_alive, whole_before, whole_earlier}
 use Rattle.cell_store.specs.Owner.{cell_in}
-use Rattle.cell_store.specs.Store.{AreLeft, AreSameCells, EachCounts}
+use Rattle.cell_store.specs.Store.{AreLeft, AreSameCells, EachCounts, HaveTop}
 use Rattle.cell_store.specs.Mixed.{has_mixed, IsLikeFirst}
 use Rattle.cell_store.specs.Sweep.{alive_at, is_dead}
 use Rattle.ranked.specs.declared.find.Find.{Find}
@@ -28,7 +28,8 @@ use Rattle.shelf.specs.Clean.{evens, sure, zeros_to, AreBy, AreEnds, AreKeyed, I
 use Rattle.shelf.specs.declared.ends.Ends.{Ends}
 use Rattle.shelf.specs.declared.settling.Settling.{Settling}
 use Rattle.shelf.specs.Settling.{reached_at_once, steps_left, HaveStepped}
-use Rattle.shelf.specs.Sweep.{asked_at, count_ended, one_ended, turn_at_most, unswept, AreAlive, AreLessened, EndNear, IsDue, IsLessened, IsNext, IsSwept, IsSweptAt, IsUnderway}
+use Rattle.shelf.specs.Losing.{IsTallied}
+use Rattle.shelf.specs.Sweep.{asked_at, count_ended, one_ended, turn_at_most, unswept, AreAlive, AreLessened, CanSweep, EndNear, IsDue, IsLessened, IsNext, IsSwept, IsSweptAt, IsUnderway}
 use Rattle.shelf.specs.First.{life_at}
 use Rattle.shelf.specs.Lasts.{AreWinners}
 use Rattle.shelf.specs.declared.lasts.Lasts.{Lasts}
@@ -46,9 +47,7 @@ use Rattle.shelf.proofs.SweepLaws.{less_left, less_more, less_same, not_dead, sw
 less_same_cells : (kept : List KeptFlush) (t : ℕ) (name : Labels) (cells : OwnerCells) → IsLessened kept t name cells cells
 less_same_cells kept t name cells = record {
   cells = λ k v there. refl;
-  upto = λ top is. is;
-  settles = λ n k is. is;
-  lost = record { count = omega arith; places = λ scope has. has; cells = λ k v. inl refl };
+  lost = record { gains = record { upto = λ top is. is; settles = λ n k is. is; count = omega arith; places = λ scope has. has }; cells = λ k v. inl refl };
 }
 
 each_same : (kept : List KeptFlush) (t : ℕ) (entries : List (Labels × OwnerCells)) → IsEach (IsEntry (IsLessened kept t)) entries entries
@@ -85,7 +84,7 @@ here_at P (e ∷ entries) zero key old new there is =
 here_at P (e ∷ entries) (suc place) key old new there is = here_at P entries place key old new there is
 
 lessened : (kept : List KeptFlush) (t : ℕ) (name : Labels) (old new : OwnerCells) → IsSwept kept t name old new → IsLessened kept t name old new
-lessened kept t name old new is = record { cells = is.cells; upto = is.upto; settles = is.settles; lost = is.lost }
+lessened kept t name old new is = record { cells = is.cells; lost = is.lost }
 
 clean : (kept : List KeptFlush) (t : ℕ) (name : Labels) (old new : OwnerCells) → IsSwept kept t name old new → 1 ≤ count_of new → IsClean kept t name new
 clean kept t name old new is some = record { kinds = is.alive; whole = ap (is_dead t) is.whole ∙ not_dead t old.whole; counted = some }
@@ -180,31 +179,33 @@ module _ {S : Type 0} (kept : List KeptFlush) (t place end : ℕ) (mixed : Bool)
       → (lasts : Lasts) (last : ℕ) → last ≡ min (life_at [] kept new.entries place) latest → lasts.ends.items ≡ set after.lasts.ends.items place last → (AreWinners new.entries after.lasts → AreWinners new.entries lasts)
       → (asked most : ℕ) (first : IndexMap Labels OwnerCells S) → asked ≤ t → asked < latest → IsUnderway kept t asked first most old ends was → IsUnderway kept t asked first most new (noting lasts) stored
   on_kept moments lower fell unmixed flags same entries some lasts last noted seconds tree asked most first before small is = record {
-    less = less_more kept t first old new is.less less;
-    ends = subst (λ (l : List (Labels × OwnerCells)). AreEnds kept l (noting lasts)) (sym entries) (record {
-      size = sym (zeros_length after.left after.moments) ∙ (lower.size ∙ (length-set (sure ends) place end ∙ (is.ends.now.size ∙ sym swept.size)));
-      now = keyed_lower (IsEnd kept) (end_zero kept) middle.entries (set (sure ends) place end) (sure after) lower
-          (keyed_set (IsEnd kept) old.entries middle.entries (sure ends) place end is.ends.now swept.others swept.size low
-          (some_map (λ e. IsEnd kept e end × IsClean kept t e.0 e.1 × ((s : ℕ) → s ≤ t → s < latest → s < end)) (λ e. IsEnd kept e end) (slice_get middle.entries place) (λ e all. all.0) both));
-      ever = subst (λ (l : List ℕ). AreKeyed (IsEnd []) middle.entries l) (sym unmixed)
-          (keyed_set (IsEnd []) old.entries middle.entries (evens ends) place (cond mixed 0 end) is.ends.ever swept.others swept.size low (ever_end t (slice_get middle.entries place) end mixed swept.ever some));
-      flags = flags;
-      low = low_lower kept middle.entries (set (sure ends) place end) (sure after) lasts.ends.items lower
-          (low_by kept middle.entries (λ l. set l place end) (λ l. set l place last) (sure ends) (set (sure ends) place end) ends.lasts.ends.items lasts.ends.items refl put
-          (low_put old.entries middle.entries place last swept.others kept (sure ends) ends.lasts.ends.items end (omega (arith, low, is.ends.now.size)) (omega (arith, low, is.ends.winners.size)) at is.ends.low));
-      low_ever = low_by [] middle.entries (λ l. set l place (cond mixed 0 end)) (λ l. set l place last) (evens ends) (evens after) ends.lasts.ends.items lasts.ends.items unmixed put
-          (low_put_ever old.entries middle.entries place last swept.others kept (evens ends) ends.lasts.ends.items end mixed (omega (arith, low, is.ends.ever.size)) (omega (arith, low, is.ends.winners.size)) at swept.alike is.ends.low_ever);
-      winners = subst (λ (l : List (Labels × OwnerCells)). AreWinners l lasts) entries
-          (tree (subst (λ (x : Lasts). AreWinners new.entries x) (sym same) (winners_named old.entries new.entries ends.lasts (ap keys_of entries ∙ named) is.ends.winners)));
-    });
-    sure = omega (arith, fell, is.sure);
+    so_far = record {
+      less = less_more kept t first old new is.so_far.less less;
+      ends = subst (λ (l : List (Labels × OwnerCells)). AreEnds kept l (noting lasts)) (sym entries) (record {
+        size = sym (zeros_length after.left after.moments) ∙ (lower.size ∙ (length-set (sure ends) place end ∙ (is.so_far.ends.now.size ∙ sym swept.size)));
+        now = keyed_lower (IsEnd kept) (end_zero kept) middle.entries (set (sure ends) place end) (sure after) lower
+            (keyed_set (IsEnd kept) old.entries middle.entries (sure ends) place end is.so_far.ends.now swept.others swept.size low
+            (some_map (λ e. IsEnd kept e end × IsClean kept t e.0 e.1 × ((s : ℕ) → s ≤ t → s < latest → s < end)) (λ e. IsEnd kept e end) (slice_get middle.entries place) (λ e all. all.0) both));
+        ever = subst (λ (l : List ℕ). AreKeyed (IsEnd []) middle.entries l) (sym unmixed)
+            (keyed_set (IsEnd []) old.entries middle.entries (evens ends) place (cond mixed 0 end) is.so_far.ends.ever swept.others swept.size low (ever_end t (slice_get middle.entries place) end mixed swept.ever some));
+        flags = flags;
+        low = low_lower kept middle.entries (set (sure ends) place end) (sure after) lasts.ends.items lower
+            (low_by kept middle.entries (λ l. set l place end) (λ l. set l place last) (sure ends) (set (sure ends) place end) ends.lasts.ends.items lasts.ends.items refl put
+            (low_put old.entries middle.entries place last swept.others kept (sure ends) ends.lasts.ends.items end (omega (arith, low, is.so_far.ends.now.size)) (omega (arith, low, is.so_far.ends.winners.size)) at is.so_far.ends.low));
+        low_ever = low_by [] middle.entries (λ l. set l place (cond mixed 0 end)) (λ l. set l place last) (evens ends) (evens after) ends.lasts.ends.items lasts.ends.items unmixed put
+            (low_put_ever old.entries middle.entries place last swept.others kept (evens ends) ends.lasts.ends.items end mixed (omega (arith, low, is.so_far.ends.ever.size)) (omega (arith, low, is.so_far.ends.winners.size)) at swept.alike is.so_far.ends.low_ever);
+        winners = subst (λ (l : List (Labels × OwnerCells)). AreWinners l lasts) entries
+            (tree (subst (λ (x : Lasts). AreWinners new.entries x) (sym same) (winners_named old.entries new.entries ends.lasts (ap keys_of entries ∙ named) is.so_far.ends.winners)));
+      });
+      sure = omega (arith, fell, is.so_far.sure);
+      counted = counted ∙ sym count;
+      fewer = omega (arith, fewer, is.so_far.fewer);
+      named = λ each. subst (λ (l : List (Labels × OwnerCells)). EachCounts l) (sym entries) (each_kept old.entries middle.entries ends.moments place size swept.others swept.size low (used_some (slice_get middle.entries place) some swept.tidy) (is.so_far.named each));
+    };
     due = subst (λ (l : List (Labels × OwnerCells)). AreKeyed (IsDue kept t asked) l after.moments) (sym entries)
         (subst (λ (l : List ℕ). AreKeyed (IsDue kept t asked) middle.entries l) (sym moments)
         (keyed_set (IsDue kept t asked) old.entries middle.entries ends.moments place end is.due swept.others swept.size low
         (some_map (λ e. IsEnd kept e end × IsClean kept t e.0 e.1 × ((s : ℕ) → s ≤ t → s < latest → s < end)) (λ e. IsDue kept t asked e end) (slice_get middle.entries place) (λ e all late. all.1) both)));
-    counted = counted ∙ sym count;
-    fewer = omega (arith, fewer, is.fewer);
-    named = λ each. subst (λ (l : List (Labels × OwnerCells)). EachCounts l) (sym entries) (each_kept old.entries middle.entries ends.moments place size swept.others swept.size low (used_some (slice_get middle.entries place) some swept.tidy) (is.named each));
   }
     where
       put : lasts.ends.items ≡ set ends.lasts.ends.items place last
@@ -221,14 +222,16 @@ module _ {S : Type 0} (kept : List KeptFlush) (t place end : ℕ) (mixed : Bool)
       → (lasts : Lasts) → lasts.ends.items ≡ swap_remove after.lasts.ends.items place 0 → ((was : List (Labels × OwnerCells)) (d : Labels × OwnerCells) → new.entries ≡ swap_remove was place d → AreWinners was after.lasts → AreWinners new.entries lasts)
       → (asked most : ℕ) (first : IndexMap Labels OwnerCells S) → IsUnderway kept t asked first most old ends was → IsUnderway kept t asked first most new (noting lasts) stored
   on_gone by d entries lasts seconds tree asked most first is = record {
-    less = less_more kept t first old new is.less less;
-    ends = ends_gone old.entries middle.entries new.entries place d low swept.others named entries kept ends after lasts by seconds tree is.ends;
-    sure = omega (arith, by.left, is.sure);
+    so_far = record {
+      less = less_more kept t first old new is.so_far.less less;
+      ends = ends_gone old.entries middle.entries new.entries place d low swept.others named entries kept ends after lasts by seconds tree is.so_far.ends;
+      sure = omega (arith, by.left, is.so_far.sure);
+      counted = counted ∙ sym count;
+      fewer = omega (arith, fewer, is.so_far.fewer);
+      named = λ each. each_gone old.entries middle.entries new.entries ends.moments place d low swept.others named entries size (is.so_far.named each);
+    };
     due = subst (λ (l : List ℕ). AreKeyed (IsDue kept t asked) new.entries l) (sym by.moments)
         (keyed_gone old.entries middle.entries new.entries place d low swept.others named entries (IsDue kept t asked) ends.moments is.due);
-    counted = counted ∙ sym count;
-    fewer = omega (arith, fewer, is.fewer);
-    named = λ each. each_gone old.entries middle.entries new.entries ends.moments place d low swept.others named entries size (is.named each);
   }
 
 -- ---- fewer names have ended
@@ -343,28 +346,27 @@ all_alive kept t owners all = record {
 
 -- ---- the first visit
 
-pub start : {S : Type 0} (kept : List KeptFlush) (t : ℕ) (owners : IndexMap Labels OwnerCells S) (ends : Ends) (stored : ℕ) → AreEnds kept owners.entries ends × (ends.left ≡ 0) → stored ≡ stored_in owners → IsUnderway kept t t owners stored owners ends stored
-start kept t owners ends stored is counted = record {
-  less = less_same kept t owners;
-  ends = is.0;
-  sure = is.1;
-  due = keyed_map (IsEnd kept) (IsDue kept t t) (λ e n now late. now t late) owners.entries ends.moments (subst (λ n. AreKeyed (IsEnd kept) owners.entries (zeros_to n ends.moments)) is.1 is.0.now);
-  counted = counted;
-  fewer = omega arith;
-  named = λ each. each;
+pub start : {S : Type 0} (kept : List KeptFlush) (t : ℕ) (owners : IndexMap Labels OwnerCells S) (ends : Ends) (stored : ℕ) → CanSweep kept owners ends stored → IsUnderway kept t t owners stored owners ends stored
+start kept t owners ends stored is = record {
+  so_far = record { less = less_same kept t owners; ends = is.ends; sure = is.sure; counted = is.counted; fewer = omega arith; named = λ each. each };
+  due = keyed_map (IsEnd kept) (IsDue kept t t) (λ e n now late. now t late) owners.entries ends.moments (subst (λ n. AreKeyed (IsEnd kept) owners.entries (zeros_to n ends.moments)) is.sure is.ends.now);
 }
 
-pub start_all : {S : Type 0} (kept : List KeptFlush) (t asked : ℕ) (owners : IndexMap Labels OwnerCells S) (old ends : Ends) (stored : ℕ) → AreEnds kept owners.entries old × (old.left ≡ 0) → AreBy (λ l. replicate (length l) 0) old ends → stored ≡ stored_in owners
-    → IsUnderway kept t asked owners stored owners ends stored
-start_all kept t asked owners old ends stored is by counted = record {
-  less = less_same kept t owners;
-  ends = ends_zero kept owners.entries old ends is.0 by;
-  sure = omega (arith, by.left, is.1);
-  due = subst (λ (l : List ℕ). AreKeyed (IsDue kept t asked) owners.entries l) (sym by.moments) (keyed_zero (IsDue kept t asked) (due_zero kept t asked) owners.entries (length old.moments) is.0.size);
-  counted = counted;
-  fewer = omega arith;
-  named = λ each. each;
+pub start_all : {S : Type 0} (kept : List KeptFlush) (t asked : ℕ) (owners : IndexMap Labels OwnerCells S) (old ends : Ends) (stored : ℕ) → CanSweep kept owners old stored → AreBy (λ l. replicate (length l) 0) old ends → IsUnderway kept t asked owners stored owners ends stored
+start_all kept t asked owners old ends stored is by = record {
+  so_far = record { less = less_same kept t owners; ends = ends_zero kept owners.entries old ends is.ends by; sure = omega (arith, by.left, is.sure); counted = is.counted; fewer = omega arith; named = λ each. each };
+  due = subst (λ (l : List ℕ). AreKeyed (IsDue kept t asked) owners.entries l) (sym by.moments) (keyed_zero (IsDue kept t asked) (due_zero kept t asked) owners.entries (length old.moments) is.ends.size);
 }
+
+-- The names are tallied while a sweep is under way.
+pub tallied_on : {S : Type 0} (kept : List KeptFlush) (t asked most stored : ℕ) (first owners : IndexMap Labels OwnerCells S) (ends : Ends) → HaveTop first → IsUnderway kept t asked first most owners ends stored → IsTallied owners stored ends
+tallied_on kept t asked most stored first owners ends top is =
+    let so_far = is.so_far in
+    record {
+      counted = so_far.counted;
+      top = (top.0, so_far.less.gains.upto top.0 top.1);
+      size = (so_far.ends.size, so_far.ends.flags, so_far.ends.winners.size, so_far.ends.winners.shape);
+    }
 
 pub when_none : {X : Type 0} (found : Option ℕ) → found ≡ None → IfNone found X → X
 when_none {X} found none is = subst (λ (o : Option ℕ). IfNone o X) none is

@@ -10,6 +10,7 @@ use Rattle.cell_store.specs.declared.owner.OwnerCells.{OwnerCells}
 use Rattle.cell_store.specs.Count.{has_pair}
 use Rattle.cell_store.specs.Same.{same_cell}
 use Rattle.shelf.specs.declared.settling.Settling.{Settling}
+use Rattle.shelf.specs.declared.shelf.KeptFlush.{KeptFlush}
 use Rattle.shelf.specs.declared.shelf.Shelf.{Shelf}
 use Rattle.shelf.specs.Settling.{settled_cell}
 use Rattle.shelf.specs.Sweep.{numbers_of}
@@ -32,6 +33,11 @@ AreApart same (x ∷ xs) = AreApartFrom same x xs
 -- the cells of some versions of a question, whether or not the permanent flush has reached the name
 abbrev pub cells_in : {S : Type 0} → List Settling → IndexMap Labels OwnerCells S → Question → List ℕ → List (Option (Admitted Find))
 cells_in settlings owners question versions = map (settled_cell settlings owners question) versions
+
+-- the cells of the versions of the kept flushes that cover a question, in order, each that differs from the one before it; the first comes after that of version 0
+abbrev pub kept_changes : {S : Type 0} → List Settling → IndexMap Labels OwnerCells S → List KeptFlush → Question → List (Option (Admitted Find))
+kept_changes settlings owners kept question =
+    changes same_cell (settled_cell settlings owners question 0) (cells_in settlings owners question (numbers_of kept question))
 
 -- whether a place of a question counts: that of its type, or of the whole name
 abbrev pub has_question : {S : Type 0} → IndexMap Labels OwnerCells S → Question → Bool

@@ -1,7 +1,11 @@
 -- The places of the index by the seconds in which the last finds of their names end, and the tree that finds the first.
-use Rattle.std.specs.Prelude.{◌≡◌, ◌⊎◌, ◌<◌, ◌≤◌, ◌+◌, ◌*◌, [], ℕ, List, length, slice_index_or, vec_capacity}
+use Rattle.std.specs.Prelude.{◌≡◌, ◌⊎◌, ◌<◌, ◌≤◌, ◌+◌, ◌*◌, [], ℕ, List, Option, length, position, slice_index_or, swap_remove, vec_capacity}
+use Rattle.std.specs.Map.{keys_of}
+use Rattle.indexmap.specs.IndexMap.{swap_remove_entry}
 use Rattle.dns_name.specs.Labels.{Labels}
+use Rattle.dns_name.specs.Order.{name_eq}
 use Rattle.cell_store.specs.declared.owner.OwnerCells.{OwnerCells}
+use Rattle.cell_store.specs.Store.{StayBut}
 use Rattle.winner_tree.specs.Tree.{moment_at, IsBelow}
 use Rattle.shelf.specs.declared.lasts.Lasts.{Lasts}
 use Rattle.shelf.specs.declared.oldest.Candidate.{Candidate}
@@ -85,6 +89,11 @@ pub record IsReady (entries : List (Labels × OwnerCells)) (lasts winners : List
   pub others : (winner_at winners node ≡ changed → ⊥) → (j : ℕ) → IsNodeOrWinner winners node j → (j ≡ changed → ⊥)
       → Leads entries lasts (winner_at winners node) j
 
+-- If that is known of a node, a place is its winner, and does not come after the changed one.
+abbrev pub IsWinnerAgain : List (Labels × OwnerCells) → List ℕ → List ℕ → ℕ → ℕ → ℕ → ℕ → Type 0
+IsWinnerAgain entries lasts winners node changed first place =
+    IsReady entries lasts winners node changed first → IsWinner entries lasts winners node place × Leads entries lasts place changed
+
 -- The winner of a node is right, by those of its children.
 abbrev pub IsRight : List (Labels × OwnerCells) → List ℕ → List ℕ → ℕ → Type 0
 IsRight entries lasts winners node = IsWinner entries lasts winners node (winner_at winners node)
@@ -101,6 +110,10 @@ AreWithin winners = (i : ℕ) → i < length winners → IsBelow i (winner_at wi
 abbrev pub AreMended : (ℕ → Type 0) → List (Labels × OwnerCells) → List ℕ → List ℕ → List ℕ → Type 0
 AreMended Some entries lasts old new = (i : ℕ) → i < length old → ((Some i → ⊥) → IsRight entries lasts old i) → IsRight entries lasts new i
 
+-- If only a place has changed, the nodes at or above it are mended.
+abbrev pub AreMendedFrom : ℕ → List (Labels × OwnerCells) → List ℕ → List ℕ → List ℕ → Type 0
+AreMendedFrom place entries lasts old new = AreFirstBut place entries lasts old → AreMended (λ i. IsBelow i place) entries lasts old new
+
 -- There is a winner for each place, at or below it.
 abbrev pub IsShaped : Lasts → Type 0
 IsShaped lasts = (length lasts.winners.items ≡ length lasts.ends.items) × AreWithin lasts.winners.items
@@ -110,6 +123,20 @@ pub record AreWinners (entries : List (Labels × OwnerCells)) (lasts : Lasts) : 
   pub size : length lasts.ends.items ≡ length entries
   pub shape : IsShaped lasts
   pub right : (i : ℕ) → i < length lasts.winners.items → IsRight entries lasts.ends.items lasts.winners.items i
+
+-- The winners are right for the entries, if they were before the cells of one name changed, or one name came.
+abbrev pub FollowNames : List (Labels × OwnerCells) → Lasts → Lasts → Type 0
+FollowNames entries old new = (name : Labels) (olds : List (Labels × OwnerCells)) → StayBut name olds entries → AreWinners olds old → AreWinners entries new
+
+-- The same, if the name at a place has gone since.
+abbrev pub FollowRemoved : ℕ → List (Labels × OwnerCells) → Lasts → Lasts → Type 0
+FollowRemoved place entries old new =
+    (olds : List (Labels × OwnerCells)) (d : Labels × OwnerCells) → entries ≡ swap_remove olds place d → AreWinners olds old → AreWinners entries new
+
+-- The same, by the place that a look-up found for the name.
+abbrev pub FollowGone : Option ℕ → List (Labels × OwnerCells) → Lasts → Lasts → Type 0
+FollowGone place entries old new = (olds : List (Labels × OwnerCells)) (name : Labels) → place ≡ position (name_eq name) (keys_of olds) →
+    entries ≡ swap_remove_entry (name_eq name) olds → AreWinners olds old → AreWinners entries new
 
 -- There is room for one place more.
 abbrev pub HaveRoom : Lasts → Type 0

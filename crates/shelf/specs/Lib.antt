@@ -4,7 +4,9 @@ pub mod Settling
 pub mod Told
 pub mod Room
 pub mod Sweep
+pub mod Losing
 pub mod Stored
+pub mod Admission
 pub mod KeptCells
 pub mod First
 pub mod Lasts

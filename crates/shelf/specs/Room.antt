@@ -1,5 +1,7 @@
 -- Room for a find: whether a version would cache it, and whether there is room for its place.
-use Rattle.std.specs.Prelude.{◌≡◌, ℕ, Bool, true, false, ◌==◌, ◌&&◌, not, List, Option, fold, if◌then◌else◌}
+use Rattle.std.specs.Prelude.{◌≡◌, ◌≤◌, ◌+◌, ℕ, Bool, true, false, ◌==◌, ◌&&◌, not, position, List, Option, fold, if◌then◌else◌}
+use Rattle.std.specs.Map.{keys_of}
+use Rattle.dns_name.specs.Order.{name_eq}
 use Rattle.dns_text.specs.declared.record.Question.{Question}
 use Rattle.ranked.specs.declared.find.Find.{Find}
 use Rattle.ranked.specs.declared.find.Scope.{Scope}
@@ -9,7 +11,7 @@ use Rattle.ranked.specs.declared.cell.Fate.{Fate}
 use Rattle.ranked.specs.declared.cell.Fate.TheVariants.{Taken, Outranked}
 use Rattle.ranked.specs.Find.{admission_of}
 use Rattle.ranked.specs.Cell.{turns_away}
-use Rattle.cell_store.specs.Count.{has_place_for}
+use Rattle.cell_store.specs.Count.{has_place_for, one_if}
 use Rattle.shelf.specs.declared.shelf.KeptFlush.{KeptFlush}
 use Rattle.shelf.specs.declared.shelf.Shelf.{Shelf}
 use Rattle.shelf.specs.declared.room.Room.{Room}
@@ -45,6 +47,11 @@ abbrev pub room_for : Shelf → Find → ℕ → Room
 room_for shelf find moment =
     if has_place_for shelf.owners find then room.Free else
     if is_wanted shelf find moment find.scope then (if shelf.stored == shelf.limit then room.Full else room.Free) else room.Unwanted
+
+-- It is the place that a look-up finds for the owner of a find, and its own place counts already or there is room for one more.
+abbrev pub HasRoomFor : Find → Option ℕ → Shelf → Type 0
+HasRoomFor find place shelf =
+    (place ≡ position (name_eq find.owner) (keys_of shelf.owners.entries)) × (shelf.stored + one_if (not (has_place_for shelf.owners find)) ≤ shelf.limit)
 
 -- the outcome for a find about one type: it is outranked if the content in force is alive then and of higher rank
 abbrev pub kind_fate : Shelf → Find → ℕ → ℕ → Fate

@@ -1,19 +1,23 @@
 -- Permanent flushes of zones that have not reached the cells of each name yet.
-use Rattle.std.specs.Prelude.{◌≡◌, ◌≤◌, ◌+◌, ◌++◌, ◌&&◌, ◌==◌, ◌∷◌, [], ℕ, Bool, false, length, nat_le, nat_lt, not, max, min, fold, List, Option, if◌then◌else◌}
+use Rattle.std.specs.Prelude.{◌≡◌, ◌<◌, ◌≤◌, ◌+◌, ◌++◌, ◌&&◌, ◌==◌, ◌∷◌, [], ℕ, Bool, false, length, nat_le, nat_lt, not, max, min, fold, vec_capacity, List, Option, Vec, if◌then◌else◌}
 use Rattle.std.specs.List.{AllByRecursion, filter, list_any}
 use Rattle.indexmap.specs.IndexMap.{IndexMap}
 use Rattle.dns_name.specs.Labels.{Labels}
 use Rattle.dns_name.specs.Below.{is_at_or_below}
+use Rattle.dns_name.specs.Order.{name_eq}
 use Rattle.dns_text.specs.declared.record.Question.{Question}
 use Rattle.ranked.specs.declared.find.Find.{Find}
 use Rattle.ranked.specs.declared.cell.Admitted.{Admitted}
+use Rattle.ranked.specs.declared.flush.Flush.{Flush}
 use Rattle.ranked.specs.declared.flush.Reach.{Reach}
 use Rattle.ranked.specs.declared.flush.Reach.TheVariants.{OneType, Name, Zone}
+use Rattle.ranked.specs.Flush.{covers}
 use Rattle.cell_store.specs.declared.owner.OwnerCells.{OwnerCells}
 use Rattle.cell_store.specs.Owner.{after_settle}
 use Rattle.cell_store.specs.Store.{cell_of, name_place, AreAbout, AreUpTo}
 use Rattle.shelf.specs.declared.settling.Settling.{Settling}
 use Rattle.shelf.specs.declared.shelf.KeptFlush.{KeptFlush}
+use Rattle.shelf.specs.declared.shelf.Shelf.{Shelf}
 
 -- the version so far, or that of a flush, if it covers the name and is newer
 abbrev pub later_settled : Labels → ℕ → Settling → ℕ
@@ -53,6 +57,27 @@ pub record IsMoved {S : Type 0} (moved : Question → ℕ → ℕ) (top : ℕ) (
   pub about : AreAbout old → AreAbout new
   pub settling : AllByRecursion (IsSettling top new) now
 
+-- Each version of each question has the content that another version had, if each permanent flush has reached each name from its place on.
+abbrev pub AreMovedBy : {S : Type 0} → (Question → ℕ → ℕ) → List Settling → List Settling → IndexMap Labels OwnerCells S → IndexMap Labels OwnerCells S → Type 0
+AreMovedBy moved was now old new = (top : ℕ) → AreUpTo top old → AllByRecursion (IsSettling top old) was → IsMoved moved top was now old new
+
+-- The same, if no flush has a greater number than the newest.
+abbrev pub AreMovedFrom : {S : Type 0} → ℕ → (Question → ℕ → ℕ) → List Settling → List Settling → IndexMap Labels OwnerCells S → IndexMap Labels OwnerCells S → Type 0
+AreMovedFrom number moved was now old new =
+    (top : ℕ) → number ≤ top → AreUpTo top old → AllByRecursion (IsSettling top old) was → IsMoved moved top was now old new
+
+-- the version whose content a version gets when a flush of every type at or below a name becomes permanent
+abbrev pub moved_by_zone : Labels → ℕ → Question → ℕ → ℕ
+moved_by_zone zone number question v = after_settle (is_at_or_below question.owner zone) number v
+
+-- the same for a flush of some types of a name
+abbrev pub moved_by_name : Labels → List ℕ → ℕ → Question → ℕ → ℕ
+moved_by_name name kinds number question v = after_settle (name_eq name question.owner && list_any (λ kind. kind == question.kind) kinds) number v
+
+-- the same for a flush
+abbrev pub moved_by_flush : Flush → ℕ → Question → ℕ → ℕ
+moved_by_flush flush number question v = after_settle (covers flush question) number v
+
 -- what a flush has left: a step for each name that it may not have reached, and one to go
 abbrev pub steps_of : Settling → ℕ
 steps_of own = own.left + 1
@@ -78,6 +103,10 @@ is_outdone zone number own = nat_le own.number number && is_at_or_below own.zone
 -- the flushes that it does not outdo
 abbrev pub without_outdone : Labels → ℕ → List Settling → List Settling
 without_outdone zone number settlings = filter (λ own. not (is_outdone zone number own)) settlings
+
+-- the flushes once another one joins them: those go that it outdoes
+abbrev pub joined_to : Settling → List Settling → List Settling
+joined_to own settlings = without_outdone own.zone own.number settlings ++ own ∷ []
 
 -- a flush with so many names left to reach
 abbrev pub with_left : ℕ → Settling → Settling
@@ -108,8 +137,16 @@ joining Zone zone number names = record { zone = zone; number = number; left = n
 
 -- the flushes once another one is permanent: it joins them, without those that it outdoes
 abbrev pub joined_by : Reach → Labels → ℕ → ℕ → List Settling → List Settling
-joined_by reach zone number names settlings =
-    let own = joining reach zone number names in without_outdone own.zone own.number (with_room settlings) ++ own ∷ []
+joined_by reach zone number names settlings = joined_to (joining reach zone number names) (with_room settlings)
+
+-- What joins the permanent flushes has each name left that is there, unless another flush had to reach its names first to make room.
+abbrev pub HasEachLeft : {S : Type 0} → List Settling → IndexMap Labels OwnerCells S → ℕ → Type 0
+HasEachLeft settlings owners names = length settlings < most_settling → names ≡ length owners.entries
+
+-- A flush has joined the permanent ones.
+abbrev pub HasJoined : {S : Type 0} → Flush → ℕ → IndexMap Labels OwnerCells S → List Settling → List Settling → Type 0
+HasJoined flush number owners was now =
+    (names : ℕ) × (HasEachLeft was owners names × (now ≡ joined_by flush.reach flush.name number names was))
 
 -- the flushes once an undone one has gone
 abbrev pub doubted : ℕ → List Settling → List Settling
@@ -125,10 +162,34 @@ settled_once number names [] settlings = settlings
 settled_once number names (own ∷ later) settlings =
     if own.number == number && own.shown then joined_by own.flush.reach own.flush.name own.number names settlings else cleared_once number names (own ∷ later) settlings
 
+-- the same in a cache, if the flush has so many names left
+abbrev pub settled_by : ℕ → ℕ → Shelf → List Settling
+settled_by number names shelf = settled_once number names shelf.kept.items shelf.settlings.items
+
+-- the permanent flushes of a cache, once the kept flush of a number was dropped
+abbrev pub cleared_by : ℕ → Shelf → List Settling
+cleared_by number shelf = cleared_once number (length shelf.owners.entries) shelf.kept.items shelf.settlings.items
+
 -- No flush is outdone by a later one.
 abbrev pub AreUseful : List Settling → Type 0
 AreUseful [] = Unit {0}
 AreUseful (own ∷ later) = AllByRecursion (λ other. is_outdone other.zone other.number own ≡ false) later × AreUseful later
+
+-- The list of permanent flushes is no longer than before, and none is outdone if none was. It has kept its room.
+pub record HasShrunk {A : Type 0} (old new : Vec Settling A) : Type 0 where
+  pub size : length new.items ≤ length old.items
+  pub capacity : vec_capacity new ≡ vec_capacity old
+  pub useful : AreUseful old.items → AreUseful new.items
+
+-- It has at most one more, and has kept its room.
+abbrev pub IsOneLonger : {A : Type 0} → Vec Settling A → Vec Settling A → Type 0
+IsOneLonger old new = (length new.items ≤ length old.items + 1) × (vec_capacity new ≡ vec_capacity old)
+
+-- It has at most one more, none is outdone if none was, and they are at most 256 if they were.
+pub record HasGrown {A : Type 0} (old new : Vec Settling A) : Type 0 where
+  pub more : IsOneLonger old new
+  pub useful : AreUseful old.items → AreUseful new.items
+  pub short : length old.items ≤ most_settling → length new.items ≤ most_settling
 
 -- the same version
 abbrev pub unmoved : Question → ℕ → ℕ

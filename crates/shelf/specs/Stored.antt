@@ -1,5 +1,6 @@
 -- How much a shelf stores: at most the different pairs of its admissions, and at least those of the finds that are alive in some version.
-use Rattle.std.specs.Prelude.{◌≡◌, ◌≤◌, ◌&&◌, ℕ, Bool, true, false, is_some, length, sum_by, List, [], ◌∷◌, Some, Result, IsOk, IsErrOf, if◌then◌else◌}
+use Rattle.std.specs.Prelude.{◌≡◌, ◌≤◌, ◌++◌, ◌&&◌, ℕ, Bool, true, false, is_some, length, sum_by, List, [], ◌∷◌, Some, Result, IsOk, IsErrOf, if◌then◌else◌}
+use Rattle.std.specs.List.{AllByRecursion}
 use Rattle.std.specs.Set.{distinct_count, is_member}
 use Rattle.dns_name.specs.Labels.{Labels}
 use Rattle.dns_name.specs.Order.{name_eq}
@@ -33,6 +34,10 @@ count_pairs pairs = distinct_count pair_eq pairs
 abbrev pub HasAdmittedEach : List Told → Shelf → Type 0
 HasAdmittedEach told shelf = (pair : Labels × Scope) → has_pair shelf.owners pair ≡ true → is_member pair_eq (pairs_in told) pair ≡ true
 
+-- The same with one admission or flush more.
+abbrev pub AddsEach : List Told → Told → Shelf → Shelf → Type 0
+AddsEach told more old new = HasAdmittedEach told old → HasAdmittedEach (told ++ more ∷ []) new
+
 -- A find of this pair is alive at a moment in the cell of a question, if only the chosen ones of the kept flushes are in force.
 pub record IsAliveInFace (shelf : Shelf) (t : ℕ) (pair : Labels × Scope) : Type 0 where
   pub chosen : ℕ → Bool
@@ -59,6 +64,11 @@ pub record IsByRoom {T : Type 0} (old : Shelf) (find : Find) (moment : ℕ) (res
   pub replayed : (told : List Told) → IsShelfOf old told → IsAliveInReplay old.kept.items told moment (pair_of find) → IsOk result
   pub many : (told : List Told) → HasAdmittedEach told old → (n : ℕ) → IsErrOf result (Full n) → old.limit ≤ count_pairs (pairs_in told)
 
+-- A count of places is at least that of the pairs of which a replay gives a find that is alive, in some version.
+abbrev pub CountsReplayed : Shelf → ℕ → Type 0
+CountsReplayed shelf count = (told : List Told) → IsShelfOf shelf told → (t : ℕ) (pairs : List (Labels × Scope)) →
+    AllByRecursion (IsAliveInReplay shelf.kept.items told t) pairs → count_pairs pairs ≤ count
+
 -- whether a question is about a pair: it has the owner, and the type unless the pair is of the whole name
 abbrev pub is_about : Labels × Scope → Question → Bool
 is_about pair question = name_eq pair.0 question.owner && has_kind pair.1 question.kind
@@ -73,6 +83,10 @@ pub record IsNeeded (shelf : Shelf) (t : ℕ) (pair : Labels × Scope) : Type 0 
 -- Each place that counts is needed at a moment.
 abbrev pub AreNeeded : ℕ → Shelf → Type 0
 AreNeeded t shelf = (pair : Labels × Scope) → has_pair shelf.owners pair ≡ true → IsNeeded shelf t pair
+
+-- Whatever choice of the kept flushes is in force, what is alive at a moment is shown as before.
+abbrev pub ShowsSameAlive : ℕ → Shelf → Shelf → Type 0
+ShowsSameAlive t old new = (chosen : ℕ → Bool) (question : Question) → alive_at t (face_of new chosen question) ≡ alive_at t (face_of old chosen question)
 
 -- the columns of a name, or 0 if a find of the whole name is cached
 abbrev pub plain_columns : OwnerCells → ℕ

@@ -1,16 +1,16 @@
 -- The sweep: the cells after it.
-use Rattle.std.specs.Prelude.{◌≡◌, ◌≢◌, ◌<◌, ◌≤◌, ◌+◌, ◌-◌, ◌*◌, ℕ, Bool, true, false, IfSome, List, [], ◌∷◌, ◌++◌, fold, max, min, nat_le, sum_by, length, slice_get, if◌then◌else◌}
+use Rattle.std.specs.Prelude.{◌≡◌, ◌≢◌, ◌<◌, ◌≤◌, ◌+◌, ◌-◌, ◌*◌, ℕ, Bool, true, false, IfSome, List, [], ◌∷◌, ◌++◌, fold, max, min, nat_le, sum_by, length, slice_get, slice_index_or, if◌then◌else◌}
 use Rattle.indexmap.specs.IndexMap.{IndexMap, get}
 use Rattle.dns_name.specs.Labels.{Labels}
 use Rattle.dns_name.specs.Order.{name_eq}
 use Rattle.dns_text.specs.declared.record.Question.{Question}
 use Rattle.ranked.specs.declared.find.Scope.TheVariants.{One}
 use Rattle.cell_store.specs.declared.owner.OwnerCells.{OwnerCells}
-use Rattle.cell_store.specs.Owner.{cell_in, IsUpTo, CanSettle}
-use Rattle.cell_store.specs.Count.{count_of, has_place, stored_in, IsTidy, KeepPairs, LosesFinds}
+use Rattle.cell_store.specs.Owner.{cell_in}
+use Rattle.cell_store.specs.Count.{count_of, has_place, stored_in, IsTidy, LosesFinds}
 use Rattle.cell_store.specs.Ends.{latest, name_end}
 use Rattle.cell_store.specs.Walk.{IsEach, IsEntry}
-use Rattle.cell_store.specs.Store.{cell_of, AreAbout, AreCountedFrom, AreUpTo, EachCounts, KeepSettling}
+use Rattle.cell_store.specs.Store.{cell_of, AreAbout, AreCountedFrom, EachCounts, GainNothing, HaveTop}
 use Rattle.cell_store.specs.Mixed.{has_mixed, IsLikeFirst}
 use Rattle.cell_store.specs.Sweep.{alive_at, is_dead, whole_swept}
 use Rattle.shelf.specs.declared.shelf.KeptFlush.{KeptFlush}
@@ -20,6 +20,9 @@ pub use Rattle.shelf.specs.Clean.{IsAlive}
 use Rattle.shelf.specs.Clean.{AreEnds, AreKeyed, IsClean, IsEnd}
 use Rattle.shelf.specs.declared.ends.Ends.{Ends}
 use Rattle.shelf.specs.declared.settling.Settling.{Settling}
+use Rattle.shelf.specs.declared.shelf.Shelf.{Shelf}
+use Rattle.shelf.specs.First.{life_at}
+use Rattle.shelf.specs.Lasts.{last_at}
 use Rattle.shelf.specs.Settling.{steps_left}
 
 -- the numbers so far, and that of a flush if it covers the question
@@ -35,8 +38,6 @@ pub record IsSwept (kept : List KeptFlush) (t : ℕ) (name : Labels) (old new : 
   pub cells : (k v : ℕ) → is_version kept (record { owner = name; kind = k }) v ≡ true → alive_at t (cell_in new k v) ≡ alive_at t (cell_in old k v)
   pub alive : (k : ℕ) → has_place new (One k) ≡ true → IsAlive kept name t new k
   pub whole : new.whole ≡ whole_swept t old.whole
-  pub upto : (top : ℕ) → IsUpTo top old → IsUpTo top new
-  pub settles : (n k : ℕ) → CanSettle n k old → CanSettle n k new
   pub lost : LosesFinds old new
   pub tidy : IsTidy new
 
@@ -49,17 +50,13 @@ pub record AreAlive {S : Type 0} (kept : List KeptFlush) (t : ℕ) (owners : Ind
 -- The cells of a name after a sweep, whatever they were: each version keeps what is alive, and gets nothing.
 pub record IsLessened (kept : List KeptFlush) (t : ℕ) (name : Labels) (old new : OwnerCells) : Type 0 where
   pub cells : (k v : ℕ) → is_version kept (record { owner = name; kind = k }) v ≡ true → alive_at t (cell_in new k v) ≡ alive_at t (cell_in old k v)
-  pub upto : (top : ℕ) → IsUpTo top old → IsUpTo top new
-  pub settles : (n k : ℕ) → CanSettle n k old → CanSettle n k new
   pub lost : LosesFinds old new
 
 -- The cells of all names after a sweep of some: each version keeps what is alive, and gets nothing.
 pub record AreLessened {S : Type 0} (kept : List KeptFlush) (t : ℕ) (old new : IndexMap Labels OwnerCells S) : Type 0 where
   pub cells : (q : Question) (v : ℕ) → is_version kept q v ≡ true → alive_at t (cell_of new q v) ≡ alive_at t (cell_of old q v)
-  pub upto : (top : ℕ) → AreUpTo top old → AreUpTo top new
-  pub settles : KeepSettling old new
   pub about : AreAbout old → AreAbout new
-  pub pairs : KeepPairs old new
+  pub gains : GainNothing old new
 
 -- What a sweep of a name gives: a later moment before which it needs no other sweep, if some place counts.
 abbrev pub IsNext : List KeptFlush → ℕ → Labels × OwnerCells → ℕ → Type 0
@@ -81,15 +78,35 @@ pub record IsSweptAt (kept : List KeptFlush) (t place : ℕ) (old new : List (La
 abbrev pub IsDue : List KeptFlush → ℕ → ℕ → Labels × OwnerCells → ℕ → Type 0
 IsDue kept t asked entry end = asked < end → IsClean kept t entry.0 entry.1
 
--- The sweep so far: each name that ends after `asked` needs none, and the counted places are counted.
-pub record IsUnderway {S : Type 0} (kept : List KeptFlush) (t asked : ℕ) (first : IndexMap Labels OwnerCells S) (most : ℕ) (owners : IndexMap Labels OwnerCells S) (ends_now : Ends) (stored : ℕ) : Type 0 where
+-- A sweep can begin: no name needs one before its moment, and no moment is in doubt. As many places count as it says.
+pub record CanSweep {S : Type 0} (kept : List KeptFlush) (owners : IndexMap Labels OwnerCells S) (ends_now : Ends) (stored : ℕ) : Type 0 where
+  pub ends : AreEnds kept owners.entries ends_now
+  pub sure : ends_now.left ≡ 0
+  pub counted : stored ≡ stored_in owners
+  pub top : HaveTop owners
+
+-- The sweep so far: no name needs another before its moment, and no moment is in doubt. As many places count as it says, no more than `most`, and each name is in use if each was.
+pub record AreSwept {S : Type 0} (kept : List KeptFlush) (t : ℕ) (first : IndexMap Labels OwnerCells S) (most : ℕ) (owners : IndexMap Labels OwnerCells S) (ends_now : Ends) (stored : ℕ) : Type 0 where
   pub less : AreLessened kept t first owners
   pub ends : AreEnds kept owners.entries ends_now
   pub sure : ends_now.left ≡ 0
-  pub due : AreKeyed (IsDue kept t asked) owners.entries ends_now.moments
   pub counted : stored ≡ stored_in owners
   pub fewer : stored ≤ most
   pub named : EachCounts first.entries → EachCounts owners.entries
+
+-- The same, and each name that ends after `asked` needs no sweep.
+pub record IsUnderway {S : Type 0} (kept : List KeptFlush) (t asked : ℕ) (first : IndexMap Labels OwnerCells S) (most : ℕ) (owners : IndexMap Labels OwnerCells S) (ends_now : Ends) (stored : ℕ) : Type 0 where
+  pub so_far : AreSwept kept t first most owners ends_now stored
+  pub due : AreKeyed (IsDue kept t asked) owners.entries ends_now.moments
+
+-- A sweep that was under way still is.
+abbrev pub StaysUnderway : {S : Type 0} → List KeptFlush → ℕ → IndexMap Labels OwnerCells S → Ends → ℕ → IndexMap Labels OwnerCells S → Ends → ℕ → Type 0
+StaysUnderway {S} kept t olds old stored news new stored' = (asked most : ℕ) (first : IndexMap Labels OwnerCells S) → asked ≤ t → asked < latest →
+    IsUnderway kept t asked first most olds old stored → IsUnderway kept t asked first most news new stored'
+
+-- A name has in its place the second in which its last find ends.
+abbrev pub NotesLifeAt : ℕ → List KeptFlush → List (Labels × OwnerCells) → List ℕ → Type 0
+NotesLifeAt place kept entries lasts = last_at lasts place ≡ min (life_at [] kept entries place) latest
 
 -- 1 if a moment is at another or before, else 0
 abbrev pub one_ended : ℕ → ℕ → ℕ
@@ -99,6 +116,11 @@ one_ended asked end = if nat_le end asked then 1 else 0
 abbrev pub count_ended : ℕ → List ℕ → ℕ
 count_ended asked ends = sum_by (one_ended asked) ends
 
+-- One name fewer has ended, if the one at a place had.
+abbrev pub EndsOneAt : ℕ → ℕ → List ℕ → List ℕ → Type 0
+EndsOneAt place t old new =
+    (asked : ℕ) → asked ≤ t → asked < latest → slice_index_or old place 0 ≤ asked → count_ended asked new + 1 ≡ count_ended asked old
+
 -- the second up to which names end that a sweep at a moment visits; what ends in the latest second never ends
 abbrev pub asked_at : ℕ → ℕ
 asked_at t = min t (latest - 1)
@@ -106,6 +128,10 @@ asked_at t = min t (latest - 1)
 -- what a sweep at a moment has left to do: a visit for each name that has ended, and two for each step of a permanent flush, since the name that it reaches then ends too
 abbrev pub unswept : List ℕ → List Settling → ℕ → ℕ
 unswept moments settlings t = 2 * steps_left settlings + count_ended (asked_at t) moments
+
+-- the same in a cache
+abbrev pub unswept_of : Shelf → ℕ → ℕ
+unswept_of shelf t = unswept shelf.ends.moments shelf.settlings.items t
 
 -- the most that a turn of a sweep takes from what is left: two for each of 257 steps of a permanent flush, and one for each name that it reaches
 abbrev pub turn_at_most : ℕ

@@ -1,11 +1,12 @@
 -- The replay of a shelf: its admissions and flushes in order, and the cells that they give.
-use Rattle.std.specs.Prelude.{ℕ, Bool, true, ◌++◌, ◌+◌, ◌==◌, ◌&&◌, ◌≡◌, ◌≤◌, ◌<◌, ◌^◌, length, vec_capacity, List, [], ◌∷◌, Option, None, fold, if◌then◌else◌}
+use Rattle.std.specs.Prelude.{ℕ, Bool, true, ◌++◌, ◌+◌, ◌==◌, ◌&&◌, ◌≡◌, ◌≤◌, ◌<◌, ◌^◌, length, map, vec_capacity, List, [], ◌∷◌, Option, None, fold, if◌then◌else◌}
 use Rattle.std.specs.List.{AllByRecursion}
 use Rattle.dns_name.specs.Labels.{Labels}
 use Rattle.dns_text.specs.declared.record.Question.{Question}
 use Rattle.ranked.specs.declared.find.Find.{Find}
 use Rattle.ranked.specs.declared.cell.Admitted.{Admitted}
-use Rattle.ranked.specs.Cell.{after_admission}
+use Rattle.ranked.specs.declared.cell.Shown.{Shown}
+use Rattle.ranked.specs.Cell.{after_admission, shown_at}
 use Rattle.ranked.specs.Find.{touches, admission_of}
 use Rattle.indexmap.specs.IndexMap.{IndexMap}
 use Rattle.cell_store.specs.declared.owner.OwnerCells.{OwnerCells}
@@ -18,8 +19,9 @@ use Rattle.ranked.specs.declared.flush.Reach.TheVariants.{OneType, Name, Zone}
 use Rattle.shelf.specs.declared.shelf.KeptFlush.{KeptFlush}
 use Rattle.shelf.specs.declared.shelf.Shelf.{Shelf}
 pub use Rattle.shelf.specs.Kept.{is_kept, is_version}
+use Rattle.shelf.specs.Kept.{stands_first, turned_over, with_shown}
 use Rattle.shelf.specs.Clean.{AreEnds}
-use Rattle.shelf.specs.Settling.{most_left, most_settling, settled_cell, AreUseful, IsSettling}
+use Rattle.shelf.specs.Settling.{most_left, most_settling, reached_at_once, settled_by, settled_cell, AreUseful, HasEachLeft, HasJoined, HaveStepped, IsSettling}
 use Rattle.ranked.specs.Flush.{covers, flushed_types}
 
 -- an admission of a find at a moment, or a flush with its number
@@ -75,10 +77,6 @@ types_of Zone = []
 abbrev pub CanSettleFlush : {S : Type 0} → IndexMap Labels OwnerCells S → ℕ → Flush → Type 0
 CanSettleFlush owners number flush = AllByRecursion (λ kind. CanSettleAt number kind flush.name owners) (types_of flush.reach)
 
--- A kept flush can become permanent with no memory.
-abbrev pub CanSettleKept : {S : Type 0} → IndexMap Labels OwnerCells S → KeptFlush → Type 0
-CanSettleKept owners own = CanSettleFlush owners own.number own.flush
-
 -- No admission has reached a version past the greatest number, and each cell has only a find about its question. Each kept flush can become permanent with no memory. The places that count are counted, and are at most the limit. No name needs a sweep before its end. Each permanent flush has reached each name from its place on, and none is outdone by a later one. They are at most 256. One of them has each name left that a flush left in doubt. There is room for each kept flush to become permanent. Each name of the index has a place that counts, and each of its columns counts unless a find of the whole name is cached.
 pub record IsShelf (shelf : Shelf) : Type 0 where
   pub upto : AreUpTo shelf.top shelf.owners
@@ -131,6 +129,70 @@ pub record IsSame (old new : Shelf) : Type 0 where
 -- The same flushes can be undone or redone, under the same limit.
 abbrev pub KeepsFlushes : Shelf → Shelf → Type 0
 KeepsFlushes old new = (new.kept.items ≡ old.kept.items) × (new.top ≡ old.top) × (new.limit ≡ old.limit)
+
+-- The cache holds nothing, keeps no flush and stores nothing, under a limit.
+pub record IsEmptyShelf (most : ℕ) (shelf : Shelf) : Type 0 where
+  pub cells : IsShelfOf shelf []
+  pub whole : IsShelf shelf
+  pub kept : shelf.kept.items ≡ []
+  pub top : shelf.top ≡ 0
+  pub stored : shelf.stored ≡ 0
+  pub limit : shelf.limit ≡ most
+
+-- The cache lost something at most: it keeps the same flushes under the same limit, and no place counts that did not. No more places count than before.
+pub record LosesOnly (old new : Shelf) : Type 0 where
+  pub whole : IsShelf new
+  pub flushes : KeepsFlushes old new
+  pub stored : new.stored ≤ old.stored
+  pub pairs : KeepPairs old.owners new.owners
+
+-- The flag of the flush of a number was set so, and nothing else has changed: each version of each question is as it was, whatever choice of the kept flushes is in force.
+pub record TurnsFlush (number : ℕ) (shown : Bool) (old new : Shelf) : Type 0 where
+  pub cells : (told : List Told) → IsShelfOf old told → IsShelfOf new told
+  pub faces : (chosen : ℕ → Bool) (question : Question) → face_of new chosen question ≡ face_of old chosen question
+  pub kept : new.kept.items ≡ map (with_shown number shown) old.kept.items
+  pub top : new.top ≡ old.top
+  pub limit : new.limit ≡ old.limit
+  pub stored : new.stored ≡ old.stored
+  pub owners : new.owners ≡ old.owners
+
+-- The kept flush of a number has gone: it is permanent if it was the oldest and in force. Else it is as if it had never been. No place counts that did not, and no more do than before.
+pub record LetsGo (number : ℕ) (old new : Shelf) : Type 0 where
+  pub whole : IsShelf new
+  pub faces : (chosen : ℕ → Bool) → chosen number ≡ stands_first number old.kept.items → (question : Question) → face_of new chosen question ≡ face_of old chosen question
+  pub kept : new.kept.items ≡ without number old.kept.items
+  pub top : new.top ≡ old.top
+  pub limit : new.limit ≡ old.limit
+  pub stored : new.stored ≤ old.stored
+  pub pairs : KeepPairs old.owners new.owners
+
+-- The kept flush of a number has gone, and the first permanent flush has taken some steps since.
+abbrev pub HasSteppedSince : ℕ → Shelf → Shelf → Type 0
+HasSteppedSince number old new =
+    (names : ℕ) × (HasEachLeft old.settlings.items old.owners names × HaveStepped reached_at_once (settled_by number names old) new.settlings.items)
+
+-- The oldest kept flush is permanent: with it in force, each cell shows what it did, whatever choice of the others is.
+abbrev pub ShowsOldest : Shelf → Shelf → Type 0
+ShowsOldest old new = (own : KeptFlush) (later : List KeptFlush) (chosen : ℕ → Bool) → old.kept.items ≡ own ∷ later → chosen own.number ≡ true →
+    (question : Question) → face_of new chosen question ≡ face_of old chosen question
+
+-- The oldest kept flush has joined the permanent ones.
+abbrev pub JoinsOldest : Shelf → Shelf → Type 0
+JoinsOldest old new = (own : KeptFlush) (later : List KeptFlush) → old.kept.items ≡ own ∷ later →
+    HasJoined own.flush own.number old.owners old.settlings.items new.settlings.items
+
+-- A find is what a question shows at a moment, by the flushes in force.
+abbrev pub IsShown : Shelf → Labels → ℕ → ℕ → Option (Shown Find) → Type 0
+IsShown shelf owner kind t held = held ≡ shown_at (shown_cell shelf (record { owner = owner; kind = kind })) t
+
+-- It is what a replay shows of the admissions and flushes so far.
+abbrev pub IsReplayed : Shelf → Labels → ℕ → ℕ → Option (Shown Find) → Type 0
+IsReplayed shelf owner kind t held =
+    (told : List Told) → IsShelfOf shelf told → held ≡ shown_at (replayed_cell shelf.kept.items (record { owner = owner; kind = kind }) told) t
+
+-- the content of the cell of a question, if the flush of a number were turned over
+abbrev pub cell_over : ℕ → Shelf → Question → Option (Admitted Find)
+cell_over number shelf question = cell_at shelf question (shown_version (map (turned_over number) shelf.kept.items) question)
 
 -- A find was admitted: to the replay, and to each cell that it is about, whatever choice of the kept flushes is in force. Each place that counts did so before, or is that of the find.
 pub record HasAdmitted (find : Find) (moment : ℕ) (old new : Shelf) : Type 0 where

@@ -1,19 +1,12 @@
 //! Flushes that are made, and made permanent.
 
-ghost use Rattle.std.specs.Prelude.{◌≡◌, ◌<◌, ◌≤◌, ◌+◌, ◌^◌, ◌++◌, ◌∷◌, [], ℕ, List, length, vec_capacity, OnOk};
-ghost use Rattle.std.specs.List.{AllByRecursion};
-ghost use Rattle.std.specs.Map.{keys_of};
-ghost use Rattle.dns_text.specs.declared.record.Question.{Question};
-ghost use Rattle.ranked.specs.Flush.{covers, flushed_types};
-ghost use Rattle.cell_store.specs.Count.{stored_in, KeepPairs};
-ghost use Rattle.cell_store.specs.Owner.{after_settle};
-ghost use Rattle.cell_store.specs.Store.{cell_of, AreUpTo, EachCounts, HaveTop, StayBut};
-ghost use Rattle.shelf.specs.declared.settling.Settling.{Settling};
-ghost use Rattle.shelf.specs.declared.shelf.KeptFlush.{KeptFlush};
-ghost use Rattle.shelf.specs.Clean.{AreEnds, HaveEnds};
+ghost use Rattle.std.specs.Prelude.{◌≡◌, ◌<◌, ◌≤◌, ◌+◌, ◌^◌, ℕ, length, vec_capacity, OnOk};
+ghost use Rattle.ranked.specs.Flush.{flushed_types};
+ghost use Rattle.cell_store.specs.Store.{AreUpTo, KeepNames, OpenColumns};
 ghost use Rattle.shelf.specs.Kept.{stands_first};
-ghost use Rattle.shelf.specs.Settling.{joined_by, joining, most_left, most_settling, without_outdone, AreUseful, IsMoved, IsSettling};
-ghost use Rattle.shelf.specs.Told.{without, CanSettleFlush, CanSettleKept};
+ghost use Rattle.shelf.specs.Losing.{AreDoubted, IsTallied, LoseCells, LosePlaces};
+ghost use Rattle.shelf.specs.Settling.{joined_to, joining, moved_by_flush, AreMovedFrom, HasGrown, HasJoined, IsOneLonger};
+ghost use Rattle.shelf.specs.Told.{without, CanSettleFlush};
 
 use crate::ends::{Ends, doubt_all};
 use crate::settling::{Settling, make_room, settle_name, settle_zone};
@@ -56,16 +49,9 @@ pub(crate) fn flushed_types() -> [u16; 10]
 // Makes room for a flush, so that `settle_flush` needs no memory later. No cell changes.
 pub(crate) fn open_flush(owners: &mut Owners, flush: &Flush, top: u64) -> Result<(), NoMemory>
     requires upto { AreUpTo top owners.old }
-    ensures cells { (q : Question) (v : ℕ) → cell_of owners.new q v ≡ cell_of owners.old q v }
-    ensures upto { AreUpTo top owners.new }
-    ensures settles { (kept : List KeptFlush) →
-        AllByRecursion (CanSettleKept owners.old) kept → AllByRecursion (CanSettleKept owners.new) kept }
+    ensures opens { OpenColumns top owners.old owners.new }
     ensures opened { OnOk result ((n : ℕ) → CanSettleFlush owners.new n flush.now) }
-    ensures counted { stored_in owners.new ≡ stored_in owners.old }
-    ensures pairs { KeepPairs owners.old owners.new }
-    ensures entries { StayBut flush.now.name owners.old.entries owners.new.entries
-        × (length owners.new.entries ≡ length owners.old.entries) × (keys_of owners.new.entries ≡ keys_of owners.old.entries) }
-    ensures named { EachCounts owners.old.entries → EachCounts owners.new.entries }
+    ensures entries { KeepNames flush.now.name owners.old.entries owners.new.entries }
 {
     match flush.reach {
         Reach::OneType(kind) => open_kinds(owners, &flush.name, &[kind], top),
@@ -84,23 +70,14 @@ fn settle_reach(
     flush: Flush,
     number: u64,
 )
-    requires size { HaveEnds owners.old.entries ends.old }
+    requires tallied { IsTallied owners.old stored.old ends.old }
     requires room { length settlings.old.items < vec_capacity settlings.old }
-    requires counted { (stored.old ≡ stored_in owners.old) × HaveTop owners.old }
     requires settles { CanSettleFlush owners.old number flush }
-    ensures moved { (top : ℕ) → number ≤ top → AreUpTo top owners.old →
-        AllByRecursion (IsSettling top owners.old) settlings.old.items →
-        IsMoved (λ q v. after_settle (covers flush q) number v) top settlings.old.items settlings.new.items owners.old owners.new }
-    ensures settles { (kept : List KeptFlush) →
-        AllByRecursion (CanSettleKept owners.old) kept → AllByRecursion (CanSettleKept owners.new) kept }
-    ensures counted { (stored.new ≡ stored_in owners.new) × (stored.new ≤ stored.old)
-        × (EachCounts owners.old.entries → EachCounts owners.new.entries) }
-    ensures pairs { KeepPairs owners.old owners.new }
-    ensures ends { (kept : List KeptFlush) → AreEnds kept owners.old.entries ends.old → AreEnds kept owners.new.entries ends.new }
-    ensures space { (length settlings.new.items ≤ length settlings.old.items + 1)
-        × (vec_capacity settlings.new ≡ vec_capacity settlings.old) }
-    ensures items { let own : Settling = joining flush.reach flush.name number (length owners.old.entries) in
-        settlings.new.items ≡ without_outdone own.zone own.number settlings.old.items ++ own ∷ [] }
+    ensures moved { AreMovedFrom number (moved_by_flush flush number) settlings.old.items settlings.new.items owners.old owners.new }
+    ensures lost { LoseCells owners.old stored.old ends.old owners.new stored.new ends.new }
+    ensures space { IsOneLonger settlings.old settlings.new }
+    ensures items { settlings.new.items ≡
+        joined_to (joining flush.reach flush.name number (length owners.old.entries)) settlings.old.items }
     ensures left { ends.new.left ≤ ends.old.left }
 {
     match flush.reach {
@@ -126,25 +103,14 @@ pub(crate) fn settle_flush(
     flush: Flush,
     number: u64,
 )
-    requires size { HaveEnds owners.old.entries ends.old }
+    requires tallied { IsTallied owners.old stored.old ends.old }
     requires room { length settlings.old.items < vec_capacity settlings.old }
-    requires counted { (stored.old ≡ stored_in owners.old) × HaveTop owners.old }
     requires settles { CanSettleFlush owners.old number flush }
-    ensures moved { (top : ℕ) → number ≤ top → AreUpTo top owners.old →
-        AllByRecursion (IsSettling top owners.old) settlings.old.items →
-        IsMoved (λ q v. after_settle (covers flush q) number v) top settlings.old.items settlings.new.items owners.old owners.new }
-    ensures settles { (kept : List KeptFlush) →
-        AllByRecursion (CanSettleKept owners.old) kept → AllByRecursion (CanSettleKept owners.new) kept }
-    ensures counted { (stored.new ≡ stored_in owners.new) × (stored.new ≤ stored.old)
-        × (EachCounts owners.old.entries → EachCounts owners.new.entries) }
-    ensures pairs { KeepPairs owners.old owners.new }
-    ensures ends { (kept more : List KeptFlush) → AreEnds kept owners.old.entries ends.old → AreEnds more owners.new.entries ends.new }
-    ensures space { (length settlings.new.items ≤ length settlings.old.items + 1)
-        × (vec_capacity settlings.new ≡ vec_capacity settlings.old) × (AreUseful settlings.old.items → AreUseful settlings.new.items)
-        × (length settlings.old.items ≤ most_settling → length settlings.new.items ≤ most_settling) }
-    ensures items { (names : ℕ) × ((length settlings.old.items < most_settling → names ≡ length owners.old.entries)
-        × (settlings.new.items ≡ joined_by flush.reach flush.name number names settlings.old.items)) }
-    ensures doubt { ends.new.left ≤ most_left settlings.new.items }
+    ensures moved { AreMovedFrom number (moved_by_flush flush number) settlings.old.items settlings.new.items owners.old owners.new }
+    ensures lost { LosePlaces owners.old stored.old owners.new stored.new }
+    ensures doubt { AreDoubted owners.old.entries ends.old owners.new.entries ends.new settlings.new.items }
+    ensures space { HasGrown settlings.old settlings.new }
+    ensures items { HasJoined flush number owners.old settlings.old.items settlings.new.items }
 {
     make_room(owners, ends, stored, settlings);
     doubt_all(owners, ends);

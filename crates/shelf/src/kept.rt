@@ -3,7 +3,7 @@
 ghost use Rattle.std.specs.Prelude.{◌≡◌, ◌≤◌, ◌+◌, [], length};
 ghost use Rattle.cell_store.specs.Same.{same_cell};
 ghost use Rattle.dns_text.specs.declared.record.Question.{Question};
-ghost use Rattle.shelf.specs.KeptCells.{cells_in, changes, has_question, kept_cells, AreApart};
+ghost use Rattle.shelf.specs.KeptCells.{has_question, kept_cells, kept_changes, AreApart};
 ghost use Rattle.shelf.specs.Settling.{settled_cell};
 ghost use Rattle.shelf.specs.Sweep.{numbers_of};
 
@@ -43,8 +43,7 @@ fn count_changes(
     kept: &[KeptFlush],
     question: &Question,
 ) -> usize
-    ensures value { result ≡ length (changes same_cell (settled_cell settlings.now owners.now question.now 0)
-        (cells_in settlings.now owners.now question.now (numbers_of kept.now question.now))) }
+    ensures value { result ≡ length (kept_changes settlings.now owners.now kept.now question.now) }
     ensures few { result ≤ length kept.now }
 {
     let mut count = 0;

@@ -1,18 +1,12 @@
 //! For each name the second in which its last find ended when a sweep last visited it, and the name that comes first by these seconds.
 
-ghost use Rattle.std.specs.Prelude.{◌≡◌, ◌⊎◌, ◌<◌, ◌≤◌, ◌+◌, ◌*◌, ◌++◌, ◌∷◌, [], ℕ, List, true, false, length, position, slice_set, swap_remove, IfSome, OnOk};
-ghost use Rattle.std.specs.Map.{keys_of};
-ghost use Rattle.indexmap.specs.IndexMap.{swap_remove_entry};
-ghost use Rattle.dns_name.specs.Labels.{Labels};
-ghost use Rattle.dns_name.specs.Order.{name_eq, IsNotAfter};
-ghost use Rattle.cell_store.specs.declared.owner.OwnerCells.{OwnerCells};
-ghost use Rattle.cell_store.specs.Store.{StayBut};
-ghost use Rattle.winner_tree.specs.Tree.{IsBelow};
+ghost use Rattle.std.specs.Prelude.{◌≡◌, ◌⊎◌, ◌<◌, ◌≤◌, ◌+◌, ◌*◌, [], ℕ, true, false, length, slice_set, swap_remove, IfSome, OnOk};
+ghost use Rattle.dns_name.specs.Order.{IsNotAfter};
 ghost use Rattle.shelf.specs.First.{name_at};
 ghost use Rattle.shelf.specs.Clean.{dropped};
-ghost use Rattle.shelf.specs.Lasts.{last_at, winner_at, AreFirstBut, AreFirstButGone, AreLetGo, AreMended, AreMoved, AreRight};
-ghost use Rattle.shelf.specs.Lasts.{AreSameLasts, AreWinners, AreWithin, HaveCome, HaveRoom, IsShaped};
-ghost use Rattle.shelf.specs.Lasts.{IsFirstOf, IsNodeOrWinner, IsReady, IsRight, IsWinner, Leads};
+ghost use Rattle.shelf.specs.Lasts.{last_at, winner_at, AreFirstButGone, AreLetGo, AreMendedFrom, AreMoved, AreRight};
+ghost use Rattle.shelf.specs.Lasts.{AreSameLasts, AreWinners, AreWithin, FollowGone, FollowNames, FollowRemoved, HaveCome, HaveRoom, IsShaped};
+ghost use Rattle.shelf.specs.Lasts.{IsFirstOf, IsNodeOrWinner, IsWinner, IsWinnerAgain, Leads};
 
 use cell_store::Owners;
 use dns_name::Name;
@@ -110,8 +104,7 @@ fn winner_again(
 ) -> usize
     requires low { node < length winners.now }
     ensures one { IsNodeOrWinner winners.now node result ⊎ ((result ≡ changed) ⊎ (result ≡ winner_at winners.now node)) }
-    ensures right { IsReady owners.now.entries lasts.now winners.now node changed first →
-        IsWinner owners.now.entries lasts.now winners.now node result × Leads owners.now.entries lasts.now result changed }
+    ensures right { IsWinnerAgain owners.now.entries lasts.now winners.now node changed first result }
 {
     let was = winners[node];
     if was == changed {
@@ -130,8 +123,7 @@ fn mend(owners: &Owners, lasts: &[u64], winners: &mut Vec<usize>, place: usize)
     requires within { AreWithin winners.old.items }
     ensures size { length winners.new.items ≡ length winners.old.items }
     ensures within { AreWithin winners.new.items }
-    ensures right { AreFirstBut place owners.now.entries lasts.now winners.old.items →
-        AreMended (λ i. IsBelow i place) owners.now.entries lasts.now winners.old.items winners.new.items }
+    ensures right { AreMendedFrom place owners.now.entries lasts.now winners.old.items winners.new.items }
 {
     let mut first = place;
     let mut node = place + 1;
@@ -204,8 +196,7 @@ impl Lasts {
         requires shape { IsShaped self.old }
         requires room { length self.old.ends.items < length owners.now.entries → HaveRoom self.old }
         ensures ends { (i : ℕ) → last_at self.new.ends.items i ≡ last_at self.old.ends.items i }
-        ensures winners { (name : Labels) (old : List (Labels × OwnerCells)) →
-            StayBut name old owners.now.entries → AreWinners old self.old → AreWinners owners.now.entries self.new }
+        ensures winners { FollowNames owners.now.entries self.old self.new }
     {
         let place = self.ends.len();
         if place < owners.len() {
@@ -231,8 +222,7 @@ impl Lasts {
         requires shape { IsShaped self.old }
         requires low { place < length self.old.ends.items }
         ensures ends { self.new.ends.items ≡ swap_remove self.old.ends.items place 0 }
-        ensures winners { (old : List (Labels × OwnerCells)) (d : Labels × OwnerCells) →
-            owners.now.entries ≡ swap_remove old place d → AreWinners old self.old → AreWinners owners.now.entries self.new }
+        ensures winners { FollowRemoved place owners.now.entries self.old self.new }
         ensures shape { IsShaped self.new }
     {
         let last = self.ends.len() - 1;
@@ -247,8 +237,7 @@ impl Lasts {
         requires shape { IsShaped self.old }
         requires low { IfSome place (λ p. p < length self.old.ends.items) }
         ensures ends { self.new.ends.items ≡ dropped place self.old.ends.items }
-        ensures winners { (old : List (Labels × OwnerCells)) (name : Labels) → place ≡ position (name_eq name) (keys_of old) →
-            owners.now.entries ≡ swap_remove_entry (name_eq name) old → AreWinners old self.old → AreWinners owners.now.entries self.new }
+        ensures winners { FollowGone place owners.now.entries self.old self.new }
     {
         if let Some(place) = place {
             self.swap_remove(owners, place);

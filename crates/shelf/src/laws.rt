@@ -1,11 +1,11 @@
 //! Laws of the counted places, by the admissions so far.
 
-ghost use Rattle.std.specs.Prelude.{◌≡◌, ◌++◌, ◌∷◌, [], ℕ, List};
+ghost use Rattle.std.specs.Prelude.{◌≡◌, [], ℕ, List};
 ghost use Rattle.ranked.specs.declared.find.Find.{Find};
 ghost use Rattle.ranked.specs.declared.flush.Flush.{Flush};
 ghost use Rattle.cell_store.specs.Count.{KeepPairs};
 ghost use Rattle.shelf.specs.declared.shelf.Shelf.{Shelf};
-ghost use Rattle.shelf.specs.Stored.{HasAdmittedEach};
+ghost use Rattle.shelf.specs.Stored.{AddsEach, HasAdmittedEach};
 ghost use Rattle.shelf.specs.Told.{Told, HasAdmitted, HasFlushed, IsShelf};
 ghost use Rattle.shelf.specs.Told.Told.{admitted, flushed};
 
@@ -15,8 +15,8 @@ pub fn admitted_law()
     ensures none { (shelf : Shelf) → IsShelf shelf → shelf.stored ≡ 0 → HasAdmittedEach [] shelf }
     ensures kept { (told : List Told) (old new : Shelf) →
         KeepPairs old.owners new.owners → HasAdmittedEach told old → HasAdmittedEach told new }
-    ensures admitted { (told : List Told) (find : Find) (moment : ℕ) (old new : Shelf) →
-        HasAdmitted find moment old new → HasAdmittedEach told old → HasAdmittedEach (told ++ admitted find moment ∷ []) new }
-    ensures flushed { (told : List Told) (flush : Flush) (number : ℕ) (old new : Shelf) →
-        HasFlushed flush number old new → HasAdmittedEach told old → HasAdmittedEach (told ++ flushed flush number ∷ []) new }
+    ensures admitted { (told : List Told) (find : Find) (t : ℕ) (old new : Shelf) →
+        HasAdmitted find t old new → AddsEach told (admitted find t) old new }
+    ensures flushed { (told : List Told) (flush : Flush) (n : ℕ) (old new : Shelf) →
+        HasFlushed flush n old new → AddsEach told (flushed flush n) old new }
 {}

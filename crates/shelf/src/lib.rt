@@ -31,12 +31,6 @@ mod preview;
 mod hidden;
 // The cells that are kept for a question.
 mod kept;
-// The first form of letting a flush go.
-#[cfg(test)]
-mod former;
-// Drawn calls, with flushes that go.
-#[cfg(test)]
-mod drawn;
 
 pub use ends::Ends;
 pub use fault::StoreFault;

@@ -5,7 +5,7 @@ ghost use Rattle.ranked.specs.Cell.{shown_at};
 ghost use Rattle.ranked.specs.Flush.{covers};
 ghost use Rattle.cell_store.specs.Owner.{held_now};
 ghost use Rattle.shelf.specs.Kept.{turned_over};
-ghost use Rattle.shelf.specs.Told.{cell_at, shown_version};
+ghost use Rattle.shelf.specs.Told.{cell_over, shown_version};
 
 use crate::shelf::{KeptFlush, Shelf};
 use cell_store::at;
@@ -45,8 +45,7 @@ impl Shelf {
     /// The find of a question as `show` would give it, if the flush of this number were undone, or redone if it is undone. Nothing changes,
     /// and it takes no memory.
     pub fn show_over(&self, number: u64, owner: &Name, kind: u16, moment: u64) -> Option<Held<'_>>
-        ensures { held_now result ≡ shown_at (cell_at self.now (record { owner = owner.now; kind = kind })
-            (shown_version (map (turned_over number) self.now.kept.items) (record { owner = owner.now; kind = kind }))) moment }
+        ensures { held_now result ≡ shown_at (cell_over number self.now (record { owner = owner.now; kind = kind })) moment }
     {
         let version = self.settled(owner, self.version_over(number, owner, kind));
         at(&self.owners, owner, kind, version, moment)

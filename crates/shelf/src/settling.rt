@@ -1,18 +1,14 @@
 //! Permanent flushes of zones. They reach the cells of the names a few at a time, so that no call visits many of them.
 
-ghost use Rattle.std.specs.Prelude.{◌≡◌, ◌<◌, ◌≤◌, ◌+◌, ◌-◌, ◌^◌, ◌==◌, ◌&&◌, ◌++◌, ◌∷◌, [], ℕ, true, false, List, length, vec_capacity, OnOk};
-ghost use Rattle.std.specs.List.{list_any, AllByRecursion};
+ghost use Rattle.std.specs.Prelude.{◌≡◌, ◌<◌, ◌≤◌, ◌+◌, ◌-◌, ◌^◌, [], ℕ, true, false, List, length, vec_capacity, OnOk};
+ghost use Rattle.std.specs.List.{AllByRecursion};
 ghost use Rattle.dns_name.specs.Labels.{Labels};
-ghost use Rattle.dns_name.specs.Below.{is_at_or_below};
-ghost use Rattle.dns_name.specs.Order.{name_eq};
-ghost use Rattle.cell_store.specs.Count.{stored_in, KeepPairs};
 ghost use Rattle.cell_store.specs.Owner.{after_settle};
-ghost use Rattle.cell_store.specs.declared.owner.OwnerCells.{OwnerCells};
-ghost use Rattle.cell_store.specs.Store.{AreSameCells, AreUpTo, CanSettleAt, EachCounts, HaveTop, KeepSettling, KeepUpTo, StayButAt};
-ghost use Rattle.shelf.specs.declared.shelf.KeptFlush.{KeptFlush};
-ghost use Rattle.shelf.specs.Clean.{AreEnds, HasSettled, HaveEnds};
-ghost use Rattle.shelf.specs.Sweep.{EndNear};
-ghost use Rattle.shelf.specs.Settling.{doubted, first_at, is_outdone, most_left, most_settling, settled_version, steps_left, unmoved, with_left, with_room, without_outdone, AreReached, AreUseful, HaveStepped, IsMoved, IsReaching, IsSettling};
+ghost use Rattle.cell_store.specs.Store.{AreUpTo, CanSettleAt, HaveTop};
+ghost use Rattle.shelf.specs.Clean.{HaveEnds};
+ghost use Rattle.shelf.specs.Losing.{AreDoubted, HaveGoneDown, IsTallied, IsTidiedAt, LoseCells, TakesSteps};
+ghost use Rattle.shelf.specs.Settling.{doubted, first_at, is_outdone, joined_to, most_settling, moved_by_name, moved_by_zone, settled_version, unmoved};
+ghost use Rattle.shelf.specs.Settling.{with_left, with_room, without_outdone, AreMovedBy, AreMovedFrom, HasGrown, HasShrunk, IsOneLonger, IsReaching};
 
 use crate::ends::{Ends, doubt_all, drop_at, end_mixed, put, settle_doubt};
 use crate::shelf::Shelf;
@@ -81,16 +77,8 @@ fn drop_or_end(owners: &mut Owners, ends: &mut Ends, place: usize)
     requires low { place < length owners.old.entries }
     requires top { HaveTop owners.old }
     requires size { HaveEnds owners.old.entries ends.old }
-    ensures cells { AreSameCells owners.old owners.new }
-    ensures kept { KeepUpTo owners.old owners.new × KeepSettling owners.old owners.new × KeepPairs owners.old owners.new }
-    ensures counted { stored_in owners.new ≡ stored_in owners.old }
-    ensures reached { (zone : Labels) (number left : ℕ) → AreReached zone number left owners.old → AreReached zone number left owners.new }
-    ensures ends { (kept : List KeptFlush) (before : List (Labels × OwnerCells)) → StayButAt place before owners.old.entries →
-        AreEnds kept before ends.old → AreEnds kept owners.new.entries ends.new }
-    ensures named { (before : List (Labels × OwnerCells)) → StayButAt place before owners.old.entries →
-        EachCounts before → EachCounts owners.new.entries }
-    ensures size { HaveEnds owners.new.entries ends.new }
-    ensures ended { EndNear ends.old.moments ends.new.moments (place + 1) place × HasSettled (place + 1) place ends.old ends.new }
+    ensures tidied { IsTidiedAt place owners.old ends.old owners.new ends.new }
+    ensures ended { HaveGoneDown (place + 1) place ends.old ends.new }
 {
     if drop_if_uncounted(owners, place) {
         drop_at(ends, place);
@@ -111,16 +99,10 @@ fn reach_at(
     number: u64,
     place: usize,
 )
-    requires size { HaveEnds owners.old.entries ends.old }
-    requires counted { (stored.old ≡ stored_in owners.old) × HaveTop owners.old }
+    requires tallied { IsTallied owners.old stored.old ends.old }
     ensures reaching { (top : ℕ) → AreUpTo top owners.old → IsReaching zone.now number top (place + 1) place owners.old owners.new }
-    ensures settles { KeepSettling owners.old owners.new }
-    ensures counted { (stored.new ≡ stored_in owners.new) × (stored.new ≤ stored.old)
-        × (EachCounts owners.old.entries → EachCounts owners.new.entries) }
-    ensures pairs { KeepPairs owners.old owners.new }
-    ensures ends { (kept : List KeptFlush) → AreEnds kept owners.old.entries ends.old → AreEnds kept owners.new.entries ends.new }
-    ensures size { HaveEnds owners.new.entries ends.new }
-    ensures ended { EndNear ends.old.moments ends.new.moments (place + 1) place × HasSettled (place + 1) place ends.old ends.new }
+    ensures lost { LoseCells owners.old stored.old ends.old owners.new stored.new ends.new }
+    ensures ended { HaveGoneDown (place + 1) place ends.old ends.new }
 {
     // No flush has number 0: this one only ends names that are in doubt.
     if number == 0 {
@@ -149,17 +131,11 @@ fn reach(
     left: usize,
     most: usize,
 ) -> usize
-    requires size { HaveEnds owners.old.entries ends.old }
-    requires counted { (stored.old ≡ stored_in owners.old) × HaveTop owners.old }
+    requires tallied { IsTallied owners.old stored.old ends.old }
     ensures reaching { (top : ℕ) → AreUpTo top owners.old → IsReaching zone.now number top left result owners.old owners.new }
-    ensures settles { KeepSettling owners.old owners.new }
-    ensures counted { (stored.new ≡ stored_in owners.new) × (stored.new ≤ stored.old)
-        × (EachCounts owners.old.entries → EachCounts owners.new.entries) }
-    ensures pairs { KeepPairs owners.old owners.new }
-    ensures ends { (kept : List KeptFlush) → AreEnds kept owners.old.entries ends.old → AreEnds kept owners.new.entries ends.new }
-    ensures size { HaveEnds owners.new.entries ends.new }
+    ensures lost { LoseCells owners.old stored.old ends.old owners.new stored.new ends.new }
     ensures left { result ≡ left - most }
-    ensures ended { EndNear ends.old.moments ends.new.moments left result × HasSettled left result ends.old ends.new }
+    ensures ended { HaveGoneDown left result ends.old ends.new }
 {
     let last = left.saturating_sub(most);
     let mut place = left;
@@ -202,22 +178,11 @@ pub(crate) fn reach_some(
     settlings: &mut Vec<Settling>,
     most: usize,
 )
-    requires size { HaveEnds owners.old.entries ends.old }
-    requires counted { (stored.old ≡ stored_in owners.old) × HaveTop owners.old }
-    ensures moved { (top : ℕ) → AreUpTo top owners.old → AllByRecursion (IsSettling top owners.old) settlings.old.items →
-        IsMoved unmoved top settlings.old.items settlings.new.items owners.old owners.new }
-    ensures settles { KeepSettling owners.old owners.new }
-    ensures counted { (stored.new ≡ stored_in owners.new) × (stored.new ≤ stored.old)
-        × (EachCounts owners.old.entries → EachCounts owners.new.entries) }
-    ensures pairs { KeepPairs owners.old owners.new }
-    ensures ends { (kept : List KeptFlush) → AreEnds kept owners.old.entries ends.old → AreEnds kept owners.new.entries ends.new }
-    ensures size { HaveEnds owners.new.entries ends.new }
-    ensures room { (length settlings.new.items ≤ length settlings.old.items)
-        × (vec_capacity settlings.new ≡ vec_capacity settlings.old)
-        × (AreUseful settlings.old.items → AreUseful settlings.new.items) }
-    ensures left { HaveStepped most settlings.old.items settlings.new.items
-        × EndNear ends.old.moments ends.new.moments (steps_left settlings.old.items) (steps_left settlings.new.items)
-        × (ends.old.left ≤ most_left settlings.old.items → ends.new.left ≤ most_left settlings.new.items) }
+    requires tallied { IsTallied owners.old stored.old ends.old }
+    ensures moved { AreMovedBy unmoved settlings.old.items settlings.new.items owners.old owners.new }
+    ensures lost { LoseCells owners.old stored.old ends.old owners.new stored.new ends.new }
+    ensures room { HasShrunk settlings.old settlings.new }
+    ensures left { TakesSteps most settlings.old.items settlings.new.items ends.old ends.new }
 {
     if settlings.is_empty() {
         return;
@@ -235,21 +200,13 @@ pub(crate) fn make_room(
     stored: &mut u64,
     settlings: &mut Vec<Settling>,
 )
-    requires size { HaveEnds owners.old.entries ends.old }
-    requires counted { (stored.old ≡ stored_in owners.old) × HaveTop owners.old }
-    ensures moved { (top : ℕ) → AreUpTo top owners.old → AllByRecursion (IsSettling top owners.old) settlings.old.items →
-        IsMoved unmoved top settlings.old.items settlings.new.items owners.old owners.new }
-    ensures kept { KeepUpTo owners.old owners.new × KeepSettling owners.old owners.new }
-    ensures counted { (stored.new ≡ stored_in owners.new) × (stored.new ≤ stored.old)
-        × (EachCounts owners.old.entries → EachCounts owners.new.entries) }
-    ensures pairs { KeepPairs owners.old owners.new }
-    ensures ends { (kept : List KeptFlush) → AreEnds kept owners.old.entries ends.old → AreEnds kept owners.new.entries ends.new }
-    ensures size { HaveEnds owners.new.entries ends.new }
+    requires tallied { IsTallied owners.old stored.old ends.old }
+    ensures moved { AreMovedBy unmoved settlings.old.items settlings.new.items owners.old owners.new }
+    ensures lost { LoseCells owners.old stored.old ends.old owners.new stored.new ends.new }
     ensures items { (settlings.new.items ≡ with_room settlings.old.items)
         × (length settlings.old.items < most_settling → owners.new ≡ owners.old) }
-    ensures room { (length settlings.new.items ≤ length settlings.old.items)
-        × (vec_capacity settlings.new ≡ vec_capacity settlings.old)
-        × (length settlings.old.items ≤ most_settling → length settlings.new.items < most_settling) }
+    ensures room { HasShrunk settlings.old settlings.new }
+    ensures less { length settlings.old.items ≤ most_settling → length settlings.new.items < most_settling }
 {
     if settlings.len() < MOST_SETTLING {
         return;
@@ -281,13 +238,10 @@ fn drop_outdone(settlings: &mut Vec<Settling>, zone: &Name, number: u64)
 // takes no memory.
 pub(crate) fn settle_zone(owners: &Owners, settlings: &mut Vec<Settling>, zone: Name, number: u64)
     requires room { length settlings.old.items < vec_capacity settlings.old }
-    ensures moved { (top : ℕ) → number ≤ top → AreUpTo top owners.now → AllByRecursion (IsSettling top owners.now) settlings.old.items →
-        IsMoved (λ q v. after_settle (is_at_or_below q.owner zone) number v) top
-        settlings.old.items settlings.new.items owners.now owners.now }
-    ensures items { settlings.new.items ≡ without_outdone zone number settlings.old.items
-        ++ record { zone = zone; number = number; left = length owners.now.entries } ∷ [] }
-    ensures room { (length settlings.new.items ≤ length settlings.old.items + 1)
-        × (vec_capacity settlings.new ≡ vec_capacity settlings.old) }
+    ensures moved { AreMovedFrom number (moved_by_zone zone number) settlings.old.items settlings.new.items owners.now owners.now }
+    ensures items { settlings.new.items ≡
+        joined_to (record { zone = zone; number = number; left = length owners.now.entries }) settlings.old.items }
+    ensures room { IsOneLonger settlings.old settlings.new }
 {
     drop_outdone(settlings, &zone, number);
     settlings.push_reserved(Settling {
@@ -305,18 +259,13 @@ pub(crate) fn doubt_later(
     ends: &mut Ends,
     settlings: &mut Vec<Settling>,
 )
-    ensures ends { (kept more : List KeptFlush) → AreEnds kept owners.now.entries ends.old → AreEnds more owners.now.entries ends.new }
-    ensures moved { (top : ℕ) → AreUpTo top owners.now → AllByRecursion (IsSettling top owners.now) settlings.old.items →
-        IsMoved unmoved top settlings.old.items settlings.new.items owners.now owners.now }
+    ensures doubt { AreDoubted owners.now.entries ends.old owners.now.entries ends.new settlings.new.items }
+    ensures moved { AreMovedBy unmoved settlings.old.items settlings.new.items owners.now owners.now }
     ensures versions { (name : Labels) (v : ℕ) →
         settled_version settlings.new.items name v ≡ settled_version settlings.old.items name v }
-    ensures room { (length settlings.new.items ≤ length settlings.old.items + 1)
-        × (vec_capacity settlings.new ≡ vec_capacity settlings.old)
-        × (AreUseful settlings.old.items → AreUseful settlings.new.items)
-        × (length settlings.old.items ≤ most_settling → length settlings.new.items ≤ most_settling) }
+    ensures room { HasGrown settlings.old settlings.new }
     ensures items { length settlings.old.items < vec_capacity settlings.old →
         settlings.new.items ≡ doubted (length owners.now.entries) settlings.old.items }
-    ensures doubt { ends.new.left ≤ most_left settlings.new.items }
 {
     if settlings.len() >= MOST_SETTLING || settlings.len() >= settlings.capacity() {
         end_mixed(ends);
@@ -337,16 +286,10 @@ pub(crate) fn settle_name(
     number: u64,
 )
     requires settles { AllByRecursion (λ kind. CanSettleAt number kind name.now owners.old) kinds.now }
-    requires counted { (stored.old ≡ stored_in owners.old) × HaveTop owners.old }
-    requires size { HaveEnds owners.old.entries ends.old }
-    ensures moved { (top : ℕ) (settlings : List Settling) → AreUpTo top owners.old → AllByRecursion (IsSettling top owners.old) settlings →
-        IsMoved (λ q v. after_settle (name_eq name.now q.owner && list_any (λ kind. kind == q.kind) kinds.now) number v) top
-        settlings settlings owners.old owners.new }
-    ensures settles { KeepSettling owners.old owners.new }
-    ensures counted { (stored.new ≡ stored_in owners.new) × (stored.new ≤ stored.old)
-        × (EachCounts owners.old.entries → EachCounts owners.new.entries) }
-    ensures pairs { KeepPairs owners.old owners.new }
-    ensures ends { (kept : List KeptFlush) → AreEnds kept owners.old.entries ends.old → AreEnds kept owners.new.entries ends.new }
+    requires tallied { IsTallied owners.old stored.old ends.old }
+    ensures moved { (settlings : List Settling) →
+        AreMovedBy (moved_by_name name.now kinds.now number) settlings settlings owners.old owners.new }
+    ensures lost { LoseCells owners.old stored.old ends.old owners.new stored.new ends.new }
     ensures left { ends.new.left ≤ ends.old.left }
 {
     let place = owners.get_index_of(name);

@@ -1,6 +1,6 @@
 //! The shelf: cached cells, and the flushes that can be undone or redone.
 
-ghost use Rattle.std.specs.Prelude.{◌≡◌, ◌<◌, ◌≤◌, ◌+◌, ◌^◌, ◌∷◌, ◌&&◌, [], ℕ, Bool, List, None, true, false, not, length, map, option_copied, position};
+ghost use Rattle.std.specs.Prelude.{◌≡◌, ◌<◌, ◌≤◌, ◌+◌, ◌^◌, ◌∷◌, ◌&&◌, [], ℕ, Bool, List, None, true, false, map, option_copied, position};
 ghost use Rattle.std.specs.Prelude.{IfErr, IsOk, OnOk, OnErr, if◌then◌else◌};
 ghost use Rattle.std.specs.List.{AllByRecursion};
 ghost use Rattle.std.specs.Map.{keys_of};
@@ -8,17 +8,16 @@ ghost use Rattle.indexmap.specs.IndexMap.{get, hasher_of};
 ghost use Rattle.dns_name.specs.Labels.{Labels};
 ghost use Rattle.dns_name.specs.Order.{name_eq};
 ghost use Rattle.dns_text.specs.declared.record.Question.{Question};
-ghost use Rattle.ranked.specs.Cell.{shown_at, turns_away};
+ghost use Rattle.ranked.specs.Cell.{turns_away};
 ghost use Rattle.ranked.specs.Find.{admission_of};
-ghost use Rattle.cell_store.specs.Count.{has_place_for, one_if, KeepPairs};
+ghost use Rattle.cell_store.specs.Count.{has_place_for, KeepPairs};
 ghost use Rattle.cell_store.specs.Owner.{held_now};
 ghost use Rattle.cell_store.specs.Store.{StayBut};
-ghost use Rattle.cell_store.specs.Sweep.{alive_at};
 ghost use Rattle.shelf.specs.declared.shelf.KeptFlush.{KeptFlush};
-ghost use Rattle.shelf.specs.Kept.{with_shown, stands_first};
-ghost use Rattle.shelf.specs.Room.{fate_of, kind_fate, is_taken, is_wanted, room_for, IsFault};
-ghost use Rattle.shelf.specs.Settling.{cleared_once, joined_by, most_settling, reached_at_once, settled_once, steps_left, HaveStepped};
-ghost use Rattle.shelf.specs.Sweep.{AreAlive, EndNear};
+ghost use Rattle.shelf.specs.Kept.{with_shown};
+ghost use Rattle.shelf.specs.Room.{fate_of, kind_fate, is_taken, is_wanted, room_for, HasRoomFor};
+ghost use Rattle.shelf.specs.Settling.{cleared_by, reached_at_once, settled_by, steps_left, HasEachLeft, HaveStepped};
+ghost use Rattle.shelf.specs.Sweep.{EndNear};
 ghost use Rattle.shelf.specs.Told.{without};
 ghost use Rattle.ranked.specs.declared.find.Scope.{Scope};
 
@@ -88,19 +87,16 @@ fn set_shown(kept: &mut Vec<KeptFlush>, number: u64, shown: bool)
 }
 
 impl Shelf {
-    ghost use Rattle.shelf.specs.Told.{Told, HasAdmitted, HasFlushed, IsShelf, IsShelfOf, IsSame, KeepsFlushes, cell_at, shown_version, shown_cell, replayed_cell, face_of};
-    ghost use Rattle.shelf.specs.Stored.{count_pairs, pairs_in, HasAdmittedEach, IsAliveInFace, IsAliveInReplay, IsByRoom};
+    ghost use Rattle.shelf.specs.Told.{Told, cell_at, shown_version, face_of, HasAdmitted, HasFlushed, IsEmptyShelf, IsReplayed, IsSame, IsShelf, IsShown, JoinsOldest};
+    ghost use Rattle.shelf.specs.Told.{HasSteppedSince, KeepsFlushes, LetsGo, LosesOnly, ShowsOldest, TurnsFlush};
+    ghost use Rattle.shelf.specs.Stored.{count_pairs, pairs_in, CountsReplayed, HasAdmittedEach, IsAliveInFace};
+    ghost use Rattle.shelf.specs.Admission.{IsAdmission};
     ghost use Rattle.shelf.specs.Oldest.{IsEnding};
 
     /// An empty cache of at most `limit` places, whose index hashes with the fixed seed. It is for scripts and tests.
     pub fn new(alloc: Global, limit: u64) -> Shelf
         requires { limit ≤ 2 ^ 62 }
-        ensures cells { IsShelfOf result [] }
-        ensures whole { IsShelf result }
-        ensures kept { result.kept.items ≡ [] }
-        ensures top { result.top ≡ 0 }
-        ensures stored { result.stored ≡ 0 }
-        ensures limit { result.limit ≡ limit }
+        ensures { IsEmptyShelf limit result }
     {
         Shelf::seeded(alloc, limit, NameSeed::fixed())
     }
@@ -108,12 +104,7 @@ impl Shelf {
     /// An empty cache whose index hashes with a seed that the program drew, since strangers choose the names.
     pub fn seeded(alloc: Global, limit: u64, seed: NameSeed) -> Shelf
         requires { limit ≤ 2 ^ 62 }
-        ensures cells { IsShelfOf result [] }
-        ensures whole { IsShelf result }
-        ensures kept { result.kept.items ≡ [] }
-        ensures top { result.top ≡ 0 }
-        ensures stored { result.stored ≡ 0 }
-        ensures limit { result.limit ≡ limit }
+        ensures empty { IsEmptyShelf limit result }
         ensures seed { hasher_of result.owners ≡ seed }
     {
         Shelf {
@@ -154,8 +145,7 @@ impl Shelf {
         ensures most { IsShelf self.now → (told : List Told) → HasAdmittedEach told self.now → result ≤ count_pairs (pairs_in told) }
         ensures least { IsShelf self.now → (t : ℕ) (pairs : List (Labels × Scope)) →
             AllByRecursion (IsAliveInFace self.now t) pairs → count_pairs pairs ≤ result }
-        ensures replayed { IsShelf self.now → (told : List Told) → IsShelfOf self.now told → (t : ℕ) (pairs : List (Labels × Scope)) →
-            AllByRecursion (IsAliveInReplay self.now.kept.items told t) pairs → count_pairs pairs ≤ result }
+        ensures replayed { IsShelf self.now → CountsReplayed self.now result }
     {
         // `len` is called for its clause that the names differ, which the proof cites.
         let _ = self.owners.len();
@@ -282,13 +272,7 @@ impl Shelf {
     /// `Full` never comes before as many different pairs of owner and scope were admitted as the limit.
     pub fn admit(&mut self, find: SharedFind, moment: u64) -> Result<(), StoreFault>
         requires whole { IsShelf self.old }
-        ensures whole { IsShelf self.new }
-        ensures admitted { OnOk result (HasAdmitted find moment self.old self.new) }
-        ensures full { IfErr result (λ fault. IsFault self.old find moment fault) }
-        ensures room { IsByRoom self.old find moment result }
-        ensures same { OnErr result (IsSame self.old self.new) }
-        ensures flushes { KeepsFlushes self.old self.new }
-        ensures stored { self.new.stored ≤ self.old.stored + 1 }
+        ensures { IsAdmission find moment self.old self.new result }
     {
         let place = self.place_of(&find.find().owner);
         self.admit_at(find, place, moment)
@@ -303,13 +287,7 @@ impl Shelf {
     ) -> Result<(), StoreFault>
         requires place { place ≡ position (name_eq find.owner) (keys_of self.old.owners.entries) }
         requires whole { IsShelf self.old }
-        ensures whole { IsShelf self.new }
-        ensures admitted { OnOk result (HasAdmitted find moment self.old self.new) }
-        ensures full { IfErr result (λ fault. IsFault self.old find moment fault) }
-        ensures room { IsByRoom self.old find moment result }
-        ensures same { OnErr result (IsSame self.old self.new) }
-        ensures flushes { KeepsFlushes self.old self.new }
-        ensures stored { self.new.stored ≤ self.old.stored + 1 }
+        ensures { IsAdmission find moment self.old self.new result }
     {
         match self.room_for(find.find(), place, moment) {
             Room::Unwanted => Ok(()),
@@ -328,14 +306,12 @@ impl Shelf {
         moment: u64,
     ) -> Result<(), StoreFault>
         requires whole { IsShelf self.old }
-        requires room { (place ≡ position (name_eq find.owner) (keys_of self.old.owners.entries))
-            × (self.old.stored + one_if (not (has_place_for self.old.owners find)) ≤ self.old.limit) }
+        requires room { HasRoomFor find place self.old }
         ensures whole { IsShelf self.new }
         ensures admitted { OnOk result (HasAdmitted find moment self.old self.new) }
         ensures fault { IfErr result (λ fault. fault ≡ StoreFault.NoMemory) × (has_place_for self.old.owners find ≡ true → IsOk result) }
         ensures same { OnErr result (IsSame self.old self.new) }
-        ensures flushes { KeepsFlushes self.old self.new }
-        ensures stored { self.new.stored ≤ self.old.stored + 1 }
+        ensures kept { KeepsFlushes self.old self.new × (self.new.stored ≤ self.old.stored + 1) }
         ensures left { OnOk result (HaveStepped reached_at_once self.old.settlings.items self.new.settlings.items) }
     {
         touch(&mut self.ends, place)?;
@@ -357,9 +333,8 @@ impl Shelf {
 
     /// The find of a question, by the flushes in force, if it is alive at the moment. It takes no memory.
     pub fn show(&self, owner: &Name, kind: u16, moment: u64) -> Option<Held<'_>>
-        ensures cell { held_now result ≡ shown_at (shown_cell self.now (record { owner = owner.now; kind = kind })) moment }
-        ensures cells { (told : List Told) → IsShelfOf self.now told →
-            held_now result ≡ shown_at (replayed_cell self.now.kept.items (record { owner = owner.now; kind = kind }) told) moment }
+        ensures cell { IsShown self.now owner.now kind moment (held_now result) }
+        ensures cells { IsReplayed self.now owner.now kind moment (held_now result) }
     {
         let version = self.settled(owner, self.version(owner, kind));
         at(&self.owners, owner, kind, version, moment)
@@ -374,7 +349,7 @@ impl Shelf {
         moment: u64,
     ) -> Option<Held<'a>>
         requires { option_copied cells ≡ get name_eq self.now.owners owner.now }
-        ensures { held_now result ≡ shown_at (shown_cell self.now (record { owner = owner.now; kind = kind })) moment }
+        ensures { IsShown self.now owner.now kind moment (held_now result) }
     {
         let version = self.settled(owner, self.version(owner, kind));
         held_in(cells, kind, version, moment)
@@ -388,8 +363,8 @@ impl Shelf {
         second: u16,
         moment: u64,
     ) -> (Option<Held<'_>>, Option<Held<'_>>)
-        ensures first { held_now result.0 ≡ shown_at (shown_cell self.now (record { owner = owner.now; kind = first })) moment }
-        ensures second { held_now result.1 ≡ shown_at (shown_cell self.now (record { owner = owner.now; kind = second })) moment }
+        ensures first { IsShown self.now owner.now first moment (held_now result.0) }
+        ensures second { IsShown self.now owner.now second moment (held_now result.1) }
     {
         let cells = self.owners.get(owner);
         (
@@ -400,28 +375,16 @@ impl Shelf {
 
     /// Undoes a flush. It clears one flag, however much the flush covers.
     pub fn hide(&mut self, number: u64)
-        ensures cells { (told : List Told) → IsShelfOf self.old told → IsShelfOf self.new told }
-        ensures faces { (chosen : ℕ → Bool) (q : Question) → face_of self.new chosen q ≡ face_of self.old chosen q }
-        ensures kept { self.new.kept.items ≡ map (with_shown number false) self.old.kept.items }
-        ensures top { self.new.top ≡ self.old.top }
-        ensures limit { self.new.limit ≡ self.old.limit }
-        ensures stored { self.new.stored ≡ self.old.stored }
+        ensures turns { TurnsFlush number false self.old self.new }
         ensures whole { IsShelf self.old → IsShelf self.new }
-        ensures owners { self.new.owners ≡ self.old.owners }
     {
         set_shown(&mut self.kept, number, false);
     }
 
     /// Redoes a flush, in its place among the others. It sets one flag.
     pub fn unhide(&mut self, number: u64)
-        ensures cells { (told : List Told) → IsShelfOf self.old told → IsShelfOf self.new told }
-        ensures faces { (chosen : ℕ → Bool) (q : Question) → face_of self.new chosen q ≡ face_of self.old chosen q }
-        ensures kept { self.new.kept.items ≡ map (with_shown number true) self.old.kept.items }
-        ensures top { self.new.top ≡ self.old.top }
-        ensures limit { self.new.limit ≡ self.old.limit }
-        ensures stored { self.new.stored ≡ self.old.stored }
+        ensures turns { TurnsFlush number true self.old self.new }
         ensures whole { IsShelf self.old → IsShelf self.new }
-        ensures owners { self.new.owners ≡ self.old.owners }
     {
         set_shown(&mut self.kept, number, true);
     }
@@ -454,13 +417,10 @@ impl Shelf {
     /// Removes a name, from every version. It takes no memory.
     pub fn forget(&mut self, owner: &Name)
         requires whole { IsShelf self.old }
-        ensures whole { IsShelf self.new }
+        ensures loses { LosesOnly self.old self.new }
         ensures faces { (chosen : ℕ → Bool) (q : Question) →
             face_of self.new chosen q ≡ (if name_eq owner.now q.owner then None else face_of self.old chosen q) }
-        ensures flushes { KeepsFlushes self.old self.new }
-        ensures pairs { KeepPairs self.old.owners self.new.owners }
         ensures gone { get name_eq self.new.owners owner.now ≡ None }
-        ensures stored { self.new.stored ≤ self.old.stored }
 
         // Fewer places are counted, if a find of the name was alive, whatever choice of the kept flushes was in force.
         ensures fewer { (t end : ℕ) → IsEnding self.old t owner.now end → self.new.stored < self.old.stored }
@@ -475,17 +435,8 @@ impl Shelf {
     /// first, however many there are.
     pub fn settle(&mut self, number: u64)
         requires whole { IsShelf self.old }
-        ensures whole { IsShelf self.new }
-        ensures faces { (chosen : ℕ → Bool) → chosen number ≡ stands_first number self.old.kept.items →
-            (q : Question) → face_of self.new chosen q ≡ face_of self.old chosen q }
-        ensures kept { self.new.kept.items ≡ without number self.old.kept.items }
-        ensures top { self.new.top ≡ self.old.top }
-        ensures limit { self.new.limit ≡ self.old.limit }
-        ensures stored { self.new.stored ≤ self.old.stored }
-        ensures pairs { KeepPairs self.old.owners self.new.owners }
-        ensures left { (names : ℕ) × ((length self.old.settlings.items < most_settling → names ≡ length self.old.owners.entries)
-            × HaveStepped reached_at_once
-            (settled_once number names self.old.kept.items self.old.settlings.items) self.new.settlings.items) }
+        ensures gone { LetsGo number self.old self.new }
+        ensures left { HasSteppedSince number self.old self.new }
     {
         self.settle_kept(number);
         self.reach_names();
@@ -494,16 +445,9 @@ impl Shelf {
     // Does that, and lets no flush reach a name.
     fn settle_kept(&mut self, number: u64)
         requires whole { IsShelf self.old }
-        ensures whole { IsShelf self.new }
-        ensures faces { (chosen : ℕ → Bool) → chosen number ≡ stands_first number self.old.kept.items →
-            (q : Question) → face_of self.new chosen q ≡ face_of self.old chosen q }
-        ensures kept { self.new.kept.items ≡ without number self.old.kept.items }
-        ensures top { self.new.top ≡ self.old.top }
-        ensures limit { self.new.limit ≡ self.old.limit }
-        ensures stored { self.new.stored ≤ self.old.stored }
-        ensures pairs { KeepPairs self.old.owners self.new.owners }
-        ensures settlings { (names : ℕ) × ((length self.old.settlings.items < most_settling → names ≡ length self.old.owners.entries)
-            × (self.new.settlings.items ≡ settled_once number names self.old.kept.items self.old.settlings.items)) }
+        ensures gone { LetsGo number self.old self.new }
+        ensures settlings { (names : ℕ) × (HasEachLeft self.old.settlings.items self.old.owners names
+            × (self.new.settlings.items ≡ settled_by number names self.old)) }
     {
         if stands_first(&self.kept, number) {
             self.settle_oldest();
@@ -515,11 +459,8 @@ impl Shelf {
     // Lets the oldest permanent flush reach some names more. It takes no memory.
     pub(crate) fn reach_names(&mut self)
         requires whole { IsShelf self.old }
-        ensures whole { IsShelf self.new }
+        ensures loses { LosesOnly self.old self.new }
         ensures cells { (q : Question) (v : ℕ) → cell_at self.new q v ≡ cell_at self.old q v }
-        ensures flushes { KeepsFlushes self.old self.new }
-        ensures stored { self.new.stored ≤ self.old.stored }
-        ensures pairs { KeepPairs self.old.owners self.new.owners }
         ensures left { HaveStepped reached_at_once self.old.settlings.items self.new.settlings.items }
         ensures ended { EndNear
             self.old.ends.moments self.new.ends.moments (steps_left self.old.settlings.items) (steps_left self.new.settlings.items) }
@@ -537,18 +478,13 @@ impl Shelf {
     pub fn settle_oldest(&mut self)
         requires whole { IsShelf self.old }
         ensures whole { IsShelf self.new }
-        ensures faces { (own : KeptFlush) (later : List KeptFlush) (chosen : ℕ → Bool) →
-            self.old.kept.items ≡ own ∷ later → chosen own.number ≡ true →
-            (q : Question) → face_of self.new chosen q ≡ face_of self.old chosen q }
+        ensures faces { ShowsOldest self.old self.new }
         ensures kept { (own : KeptFlush) (later : List KeptFlush) →
             self.old.kept.items ≡ own ∷ later → self.new.kept.items ≡ later }
         ensures none { self.old.kept.items ≡ [] → self.new ≡ self.old }
-        ensures bounds { (self.new.top ≡ self.old.top) × (self.new.limit ≡ self.old.limit) }
-        ensures stored { self.new.stored ≤ self.old.stored }
+        ensures bounds { (self.new.top ≡ self.old.top) × (self.new.limit ≡ self.old.limit) × (self.new.stored ≤ self.old.stored) }
         ensures pairs { KeepPairs self.old.owners self.new.owners }
-        ensures settlings { (own : KeptFlush) (later : List KeptFlush) → self.old.kept.items ≡ own ∷ later →
-            (names : ℕ) × ((length self.old.settlings.items < most_settling → names ≡ length self.old.owners.entries)
-            × (self.new.settlings.items ≡ joined_by own.flush.reach own.flush.name own.number names self.old.settlings.items)) }
+        ensures settlings { JoinsOldest self.old self.new }
     {
         if self.kept.is_empty() {
             return;
@@ -576,8 +512,7 @@ impl Shelf {
         ensures limit { self.new.limit ≡ self.old.limit }
         ensures stored { self.new.stored ≡ self.old.stored }
         ensures owners { self.new.owners ≡ self.old.owners }
-        ensures settlings { IsShelf self.old → self.new.settlings.items ≡
-            cleared_once number (length self.old.owners.entries) self.old.kept.items self.old.settlings.items }
+        ensures settlings { IsShelf self.old → self.new.settlings.items ≡ cleared_by number self.old }
     {
         let before = self.kept.len();
         remove_number(&mut self.kept, number);

@@ -1,23 +1,15 @@
 //! The sweep: it removes expired finds, and the versions that no kept flush needs, at once or some names at a time.
 
-ghost use Rattle.std.specs.Prelude.{◌≡◌, ◌<◌, ◌≤◌, ◌+◌, ◌==◌, [], ℕ, Bool, true, false, is_some, length, map, min, slice_index_or, vec_capacity};
-ghost use Rattle.indexmap.specs.IndexMap.{IndexMap};
-ghost use Rattle.dns_name.specs.Labels.{Labels};
-ghost use Rattle.dns_text.specs.declared.record.Question.{Question};
-ghost use Rattle.ranked.specs.declared.find.Scope.TheVariants.{One};
-ghost use Rattle.cell_store.specs.Count.{has_place, stored_in, KeepPairs, LosesFinds};
+ghost use Rattle.std.specs.Prelude.{◌≡◌, ◌<◌, ◌≤◌, ◌+◌, [], true, false, length, vec_capacity};
+ghost use Rattle.cell_store.specs.Count.{stored_in, LosesFindsOf};
 ghost use Rattle.cell_store.specs.Ends.{latest};
-ghost use Rattle.cell_store.specs.Owner.{cell_in, column_of, HasTop, KeepsSettling, KeepsUpTo};
-ghost use Rattle.cell_store.specs.Prune.{is_asked};
-ghost use Rattle.cell_store.specs.Store.{EachCounts, HaveTop};
-ghost use Rattle.cell_store.specs.declared.owner.OwnerCells.{OwnerCells};
-ghost use Rattle.cell_store.specs.declared.seed.NameSeed.{NameSeed};
-ghost use Rattle.cell_store.specs.Sweep.{alive_at};
-ghost use Rattle.shelf.specs.Clean.{AreEnds};
-ghost use Rattle.shelf.specs.First.{life_at};
-ghost use Rattle.shelf.specs.Lasts.{last_at, IsShaped};
+ghost use Rattle.cell_store.specs.Owner.{HasTop};
+ghost use Rattle.cell_store.specs.Store.{HaveTop};
+ghost use Rattle.cell_store.specs.Sweep.{IsSeenAlive, KeepsAlive};
+ghost use Rattle.shelf.specs.Losing.{IsTallied};
 ghost use Rattle.shelf.specs.Settling.{reached_at_once};
-ghost use Rattle.shelf.specs.Sweep.{asked_at, count_ended, numbers_of, turn_at_most, unswept, AreAlive, AreLessened, IsSwept, IsSweptAt, IsUnderway};
+ghost use Rattle.shelf.specs.Sweep.{asked_at, count_ended, numbers_of, turn_at_most, unswept_of, AreAlive, AreSwept, CanSweep, EndsOneAt, IsSwept, IsSweptAt, IsUnderway};
+ghost use Rattle.shelf.specs.Sweep.{NotesLifeAt, StaysUnderway};
 
 use crate::ends::{Ends, drop_at, end_all, put};
 use crate::oldest::last_end;
@@ -50,16 +42,9 @@ fn sweep_type(
     moment: u64,
 )
     requires room { length kept.now ≤ vec_capacity numbers.old }
-    ensures cells { (k v : ℕ) →
-        ((kind == k) ≡ true → is_asked (numbers_of kept.now (record { owner = name.now; kind = kind })) v ≡ true) →
-        alive_at moment (cell_in cells.new k v) ≡ alive_at moment (cell_in cells.old k v) }
-    ensures seen { has_place cells.new (One kind) ≡ true →
-        (v : ℕ) × ((is_asked (numbers_of kept.now (record { owner = name.now; kind = kind })) v ≡ true)
-        × (is_some (alive_at moment (cell_in cells.new kind v)) ≡ true)) }
-    ensures others { (k : ℕ) → (kind == k) ≡ false → column_of cells.new.kinds.items k ≡ column_of cells.old.kinds.items k }
-    ensures kinds { map (λ own. own.kind) cells.new.kinds.items ≡ map (λ own. own.kind) cells.old.kinds.items }
-    ensures whole { cells.new.whole ≡ cells.old.whole }
-    ensures kept { KeepsUpTo cells.old cells.new × KeepsSettling cells.old cells.new × LosesFinds cells.old cells.new }
+    ensures cells { KeepsAlive kind (numbers_of kept.now (record { owner = name.now; kind = kind })) moment cells.old cells.new }
+    ensures seen { IsSeenAlive kind (numbers_of kept.now (record { owner = name.now; kind = kind })) moment cells.new }
+    ensures lost { LosesFindsOf kind cells.old cells.new }
     ensures capacity { vec_capacity numbers.new ≡ vec_capacity numbers.old }
 {
     if cells.sweep_if_even(kind, moment) {
@@ -129,18 +114,13 @@ fn visit(
     place: usize,
     moment: u64,
 )
-    requires low { (place < length owners.old.entries) × (length ends.old.moments ≡ length owners.old.entries) }
-    requires flags { length ends.old.mixed.items ≡ length ends.old.moments }
-    requires lasts { (length ends.old.lasts.ends.items ≡ length owners.old.entries) × IsShaped ends.old.lasts }
+    requires low { place < length owners.old.entries }
+    requires tallied { IsTallied owners.old stored.old ends.old }
     requires room { length kept.now ≤ vec_capacity numbers.old }
-    requires counted { (stored.old ≡ stored_in owners.old) × HaveTop owners.old }
-    ensures on { (asked most : ℕ) (first : IndexMap Labels OwnerCells NameSeed) → asked ≤ moment → asked < latest →
-        IsUnderway kept.now moment asked first most owners.old ends.old stored.old →
-        IsUnderway kept.now moment asked first most owners.new ends.new stored.new }
-    ensures ended { (asked : ℕ) → asked ≤ moment → asked < latest → slice_index_or ends.old.moments place 0 ≤ asked →
-        count_ended asked ends.new.moments + 1 ≡ count_ended asked ends.old.moments }
+    ensures on { StaysUnderway kept.now moment owners.old ends.old stored.old owners.new ends.new stored.new }
+    ensures ended { EndsOneAt place moment ends.old.moments ends.new.moments }
     ensures noted { length owners.new.entries ≡ length owners.old.entries →
-        last_at ends.new.lasts.ends.items place ≡ min (life_at [] kept.now owners.new.entries place) latest }
+        NotesLifeAt place kept.now owners.new.entries ends.new.lasts.ends.items }
     ensures capacity { vec_capacity numbers.new ≡ vec_capacity numbers.old }
 {
     let (end, mixed) = sweep_at(owners, stored, kept, numbers, place, moment);
@@ -192,17 +172,11 @@ pub(crate) fn sweep_few(
 ) -> bool
     requires small { moment < latest }
     requires room { length kept.now ≤ vec_capacity numbers.old }
-    requires counted { stored.old ≡ stored_in owners.old }
-    requires ends { AreEnds kept.now owners.old.entries ends.old × (ends.old.left ≡ 0) }
-    requires top { HaveTop owners.old }
-    ensures less { AreLessened kept.now moment owners.old owners.new }
-    ensures ends { AreEnds kept.now owners.new.entries ends.new × (ends.new.left ≡ 0) }
+    requires ready { CanSweep kept.now owners.old ends.old stored.old }
+    ensures swept { AreSwept kept.now moment owners.old stored.old owners.new ends.new stored.new }
     ensures more { result ≡ true → count_ended moment ends.new.moments < count_ended moment ends.old.moments }
     ensures short { count_ended moment ends.old.moments ≤ count_ended moment ends.new.moments + reached_at_once }
-    ensures none { result ≡ false → count_ended moment ends.new.moments ≡ 0 }
-    ensures alive { result ≡ false → AreAlive kept.now moment owners.new }
-    ensures counted { (stored.new ≡ stored_in owners.new) × (stored.new ≤ stored.old)
-        × (EachCounts owners.old.entries → EachCounts owners.new.entries) }
+    ensures none { result ≡ false → (count_ended moment ends.new.moments ≡ 0) × AreAlive kept.now moment owners.new }
     ensures capacity { vec_capacity numbers.new ≡ vec_capacity numbers.old }
 {
     let mut left = SWEPT_AT_ONCE;
@@ -217,7 +191,6 @@ pub(crate) fn sweep_few(
 }
 
 // Sweeps the names that need it at a moment. It takes no memory.
-#[tactic(auto, using(crate::proofs::VisitLaws::start))]
 pub(crate) fn sweep_all(
     owners: &mut Owners,
     ends: &mut Ends,
@@ -227,15 +200,10 @@ pub(crate) fn sweep_all(
     moment: u64,
 )
     requires room { length kept.now ≤ vec_capacity numbers.old }
-    requires counted { stored.old ≡ stored_in owners.old }
-    requires ends { AreEnds kept.now owners.old.entries ends.old × (ends.old.left ≡ 0) }
-    requires top { HaveTop owners.old }
-    ensures less { AreLessened kept.now moment owners.old owners.new }
-    ensures ends { AreEnds kept.now owners.new.entries ends.new × (ends.new.left ≡ 0) }
+    requires ready { CanSweep kept.now owners.old ends.old stored.old }
+    ensures swept { AreSwept kept.now moment owners.old stored.old owners.new ends.new stored.new }
     ensures none { count_ended (asked_at moment) ends.new.moments ≡ 0 }
     ensures alive { AreAlive kept.now moment owners.new }
-    ensures counted { (stored.new ≡ stored_in owners.new) × (stored.new ≤ stored.old)
-        × (EachCounts owners.old.entries → EachCounts owners.new.entries) }
     ensures capacity { vec_capacity numbers.new ≡ vec_capacity numbers.old }
 {
     if moment < u64::MAX {
@@ -248,21 +216,17 @@ pub(crate) fn sweep_all(
 }
 
 impl Shelf {
-    ghost use Rattle.shelf.specs.Stored.{AreNeeded};
-    ghost use Rattle.shelf.specs.Told.{IsShelf, KeepsFlushes, face_of};
+    ghost use Rattle.shelf.specs.Stored.{AreNeeded, ShowsSameAlive};
+    ghost use Rattle.shelf.specs.Told.{IsShelf, LosesOnly};
 
     /// Drops the finds that are dead at a moment, the versions that no kept flush needs, and the columns and names of which nothing is
     /// left. Each permanent flush of a zone reaches each name first. It takes no memory.
     pub fn sweep(&mut self, moment: u64)
         requires whole { IsShelf self.old }
-        ensures whole { IsShelf self.new }
-        ensures faces { (chosen : ℕ → Bool) (q : Question) →
-            alive_at moment (face_of self.new chosen q) ≡ alive_at moment (face_of self.old chosen q) }
+        ensures loses { LosesOnly self.old self.new }
+        ensures faces { ShowsSameAlive moment self.old self.new }
         ensures alive { AreAlive self.old.kept.items moment self.new.owners × AreNeeded moment self.new }
-        ensures flushes { KeepsFlushes self.old self.new }
-        ensures stored { self.new.stored ≤ self.old.stored }
-        ensures pairs { KeepPairs self.old.owners self.new.owners }
-        ensures none { (self.new.settlings.items ≡ []) × (unswept self.new.ends.moments self.new.settlings.items moment ≡ 0) }
+        ensures none { (self.new.settlings.items ≡ []) × (unswept_of self.new moment ≡ 0) }
     {
         while self.is_reaching() {
             self.reach_names();
@@ -282,19 +246,12 @@ impl Shelf {
     /// long, but in the latest second: there a name is dead or never ends, and one turn visits each name.
     pub fn sweep_some(&mut self, moment: u64) -> bool
         requires whole { IsShelf self.old }
-        ensures whole { IsShelf self.new }
-        ensures faces { (chosen : ℕ → Bool) (q : Question) →
-            alive_at moment (face_of self.new chosen q) ≡ alive_at moment (face_of self.old chosen q) }
-        ensures more { result ≡ true →
-            unswept self.new.ends.moments self.new.settlings.items moment
-            < unswept self.old.ends.moments self.old.settlings.items moment }
-        ensures none { result ≡ false → unswept self.new.ends.moments self.new.settlings.items moment ≡ 0 }
-        ensures short { moment < latest →
-            unswept self.old.ends.moments self.old.settlings.items moment
-            ≤ unswept self.new.ends.moments self.new.settlings.items moment + turn_at_most }
+        ensures loses { LosesOnly self.old self.new }
+        ensures faces { ShowsSameAlive moment self.old self.new }
+        ensures more { result ≡ true → unswept_of self.new moment < unswept_of self.old moment }
+        ensures none { result ≡ false → unswept_of self.new moment ≡ 0 }
+        ensures short { moment < latest → unswept_of self.old moment ≤ unswept_of self.new moment + turn_at_most }
         ensures alive { result ≡ false → AreAlive self.old.kept.items moment self.new.owners × AreNeeded moment self.new }
-        ensures flushes { KeepsFlushes self.old self.new }
-        ensures counted { (self.new.stored ≤ self.old.stored) × KeepPairs self.old.owners self.new.owners }
     {
         if self.is_reaching() {
             self.reach_names();

@@ -8,3 +8,4 @@ pub mod Store
 pub mod StoreLaws
 pub mod Command
 pub mod ReadLaws
+pub mod ShelfBook

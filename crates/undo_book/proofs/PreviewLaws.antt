@@ -7,20 +7,23 @@ use Rattle.ranked.specs.declared.cell.Admitted.{Admitted}
 use Rattle.ranked.specs.declared.find.Find.{Find}
 use Rattle.ranked.specs.Cell.{shown_at}
 use Rattle.local_zone.specs.Answer.{local_of}
+use Rattle.history.specs.declared.event.Ask.{Ask}
+use Rattle.history.specs.declared.event.Ask.TheVariants.{After}
 use Rattle.history.specs.declared.event.Entry.{Entry}
 use Rattle.history.specs.declared.event.Move.{Move}
 use Rattle.history.specs.declared.event.Move.TheVariants as move
 use Rattle.history.specs.declared.event.Refusal.TheVariants as refusal
 use Rattle.history.specs.declared.event.Seen.{Seen}
 use Rattle.history.specs.declared.event.Seen.TheVariants.{Refused}
+use Rattle.history.specs.declared.event.Settings.{Settings}
 use Rattle.history.specs.declared.tables.Tables.{Tables}
 use Rattle.history.specs.Cells.{cell_after}
 use Rattle.history.specs.Changes.{tables_by}
-use Rattle.history.specs.History.{is_unstruck, standing_with}
+use Rattle.history.specs.History.{Past, is_unstruck, standing_with}
 use Rattle.history.specs.Journal.{commands_of, is_among, over}
 use Rattle.history.specs.Marks.{Marks, last_of, restore, strike}
 use Rattle.history.specs.PreviewLaws.{redo_refused, redo_shows, undo_of_shows, undo_refused, undo_shows}
-use Rattle.history.specs.Reply.{answer_after, answer_by, seen_by, seen_first}
+use Rattle.history.specs.Reply.{answer_after, answer_by, seen_by, seen_first, seen_of}
 use Rattle.undo_book.specs.declared.log.Logged.{Logged}
 use Rattle.undo_book.specs.declared.plain_history.PlainPast.{PlainPast}
 use Rattle.undo_book.specs.Plain.{AreFlagged, cell_after_logged, entries_in, marks_in, with_flag}
@@ -86,3 +89,8 @@ pub tells_no_redo : (past : PlainPast) (step : Move) (q : Question) (moment : �
     → Refused refusal.NothingToRedo ≡ answer_after past.settings.journal (past_in past) step q moment
 tells_no_redo past step q moment is none =
     redo_refused past.settings.journal (past_in past) moment q none ∙ ap (λ (s : Move). answer_after past.settings.journal (past_in past) s q moment) (sym is)
+
+-- a lookup that asks for the answer right after a step sees it
+pub sees_after : {E : Type 0} (settings : Settings) (past : Past) (ask : Ask) (q : Question) (step : Move) (moment : ℕ) (r : Result Seen E) → ask ≡ After q step
+    → IfOk r (λ seen. seen ≡ answer_after settings.journal past step q moment) → IfOk r (λ seen. seen ≡ seen_of settings past ask moment)
+sees_after settings past ask q step moment r is told = subst (λ (a : Ask). IfOk r (λ seen. seen ≡ seen_of settings past a moment)) (sym is) told

@@ -1,4 +1,4 @@
-//! The books, in which every command can be undone: one keeps its history and answers by a replay, one keeps no history.
+//! The book that keeps its history and answers by a replay, for tests and readers. The program's book, which keeps none, is in `store`.
 #![tactic(auto)]
 
 // The commands that can be undone and redone.
@@ -13,6 +13,8 @@ mod index;
 mod stored;
 // The history of a plain book: its log and its marks.
 mod plain_history;
+// The change that a command makes of local zones, records and stubs.
+mod changes;
 // Local zones, records and stubs, by a replay of a log.
 mod tables;
 // The list of commands that can be undone or redone.
@@ -29,16 +31,16 @@ mod lookup_result;
 mod replies;
 // The book that keeps its history and replays it.
 mod plain;
-// The book that keeps no history.
-mod shelf_book;
 
 pub use history::{
-    Ask, Book, BuriedCommand, Command, Desk, DeskFault, Entry, Event, Journalled, Look, MOMENT_END,
-    MOST_CELLS, MOST_COMMANDS, MOST_EVENTS, MOST_HINTS, MakeFault, Move, Origin, Reason, Refusal,
-    Reply, RunFault, Seen, Servers, Settings, StepFault, clock_is_greatest, done_is_in_order,
-    equality_law, flush_forgets, journal_law, oldest_law, preview_law, redo_puts_back,
-    refusal_changes_only_the_clock, run, servers_law, sweep_changes_only_the_clock,
+    Ask, Book, BuriedCommand, CellSource, Command, Desk, DeskFault, Entry, Event, Hidden,
+    Journalled, LAGGING_CELLS, Look, MOMENT_END, MOST_CELLS, MOST_COMMANDS, MOST_EVENTS,
+    MOST_HINTS, MakeFault, Move, Origin, Reason, Refusal, Reply, RunFault, Seen, Servers, Settings,
+    StepFault, Tables, are_settings, buried, clock_is_greatest, closest_servers, done_is_in_order,
+    equality_law, flush_forgets, journal_law, limits_law, oldest_law, over, preview_law,
+    question_sight, redo_puts_back, refusal_changes_only_the_clock, run, servers_law, share_answer,
+    share_records, share_stubs, share_zones, sight_beside, sweep_changes_only_the_clock, under,
     undo_takes_back,
 };
 pub use plain::PlainBook;
-pub use shelf_book::ShelfBook;
+pub use store::ShelfBook;

@@ -10,6 +10,7 @@ ghost use Rattle.undo_book.specs.Replayed.{tables_by_reply};
 ghost use Rattle.history.specs.Journal.{commands_of, is_among, over, under};
 ghost use Rattle.history.specs.Reply.{reply_of, reply_to_command, reply_to_redo, reply_to_redo_of, reply_to_undo, reply_to_undo_of};
 
+use crate::changes::change;
 use crate::listing::commands;
 use crate::lookup_result::seen;
 use crate::plain_history::PlainPast;
@@ -57,7 +58,7 @@ fn reply_to_command(
     ensures changed { OnOk result (tables.new ≡ unless_refused (reason_on tables.old command.now) command.now tables.old) }
     ensures same { OnErr result (tables.new ≡ tables.old) }
 {
-    match tables.change(command)? {
+    match change(tables, command)? {
         Some(reason) => Ok(Reply::Refused(reason)),
         None => Ok(Reply::Done {
             ticket: past.marks.tickets + 1,

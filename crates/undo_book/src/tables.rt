@@ -5,6 +5,7 @@ ghost use Rattle.history.specs.Changes.{no_tables};
 ghost use Rattle.undo_book.specs.Plain.{with_flag};
 ghost use Rattle.undo_book.specs.Replayed.{tables_after_flagged};
 
+use crate::changes::obey;
 use crate::log::Logged;
 use dns_name::NoMemory;
 use history::{Event, Tables};
@@ -38,7 +39,7 @@ fn replay_command(
     match &logged.entry.event {
         Event::Do { command, .. } => {
             if stands(logged, ticket, struck) {
-                tables.obey(command)
+                obey(tables, command)
             } else {
                 Ok(())
             }

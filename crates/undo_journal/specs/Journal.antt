@@ -8,8 +8,8 @@ use Rattle.change_law.specs.declared.kept.Standing.TheVariants.{Done, Undone}
 use Rattle.change_law.specs.Choice.{IsChoice, IsFounded, IsOneTable, IsUncovered, is_done}
 use Rattle.undo_journal.specs.declared.outcome.Outcome.{Outcome}
 use Rattle.undo_journal.specs.declared.outcome.Outcome.TheVariants.{Moved, NotKept, Buried}
-use Rattle.undo_journal.specs.declared.outcome.Reach.{Reach}
-use Rattle.undo_journal.specs.declared.outcome.Reach.TheVariants as reach
+use Rattle.undo_journal.specs.declared.outcome.TicketReach.{TicketReach}
+use Rattle.undo_journal.specs.declared.outcome.TicketReach.TheVariants as reach
 
 -- the kept changes, the oldest first, the tickets of the undone ones, the one that was undone last at the end, the greatest ticket so far, and the most changes that are kept
 pub record Changes (S : Type 0) : Type 0 where
@@ -242,7 +242,7 @@ pub record CanBeRedone {S : Type 0} (table : S → Option ℕ) (kept : List (Kep
   pub founded : IsFounded table here.saved (take place kept)
 
 -- What an undo of a ticket would do. The change of the ticket is at the place, is in effect, and no later one of its table is.
-abbrev pub IsReach : {S : Type 0} → (S → Option ℕ) → Changes S → ℕ → Reach → Type 0
+abbrev pub IsReach : {S : Type 0} → (S → Option ℕ) → Changes S → ℕ → TicketReach → Type 0
 IsReach table changes ticket (reach.At place) =
     (is_among (done_of changes) ticket ≡ true) × (over table changes.kept ticket ≡ None) × IsPlaceOf table changes.kept ticket place × CanBeUndone table changes.kept place
 IsReach table changes ticket reach.NotKept = is_among (done_of changes) ticket ≡ false

@@ -8,7 +8,7 @@ ghost use Rattle.change_law.specs.Effect.{effect, IsFaultFor};
 ghost use Rattle.change_law.specs.Pairs.{AddsPairs};
 ghost use Rattle.change_law.specs.Row.{IsRowAfter, any, same_face, where_chosen, kept_as, IsNoMore, IsRefused};
 
-use crate::outcome::{Outcome, Reach};
+use crate::outcome::{Outcome, TicketReach};
 use crate::reach::{is_done, leave_out, lies_on, lies_under};
 use crate::settling::settle_undone;
 use change_law::{Change, ChangeFault, KeptChange, Standing, World};
@@ -127,12 +127,12 @@ impl<C: Change> Journal<C> {
         ensures counts { IsNoMore C.World.newest C.World.stored C.World.limit C.World.counts world.old world.new }
     {
         match self.reach(ticket) {
-            Reach::At { place } => {
+            TicketReach::At { place } => {
                 self.take_back(world, place)?;
                 Ok(Outcome::Moved)
             }
-            Reach::Buried { ticket: other } => Ok(Outcome::Buried { ticket: other }),
-            Reach::NotKept => Ok(Outcome::NotKept),
+            TicketReach::Buried { ticket: other } => Ok(Outcome::Buried { ticket: other }),
+            TicketReach::NotKept => Ok(Outcome::NotKept),
         }
     }
 
@@ -222,20 +222,20 @@ impl<C: Change> Journal<C> {
     }
 
     /// What an undo of a ticket would do. Nothing changes.
-    pub fn reach(&self, ticket: u64) -> Reach
+    pub fn reach(&self, ticket: u64) -> TicketReach
         ensures { IsReach C.World.table self.now ticket result }
     {
         match self.place_of(ticket) {
             Some(place) => {
                 if self.undone.contains(&ticket) {
-                    return Reach::NotKept;
+                    return TicketReach::NotKept;
                 }
                 match self.over(ticket, self.table_at(place)) {
-                    Some(other) => Reach::Buried { ticket: other },
-                    None => Reach::At { place },
+                    Some(other) => TicketReach::Buried { ticket: other },
+                    None => TicketReach::At { place },
                 }
             }
-            None => Reach::NotKept,
+            None => TicketReach::NotKept,
         }
     }
 

@@ -11,4 +11,4 @@ mod settling;
 mod journal;
 
 pub use journal::Journal;
-pub use outcome::{Outcome, Reach};
+pub use outcome::{Outcome, TicketReach};

@@ -2,7 +2,7 @@
 
 /// What an undo of a ticket would do.
 #[derive(Clone, Copy, PartialEq, Eq, Drop)]
-pub enum Reach {
+pub enum TicketReach {
     /// It would take back the change at this place.
     At { place: usize },
     /// It could not: the journal does not hold the change so.

@@ -182,34 +182,3 @@ fn mend(ends: &[u64], least: &mut Vec<u64>, place: usize)
         node /= 2;
     }
 }
-
-#[cfg(test)]
-mod tests {
-    use super::*;
-    use std::test::Fail;
-
-    #[test]
-    fn finds_the_positions_that_have_ended(rt: HostRuntime) -> Result<(), Fail> {
-        let mut tree = WinnerTree::new(rt.alloc());
-        for end in [50, 20, 70, 40, 60] {
-            tree.push(end)?;
-        }
-        assert_eq!(rt; tree.len(), 5);
-        assert_eq!(rt; tree.least(0), 20);
-        assert_eq!(rt; tree.least(2), 70);
-        assert_eq!(rt; tree.least(9), u64::MAX);
-        assert_eq!(rt; tree.first_ended(19), None);
-        assert_eq!(rt; tree.first_ended(20), Some(1));
-        tree.set(1, 80);
-        assert_eq!(rt; tree.first_ended(20), None);
-        assert_eq!(rt; tree.first_ended(40), Some(3));
-        tree.swap_remove(3);
-        assert_eq!(rt; tree.len(), 4);
-        assert_eq!(rt; tree.end(3), 60);
-        assert_eq!(rt; tree.first_ended(49), None);
-        tree.pop();
-        tree.end_all();
-        assert_eq!(rt; tree.first_ended(0), Some(0));
-        Ok(())
-    }
-}

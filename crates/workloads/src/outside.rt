@@ -6,7 +6,7 @@ ghost use Rattle.flight.specs.Flight.{query_to};
 
 use crate::digest::Digest;
 use crate::internet::Internet;
-use command_text::Clock;
+use clock::Clock;
 use dns_name::Name;
 use dns_query::Over;
 use dns_text::{Addr, Octets, Shared};

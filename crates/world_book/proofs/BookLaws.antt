@@ -15,7 +15,7 @@ use Rattle.change_law.specs.declared.world.World.{Ghosts}
 use Rattle.change_law.specs.Pairs.{AddsPairs, CountsAmong, CountsNoneOf, count_pairs, pair_eq, pair_of}
 use Rattle.undo_journal.specs.Journal.{Changes}
 use Rattle.undo_journal.specs.Needs.{is_needy}
-use Rattle.course.specs.CourseLaws.{same_at}
+use Rattle.world_book.proofs.CourseLaws.{same_at}
 use Rattle.history.specs.declared.book.StepFault.{StepFault}
 use Rattle.history.specs.declared.book.StepFault.TheVariants.{BadMoment, CountEnded, Full, NoMemory}
 use Rattle.history.specs.declared.event.Command.{Command}

@@ -4,7 +4,7 @@ use Rattle.std.specs.Prelude.{fold}
 use Rattle.std.proofs.lemmas.Bool.{cases_Bool}
 use Rattle.change_law.specs.Effect.{effect}
 use Rattle.change_law.specs.Face.{Face, IsSame, face_with, face_without}
-use Rattle.course.specs.Course.{face_by}
+use Rattle.world_book.specs.Course.{face_by}
 use Rattle.history.specs.declared.event.Event.{Event}
 use Rattle.history.specs.declared.event.Event.TheVariants.{Admit, Look, Sweep, Forget, Do, Undo, Redo, UndoOf, RedoOf}
 use Rattle.history.specs.declared.event.Entry.{Entry}

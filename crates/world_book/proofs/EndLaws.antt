@@ -17,7 +17,7 @@ use Rattle.change_law.specs.ChoiceLaws.{also_choice, has_also, other_number, out
 use Rattle.change_law.specs.Face.{alive_at}
 use Rattle.change_law.specs.Oldest.{AreCurrent, IsEnding, IsLastEnding, IsOldest, NoneEnds}
 use Rattle.undo_journal.specs.Journal.{Changes, AreChanges, tickets_of, told_of}
-use Rattle.course.specs.Course.{AreAscending, IsFair}
+use Rattle.world_book.specs.Course.{AreAscending, IsFair}
 use Rattle.history.specs.declared.event.Command.{Command}
 use Rattle.history.specs.declared.event.Command.TheVariants.{FlushType, Flush, FlushZone, SetZone, DropZone, AddRecord, DropName, SetStub, DropStub}
 use Rattle.history.specs.declared.event.Entry.{Entry}

@@ -11,8 +11,8 @@ use Rattle.change_law.specs.declared.kept.Standing.{Standing}
 use Rattle.change_law.specs.declared.kept.Standing.TheVariants.{Done, Undone}
 use Rattle.change_law.specs.Choice.{is_done}
 use Rattle.undo_journal.specs.Journal.{AreAscending, AreChanges, Changes, IsPutBack, IsTakenBack, done_of, in_effect, is_among, standing_in, standings_of, standings_with, tickets_of}
-use Rattle.course.specs.Course.{struck_with, struck_without}
-use Rattle.course.specs.CourseLaws.{all_among, firsts}
+use Rattle.world_book.specs.Course.{struck_with, struck_without}
+use Rattle.world_book.proofs.CourseLaws.{all_among, firsts}
 use Rattle.history.specs.Marks.{Marks, in_place, is_struck, restore, strike, without}
 
 struck_more : (xs : List ℕ) (t u : ℕ) → list_any (λ s. s == u) (xs ++ t ∷ []) ≡ (if u == t then true else list_any (λ s. s == u) xs)

@@ -17,8 +17,8 @@ use Rattle.change_law.specs.Choice.{AllowsAt, AreLeftOut, IsChoice, IsFounded, I
 use Rattle.change_law.specs.Row.{kept_as}
 use Rattle.change_law.specs.Turn.{CanTurn, HoldsOver}
 use Rattle.undo_journal.specs.Journal.{AreAscending, AreChanges, CanBeRedone, CanBeUndone, Changes, IsClosed, standings_of, tickets_of}
-use Rattle.course.specs.Course.{IsFair}
-use Rattle.course.specs.CourseLaws.{differs, other_struck}
+use Rattle.world_book.specs.Course.{IsFair}
+use Rattle.world_book.proofs.CourseLaws.{differs, other_struck}
 use Rattle.history.specs.declared.event.Command.{Command}
 use Rattle.history.specs.declared.event.Journalled.{Journalled}
 use Rattle.history.specs.declared.event.Seen.{Seen}

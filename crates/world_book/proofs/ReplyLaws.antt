@@ -17,7 +17,7 @@ use Rattle.ranked.specs.Rank.{level_of}
 use Rattle.change_law.specs.Face.{Face, IsSameAt, alive_at, fate_in}
 use Rattle.change_law.specs.declared.fault.ChangeFault.TheVariants as change
 use Rattle.change_law.specs.Effect.{IsFaultFor}
-use Rattle.course.specs.CourseLaws.{alive_later}
+use Rattle.world_book.proofs.CourseLaws.{alive_later}
 use Rattle.history.specs.declared.event.Command.{Command}
 use Rattle.history.specs.Changes.{reason_on}
 use Rattle.history.specs.declared.event.Reason.{Reason}

@@ -14,8 +14,8 @@ use Rattle.change_law.specs.Face.{IsSame, IsSameAt, alive_at}
 use Rattle.change_law.specs.Pairs.{IsAliveIn}
 use Rattle.undo_journal.specs.Journal.{Changes, AreChanges, NeedsNone, done_of, is_among, tickets_of, told_of}
 use Rattle.undo_journal.specs.Needs.{UndoNeedsNone}
-use Rattle.course.specs.Course.{IsFair, face_by}
-use Rattle.course.specs.CourseLaws.{same_at, same_at_later, same_at_then}
+use Rattle.world_book.specs.Course.{IsFair, face_by}
+use Rattle.world_book.proofs.CourseLaws.{same_at, same_at_later, same_at_then}
 use Rattle.dns_name.specs.ListLaws.{all_weaker}
 use Rattle.history.specs.declared.event.Command.{Command}
 use Rattle.history.specs.declared.event.Journalled.{Journalled}

@@ -9,7 +9,7 @@ use Rattle.undo_journal.specs.declared.outcome.Outcome.{Outcome}
 use Rattle.undo_journal.specs.declared.outcome.Outcome.TheVariants.{Moved, NotKept, Buried}
 use Rattle.undo_journal.specs.Journal.{AreChanges, Changes, IsRedoOf, IsUndoOf, done_of, first_of, is_one_table, lies_on, lies_under, over, table_at, tickets_of, told_of, under}
 use Rattle.undo_journal.specs.Journal.{last_of}
-use Rattle.course.specs.Course.{moved_by}
+use Rattle.world_book.specs.Course.{moved_by}
 use Rattle.history.specs.declared.event.Command.{Command}
 use Rattle.history.specs.declared.event.Journalled.{Journalled}
 use Rattle.history.specs.Journal.{commands_of, is_among, table_of, lies_on as command_lies_on, lies_under as command_lies_under, over as over_command, table_at as command_table_at, tickets_of as command_tickets, under as under_command}

@@ -1,7 +1,7 @@
 -- The deeds of a log: what came, what was forgotten, and what was made. And what a log shows by a choice of its commands.
 use Rattle.std.specs.Prelude.{ℕ, Bool, Option, Some, None, List, map, filter_map}
 use Rattle.change_law.specs.Face.{Face}
-use Rattle.course.specs.Course.{Deed, Came, Forgot, Made}
+use Rattle.world_book.specs.Course.{Deed, Came, Forgot, Made}
 use Rattle.history.specs.declared.event.Command.{Command}
 use Rattle.history.specs.declared.event.Event.{Event}
 use Rattle.history.specs.declared.event.Event.TheVariants.{Admit, Forget, Do}

@@ -5,7 +5,7 @@ use Rattle.change_law.specs.declared.world.World.{Ghosts}
 use Rattle.change_law.specs.Pairs.{AddsPairs}
 use Rattle.undo_journal.specs.Journal.{Changes, done_of, told_of}
 use Rattle.undo_journal.specs.Needs.{HaveNeeds, is_needy, needs_of}
-use Rattle.course.specs.Course.{AreAscending, Stands}
+use Rattle.world_book.specs.Course.{AreAscending, Stands}
 use Rattle.history.specs.declared.event.Command.{Command}
 use Rattle.history.specs.declared.event.Event.{Event}
 use Rattle.history.specs.declared.event.Event.TheVariants.{Forget}

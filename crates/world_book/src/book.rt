@@ -5,7 +5,7 @@ ghost use Rattle.history.specs.declared.event.Event.{Event};
 ghost use Rattle.world_book.specs.Book.{IsPassed, IsUntouched};
 ghost use Rattle.world_book.specs.Deeds.{empty_face};
 
-use crate::finds::{sweep_some, sweep_unread};
+use crate::admissions::{sweep_some, sweep_unread};
 use crate::obey::obey;
 use crate::preview::hidden_some;
 use crate::seen::seen;
@@ -264,22 +264,26 @@ impl<C: BookChange> Book for WorldBook<C> {
     }
 
     fn look<'a>(&'a self, question: &'a Question, moment: u64) -> Look<'a> {
+        // It is called for its clause `sound`: the kept commands are in order, and those that are undone are marked.
         let _undone = self.journal.undone();
         let clock = self.moment.max(moment);
         question_sight(&self.world, &self.world.tables().local, question, clock)
     }
 
     fn zones(&self) -> &ZoneTable {
+        // It is called for its clause `sound`: the kept commands are in order, and those that are undone are marked.
         let _undone = self.journal.undone();
         &self.world.tables().local
     }
 
     fn stubs(&self) -> &StubTable {
+        // It is called for its clause `sound`: the kept commands are in order, and those that are undone are marked.
         let _undone = self.journal.undone();
         &self.world.tables().stubs
     }
 
     fn servers(&self, name: &Name, moment: u64) -> Result<Servers, NoMemory> {
+        // It is called for its clause `sound`: the kept commands are in order, and those that are undone are marked.
         let _undone = self.journal.undone();
         let clock = self.moment.max(moment);
         let tables = self.world.tables();
@@ -315,6 +319,7 @@ impl<C: BookChange> Book for WorldBook<C> {
         ensures least { (h : List Event) → IsBookOf C.World.World self.now h → (pairs : List (Labels × Scope)) →
             AreAliveAfter self.now.settings.journal h pairs → count_pairs pairs ≤ result }
     {
+        // It is called for its clause `sound`: the kept commands are in order, and those that are undone are marked.
         let _undone = self.journal.undone();
         self.world.stored()
     }

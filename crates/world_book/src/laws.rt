@@ -2,7 +2,7 @@
 
 ghost use Rattle.std.specs.Prelude.{◌≡◌, ℕ, Bool, List, Some, true};
 ghost use Rattle.change_law.specs.Face.{IsSame};
-ghost use Rattle.course.specs.Course.{face_by, struck_with, struck_without};
+ghost use Rattle.world_book.specs.Course.{face_by, struck_with, struck_without};
 ghost use Rattle.history.specs.declared.event.Entry.{Entry};
 ghost use Rattle.history.specs.Marks.{Marks, is_struck, strike, restore};
 ghost use Rattle.world_book.specs.Deeds.{deeds_of, empty_face, face_of};

@@ -6,10 +6,10 @@ ghost use Rattle.world_book.specs.Step.{ForgetsPairs, IsSound, IsSoundAfter, IsF
 ghost use Rattle.world_book.specs.Tied.{GainsNeeds, IsHistoryReply, IsTakenIfFree, MakesRoom, TakesIn, TakesNothingIn};
 ghost use Rattle.world_book.specs.Versions.{pairs_left};
 
-use crate::finds::{admit, forget, sweep};
-use crate::given::give;
-use crate::moves::{redo, redo_of, undo, undo_of};
+use crate::admissions::{admit, forget, sweep};
+use crate::obey_command::give;
 use crate::seen::seen;
+use crate::undo_redo::{redo, redo_of, undo, undo_of};
 use crate::world::BookChange;
 use history::{Event, Reply, Settings, StepFault};
 use std::alloc::Global;
@@ -36,6 +36,7 @@ pub(crate) fn obey<C: BookChange>(
         × MakesRoom C.World.World event world.old journal.old world.new) }
     ensures needs { OnOk result (GainsNeeds C.World.World event world.old journal.old journal.new) }
 {
+    // It is called for its clause `sound`: the kept commands are in order, and those that are undone are marked.
     let _undone = journal.undone();
     match event {
         Event::Admit { find, .. } => match admit(journal, world, find, clock) {

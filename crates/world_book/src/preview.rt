@@ -17,7 +17,7 @@ use dns_name::NoMemory;
 use dns_text::Question;
 use history::{Hidden, Move, Refusal, Seen};
 use std::alloc::Global;
-use undo_journal::{Journal, Reach};
+use undo_journal::{Journal, TicketReach};
 
 /// The answer to a question right after an undo or a redo, or why that would be refused. `clock` is the clock at the lookup.
 pub(crate) fn answer_after<C: BookChange>(
@@ -32,6 +32,7 @@ pub(crate) fn answer_after<C: BookChange>(
     ensures { IfOk result (λ s. (bound settled moment : ℕ) (past : Past) → clock ≡ max past.now moment →
         IsTied C.World.World world.now journal.now bound past → s ≡ answer_after settled past step question.now moment) }
 {
+    // It is called for its clause `sound`: the kept commands are in order, and those that are undone are marked.
     let _undone = journal.undone();
     match step {
         Move::Undo => match journal.last_done() {
@@ -43,9 +44,9 @@ pub(crate) fn answer_after<C: BookChange>(
             None => Ok(Seen::Refused(Refusal::NothingToRedo)),
         },
         Move::UndoOf { ticket } => match journal.reach(ticket) {
-            Reach::At { place } => answer_at(alloc, journal, world, place, question, clock),
-            Reach::NotKept => Ok(Seen::Refused(Refusal::NotKept)),
-            Reach::Buried { ticket } => Ok(Seen::Refused(Refusal::Buried { ticket })),
+            TicketReach::At { place } => answer_at(alloc, journal, world, place, question, clock),
+            TicketReach::NotKept => Ok(Seen::Refused(Refusal::NotKept)),
+            TicketReach::Buried { ticket } => Ok(Seen::Refused(Refusal::Buried { ticket })),
         },
     }
 }
@@ -79,7 +80,7 @@ pub(crate) fn hidden_some<C: BookChange>(
     clock: u64,
 ) -> Hidden {
     match journal.reach(ticket) {
-        Reach::At { place } => match journal.kept(place) {
+        TicketReach::At { place } => match journal.kept(place) {
             Some(kept) => world.hidden_some(&kept.saved, from, clock),
             None => Hidden::none(),
         },
@@ -92,6 +93,7 @@ pub(crate) fn next_undo<C: BookChange>(journal: &Journal<C>) -> Result<Seen, NoM
     ensures { IfOk result (λ s. (world : C.World) (bound : ℕ) (past : Past) → IsTied C.World.World world journal.now bound past →
         s ≡ next_seen (next_undo past.marks (commands_of past))) }
 {
+    // It is called for its clause `sound`: the kept commands are in order, and those that are undone are marked.
     let _undone = journal.undone();
     let Some(place) = journal.last_done() else {
         return Ok(Seen::Refused(Refusal::NothingToUndo));

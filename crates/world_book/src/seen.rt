@@ -28,6 +28,7 @@ fn oldest<C: BookChange>(
     ensures { IfOk result (λ name. (bound : ℕ) (past : Past) → past.now ≤ clock →
         IsTied C.World.World world.now journal.now bound past → IsOldest past clock name) }
 {
+    // It is called for its clause `sound`: the kept commands are in order, and those that are undone are marked.
     let _undone = journal.undone();
     match world.oldest(clock) {
         Some(name) => Ok(Some(name.clone()?)),
@@ -48,6 +49,7 @@ pub(crate) fn seen<C: BookChange>(
     ensures { IfOk result (λ s. (bound moment : ℕ) (past : Past) → clock ≡ max past.now moment →
         IsTied C.World.World world.now journal.now bound past → s ≡ seen_of settings.now past ask.now moment) }
 {
+    // It is called for its clause `sound`: the kept commands are in order, and those that are undone are marked.
     let _undone = journal.undone();
     let tables = world.tables();
     match ask {

@@ -1,35 +1,14 @@
 //! Two callers of one book, and their receipts.
 
+use crate::handed::{Handed, call_one};
 use crate::outcome::{Outcome, outcome_of};
 use dns_text::Shared;
-use history::{Book, Event, Reply, Seen, StepFault};
+use history::{Book, Event, Reply, Seen};
 use shared_book::{CallFault, CallLedger, Pass, Receipt, SharedBook};
 use std::alloc::Global;
 use std::sync::Wait;
-use std::test::*;
 use std::thread;
 use std::thread::Threads;
-
-/// Calls with an event, and keeps the receipt.
-fn call_one<B: Book, L: CallLedger, R: Wait>(
-    rt: &R,
-    book: &SharedBook<B, L>,
-    pass: &mut Pass<L>,
-    event: Shared<Event>,
-    receipts: &mut Vec<Receipt>,
-) -> Result<(), CallFault> {
-    match receipts.reserve(1) {
-        Ok(()) => {}
-        Err(_) => return Err(CallFault::Step(StepFault::NoMemory)),
-    }
-    match book.call(rt, pass, event) {
-        Ok(receipt) => {
-            receipts.push_reserved(receipt);
-            Ok(())
-        }
-        Err(fault) => Err(fault),
-    }
-}
 
 /// Calls with each event, and keeps the receipts.
 fn call_each<B: Book, L: CallLedger, R: Wait>(
@@ -45,9 +24,6 @@ fn call_each<B: Book, L: CallLedger, R: Wait>(
     Ok(())
 }
 
-/// What a caller hands in at the end: its pass, and its receipts in the order in which it got them.
-pub type HandedIn<L> = (Pass<L>, Vec<Receipt>);
-
 /// Calls with each event.
 pub fn call_all<B: Book, L: CallLedger, R: Wait>(
     rt: &R,
@@ -55,10 +31,10 @@ pub fn call_all<B: Book, L: CallLedger, R: Wait>(
     book: &SharedBook<B, L>,
     mut pass: Pass<L>,
     events: Vec<Shared<Event>>,
-) -> Result<HandedIn<L>, CallFault> {
+) -> Result<Handed<L>, CallFault> {
     let mut receipts = Vec::new(alloc);
     call_each(rt, book, &mut pass, events, &mut receipts)?;
-    Ok((pass, receipts))
+    Ok(Handed { pass, receipts })
 }
 
 /// Both callers, each in a thread of its own.
@@ -68,7 +44,7 @@ pub fn both<B: Book + Send + Sync, L: CallLedger + Send + Sync, R: Threads + Wai
     book: &SharedBook<B, L>,
     passes: (Pass<L>, Pass<L>),
     events: (Vec<Shared<Event>>, Vec<Shared<Event>>),
-) -> Result<(HandedIn<L>, HandedIn<L>), Fail> {
+) -> anyhow::Result<(Handed<L>, Handed<L>)> {
     let (one, two) = passes;
     let (ones, twos) = events;
     let (a, b) = thread::join(

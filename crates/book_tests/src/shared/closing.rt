@@ -3,17 +3,19 @@
 ghost use Rattle.std.specs.Prelude.{◌≡◌, []};
 ghost use Rattle.history.specs.Event.{lagging_of};
 
-use crate::books::books;
+use crate::checks::Checks;
+use crate::events::{of_the_first, of_the_second};
+use crate::handed::{Handed, with_receipts};
+use crate::new_books::plain_books;
 use crate::outcome::{Outcome, outcome_of};
-use crate::shared::callers::{HandedIn, are_told, both};
-use crate::shared::events::{of_the_first, of_the_second};
+use crate::shared::callers::{are_told, both};
+use anyhow::anyhow;
 use history::{Book, Reply};
 use shared_book::{Blank, CallLedger, CloseFault, Kept, NotClosed, Pass, Receipt, SharedBook};
 use std::alloc::Global;
+use std::io;
 use std::marker::Brand;
-use std::process::Abort;
 use std::sync::Wait;
-use std::test::*;
 use std::thread::Threads;
 use undo_book::PlainBook;
 
@@ -38,7 +40,7 @@ enum Case {
 }
 
 /// A receipt of this number and reply, and else like another.
-fn receipt(number: u64, like: &Receipt, reply: Reply) -> Result<Receipt, Fail> {
+fn receipt(number: u64, like: &Receipt, reply: Reply) -> anyhow::Result<Receipt> {
     match like.event.copy() {
         Ok(event) => Ok(Receipt {
             number,
@@ -54,7 +56,7 @@ fn receipt(number: u64, like: &Receipt, reply: Reply) -> Result<Receipt, Fail> {
 }
 
 /// The same receipt, if its reply has no more than a ticket.
-pub fn again(like: &Receipt) -> Result<Receipt, Fail> {
+pub fn again(like: &Receipt) -> anyhow::Result<Receipt> {
     let reply = match outcome_of(&like.reply) {
         Outcome::Done(ticket) => Reply::Done { ticket },
         Outcome::Undone(ticket) => Reply::Undone { ticket },
@@ -64,12 +66,12 @@ pub fn again(like: &Receipt) -> Result<Receipt, Fail> {
 }
 
 /// The receipt of a number.
-fn numbered(receipts: &[Receipt], number: u64) -> Result<&Receipt, Fail> {
+fn numbered(receipts: &[Receipt], number: u64) -> anyhow::Result<&Receipt> {
     Ok(
         receipts
             .iter()
             .find(|receipt| receipt.number == number)
-            .ok_or("a receipt")?,
+            .ok_or(anyhow!("no receipt"))?,
     )
 }
 
@@ -79,19 +81,19 @@ fn take_out(receipts: &mut Vec<Receipt>, number: u64) {
 }
 
 /// Adds the third receipt once more.
-fn add_third(receipts: &mut Vec<Receipt>) -> Result<(), Fail> {
+fn add_third(receipts: &mut Vec<Receipt>) -> anyhow::Result<()> {
     let third = again(numbered(receipts.as_slice(), 3)?)?;
     Ok(receipts.push(third)?)
 }
 
 /// Adds a receipt of this number which no book gave.
-fn add_invented(receipts: &mut Vec<Receipt>, number: u64) -> Result<(), Fail> {
+fn add_invented(receipts: &mut Vec<Receipt>, number: u64) -> anyhow::Result<()> {
     let first = numbered(receipts.as_slice(), 1)?;
     let invented = receipt(number, first, Reply::NothingToRedo)?;
     Ok(receipts.push(invented)?)
 }
 
-fn change(case: Case, receipts: &mut Vec<Receipt>) -> Result<(), Fail> {
+fn change(case: Case, receipts: &mut Vec<Receipt>) -> anyhow::Result<()> {
     match case {
         Case::Whole | Case::FirstPassLess => {}
         Case::Reversed => receipts.reverse(),
@@ -141,48 +143,53 @@ fn passes_of<L: CallLedger>(
     case: Case,
     one: Pass<L>,
     two: Pass<L>,
-) -> Result<Vec<Pass<L>>, Fail> {
+) -> anyhow::Result<Vec<Pass<L>>> {
     if case == Case::FirstPassLess {
         return Ok(vec![in alloc; two]?);
     }
     Ok(vec![in alloc; two, one]?)
 }
 
-/// Both callers call, and each is told what it did.
-fn called<B: Book + Send + Sync, L: CallLedger + Send + Sync, R: Threads + Wait + Sync + Abort>(
+/// Both callers call.
+fn called<B: Book + Send + Sync, L: CallLedger + Send + Sync, R: Threads + Wait + Sync>(
     rt: &R,
     alloc: Global,
     book: &SharedBook<B, L>,
     mut one: Pass<L>,
-) -> Result<(HandedIn<L>, HandedIn<L>), Fail> {
+) -> anyhow::Result<(Handed<L>, Handed<L>)> {
     let two = book.split(rt, &mut one)?;
     let events = (of_the_first(alloc)?, of_the_second(alloc)?);
-    let ((one, ones), (two, twos)) = both(rt, alloc, book, (one, two), events)?;
-    assert!(rt; are_told(&ones, &twos));
-    Ok(((one, ones), (two, twos)))
+    both(rt, alloc, book, (one, two), events)
 }
 
 /// What both hand in, with something wrong.
 fn handed_in<L: CallLedger>(
     alloc: Global,
     case: Case,
-    first: HandedIn<L>,
-    second: HandedIn<L>,
-) -> Result<(Vec<Pass<L>>, Vec<Receipt>), Fail> {
-    let (one, mut receipts) = first;
-    let (two, twos) = second;
-    for receipt in twos {
-        receipts.push(receipt)?;
-    }
+    first: Handed<L>,
+    second: Handed<L>,
+) -> anyhow::Result<(Vec<Pass<L>>, Vec<Receipt>)> {
+    let Handed {
+        pass: two,
+        receipts: more,
+    } = second;
+    let Handed {
+        pass: one,
+        mut receipts,
+    } = with_receipts(first, more)?;
     change(case, &mut receipts)?;
     Ok((passes_of(alloc, case, one, two)?, receipts))
 }
 
-fn two_callers<
-    B: Book + Send + Sync,
-    L: CallLedger + Send + Sync,
-    R: Threads + Wait + Sync + Abort,
->(rt: &R, alloc: Global, blank: Blank, book: B, opening: B, case: Case) -> Result<Told, Fail>
+/// Whether each caller was told what it did, and what closing tells.
+fn two_callers<B: Book + Send + Sync, L: CallLedger + Send + Sync, R: Threads + Wait + Sync>(
+    rt: &R,
+    alloc: Global,
+    blank: Blank,
+    book: B,
+    opening: B,
+    case: Case,
+) -> anyhow::Result<(bool, Told)>
     requires name { blank.name ≡ L.name }
     requires parts { blank.parts ≡ L.parts }
     requires limit { 100 ≡ L.limit }
@@ -192,42 +199,54 @@ fn two_callers<
 {
     let (book, pass) = SharedBook::<B, L>::new(alloc, blank, book, opening, 100)?;
     let (first, second) = called(rt, alloc, &book, pass)?;
+    let is_so = are_told(first.receipts.as_slice(), second.receipts.as_slice());
     let (passes, receipts) = handed_in(alloc, case, first, second)?;
-    Ok(told(alloc, book.close(passes, receipts)))
+    Ok((is_so, told(alloc, book.close(passes, receipts))))
 }
 
-fn closed_as<R: Threads + Wait + Sync + Abort>(
+fn closed_as<R: Threads + Wait + Sync>(
     rt: &R,
     alloc: Global,
     case: Case,
-) -> Result<Told, Fail> {
-    let (book, opening) = books(alloc, 64, 100)?;
+) -> anyhow::Result<(bool, Told)> {
+    let (book, opening) = plain_books(alloc, 64, 100)?;
     two_callers::<PlainBook, Brand, R>(rt, alloc, Blank::new(1 << 20), book, opening, case)
 }
 
 /// The passes are given up when closing is asked first, so all six calls are missing then.
 const GIVEN_UP: Option<CloseFault> = Some(CloseFault::Missing { count: 6 });
 
-#[test]
-fn receipts_come_in_any_order(rt: HostRuntime) -> Result<(), Fail> {
+fn receipts_come_in_any_order<R: Threads + Wait + Sync>(
+    rt: &R,
+    checks: &mut Checks,
+    alloc: Global,
+) -> anyhow::Result<()> {
     for case in [Case::Whole, Case::Reversed] {
-        let told = closed_as(&rt, rt.alloc(), case)?;
-        assert!(rt; told == (None, 6, GIVEN_UP));
+        let (are_told, told) = closed_as(rt, alloc, case)?;
+        checks.that(are_told);
+        checks.that(told == (None, 6, GIVEN_UP));
     }
     Ok(())
 }
 
-#[test]
-fn some_are_missing(rt: HostRuntime) -> Result<(), Fail> {
+fn some_are_missing<R: Threads + Wait + Sync>(
+    rt: &R,
+    checks: &mut Checks,
+    alloc: Global,
+) -> anyhow::Result<()> {
     for (case, count) in [(Case::OneLess, 1), (Case::FirstPassLess, 4)] {
-        let told = closed_as(&rt, rt.alloc(), case)?;
-        assert!(rt; told == (Some(CloseFault::Missing { count }), 6, GIVEN_UP));
+        let (are_told, told) = closed_as(rt, alloc, case)?;
+        checks.that(are_told);
+        checks.that(told == (Some(CloseFault::Missing { count }), 6, GIVEN_UP));
     }
     Ok(())
 }
 
-#[test]
-fn one_is_not_in_the_record(rt: HostRuntime) -> Result<(), Fail> {
+fn one_is_not_in_the_record<R: Threads + Wait + Sync>(
+    rt: &R,
+    checks: &mut Checks,
+    alloc: Global,
+) -> anyhow::Result<()> {
     let cases = [
         (Case::ThirdForFourth, 4),
         (Case::ThirdTwice, 4),
@@ -235,8 +254,23 @@ fn one_is_not_in_the_record(rt: HostRuntime) -> Result<(), Fail> {
         (Case::PastTheEnd, 7),
     ];
     for (case, number) in cases {
-        let told = closed_as(&rt, rt.alloc(), case)?;
-        assert!(rt; told == (Some(CloseFault::Mismatch { number }), 6, GIVEN_UP));
+        let (are_told, told) = closed_as(rt, alloc, case)?;
+        checks.that(are_told);
+        checks.that(told == (Some(CloseFault::Mismatch { number }), 6, GIVEN_UP));
     }
     Ok(())
+}
+
+/// Runs the tests of this file.
+pub fn tests<R: Print + Eprint + Threads + Wait + Sync>(
+    rt: &R,
+    checks: &mut Checks,
+    alloc: Global,
+) -> io::Result<()> {
+    let ended = receipts_come_in_any_order(rt, checks, alloc);
+    checks.end(rt, "shared::closing::receipts_come_in_any_order", ended)?;
+    let ended = some_are_missing(rt, checks, alloc);
+    checks.end(rt, "shared::closing::some_are_missing", ended)?;
+    let ended = one_is_not_in_the_record(rt, checks, alloc);
+    checks.end(rt, "shared::closing::one_is_not_in_the_record", ended)
 }

@@ -3,13 +3,14 @@
 ghost use Rattle.std.specs.Prelude.{◌≡◌, []};
 ghost use Rattle.history.specs.Event.{lagging_of};
 
-use crate::books::books;
+use crate::checks::Checks;
+use crate::new_books::plain_books;
 use history::{Book, MakeFault};
 use shared_book::{Blank, CallLedger, MOST_RECORDED, SharedBook};
 use std::alloc::Global;
+use std::io;
 use std::marker::Brand;
 use std::sync::Wait;
-use std::test::*;
 use undo_book::PlainBook;
 
 /// Whether a book is refused that is made with these, and whether its first pass can be split.
@@ -33,20 +34,35 @@ fn made<B: Book, L: CallLedger, R: Wait>(
 }
 
 fn made_as<R: Wait>(rt: &R, alloc: Global, parts: u64, limit: u64) -> Result<bool, MakeFault> {
-    let (book, opening) = books(alloc, 64, 100)?;
+    let (book, opening) = plain_books(alloc, 64, 100)?;
     made::<PlainBook, Brand, R>(rt, alloc, Blank::new(parts), book, opening, limit)
 }
 
-#[test]
-fn settings_have_ranges(rt: HostRuntime) {
-    let alloc = rt.alloc();
+fn settings_have_ranges<R: Wait>(rt: &R, checks: &mut Checks, alloc: Global) -> anyhow::Result<()> {
     for (parts, limit) in [(2, 0), (2, MOST_RECORDED + 1), (0, 1)] {
-        assert!(rt; made_as(&rt, alloc, parts, limit) == Err(MakeFault::BadSettings));
+        checks.that(made_as(rt, alloc, parts, limit) == Err(MakeFault::BadSettings));
     }
-    assert!(rt; made_as(&rt, alloc, 2, MOST_RECORDED) == Ok(true));
+    checks.that(made_as(rt, alloc, 2, MOST_RECORDED) == Ok(true));
+    Ok(())
 }
 
-#[test]
-fn one_part_is_not_split(rt: HostRuntime) {
-    assert!(rt; made_as(&rt, rt.alloc(), 1, 1) == Ok(false));
+fn one_part_is_not_split<R: Wait>(
+    rt: &R,
+    checks: &mut Checks,
+    alloc: Global,
+) -> anyhow::Result<()> {
+    checks.that(made_as(rt, alloc, 1, 1) == Ok(false));
+    Ok(())
+}
+
+/// Runs the tests of this file.
+pub fn tests<R: Print + Eprint + Wait>(
+    rt: &R,
+    checks: &mut Checks,
+    alloc: Global,
+) -> io::Result<()> {
+    let ended = settings_have_ranges(rt, checks, alloc);
+    checks.end(rt, "shared::limits::settings_have_ranges", ended)?;
+    let ended = one_part_is_not_split(rt, checks, alloc);
+    checks.end(rt, "shared::limits::one_part_is_not_split", ended)
 }

@@ -3,17 +3,20 @@
 ghost use Rattle.std.specs.Prelude.{◌≡◌, []};
 ghost use Rattle.history.specs.Event.{lagging_of};
 
-use crate::books::books;
+use crate::checks::Checks;
+use crate::events::four_about_zones;
+use crate::handed::Handed;
+use crate::new_books::plain_books;
 use crate::shared::callers::call_all;
 use crate::shared::closing::again;
-use crate::shared::events::four_about_zones;
+use anyhow::anyhow;
 use history::Book;
+use local_zone::ZoneType;
 use shared_book::{Blank, CallLedger, CloseFault, Kept, NotClosed, Receipt, SharedBook};
 use std::alloc::Global;
+use std::io;
 use std::marker::Brand;
-use std::process::Abort;
 use std::sync::Wait;
-use std::test::*;
 use undo_book::PlainBook;
 
 /// Which receipts are handed in.
@@ -36,10 +39,10 @@ fn is_handed_in(case: Case, number: u64) -> bool {
     }
 }
 
-fn change(case: Case, receipts: &mut Vec<Receipt>) -> Result<(), Fail> {
+fn change(case: Case, receipts: &mut Vec<Receipt>) -> anyhow::Result<()> {
     receipts.retain(|receipt| is_handed_in(case, receipt.number));
     if case == Case::FourthTwice {
-        let fourth = again(receipts.first().ok_or("a receipt")?)?;
+        let fourth = again(receipts.first().ok_or(anyhow!("no receipt"))?)?;
         receipts.push(fourth)?;
     }
     Ok(())
@@ -56,9 +59,9 @@ struct Found {
 fn told<B: Book, L: CallLedger>(
     fault: Option<CloseFault>,
     kept: &Kept<B, L>,
-) -> Result<Found, Fail> {
-    let first = kept.window().front().ok_or("a call")?.number;
-    let last = kept.window().back().ok_or("a call")?.number;
+) -> anyhow::Result<Found> {
+    let first = kept.window().front().ok_or(anyhow!("no call"))?.number;
+    let last = kept.window().back().ok_or(anyhow!("no call"))?.number;
     let opened = kept.opening().zones().zones().len();
     Ok(Found {
         fault,
@@ -67,14 +70,14 @@ fn told<B: Book, L: CallLedger>(
     })
 }
 
-fn closed<B: Book, L: CallLedger, R: Wait + Abort>(
+fn closed<B: Book, L: CallLedger, R: Wait>(
     rt: &R,
     alloc: Global,
     blank: Blank,
     book: B,
     opening: B,
     case: Case,
-) -> Result<Found, Fail>
+) -> anyhow::Result<Found>
     requires name { blank.name ≡ L.name }
     requires parts { blank.parts ≡ L.parts }
     requires limit { 2 ≡ L.limit }
@@ -83,7 +86,8 @@ fn closed<B: Book, L: CallLedger, R: Wait + Abort>(
     requires fresh { B.stands_for book [] × B.stands_for opening [] }
 {
     let (book, pass) = SharedBook::<B, L>::new(alloc, blank, book, opening, 2)?;
-    let (pass, mut receipts) = call_all(rt, alloc, &book, pass, four_about_zones(alloc)?)?;
+    let events = four_about_zones(alloc, ZoneType::Deny)?;
+    let Handed { pass, mut receipts } = call_all(rt, alloc, &book, pass, events)?;
     change(case, &mut receipts)?;
     match book.close(vec![in alloc; pass]?, receipts) {
         Ok(kept) => told(None, &kept),
@@ -91,13 +95,12 @@ fn closed<B: Book, L: CallLedger, R: Wait + Abort>(
     }
 }
 
-fn closed_as<R: Wait + Abort>(rt: &R, alloc: Global, case: Case) -> Result<Found, Fail> {
-    let (book, opening) = books(alloc, 64, 100)?;
+fn closed_as<R: Wait>(rt: &R, alloc: Global, case: Case) -> anyhow::Result<Found> {
+    let (book, opening) = plain_books(alloc, 64, 100)?;
     closed::<PlainBook, Brand, R>(rt, alloc, Blank::new(1), book, opening, case)
 }
 
-#[test]
-fn a_window_moves_on(rt: HostRuntime) -> Result<(), Fail> {
+fn a_window_moves_on<R: Wait>(rt: &R, checks: &mut Checks, alloc: Global) -> anyhow::Result<()> {
     let cases = [
         (Case::All, None),
         (Case::ThirdAndFourth, None),
@@ -105,13 +108,23 @@ fn a_window_moves_on(rt: HostRuntime) -> Result<(), Fail> {
         (Case::FourthTwice, Some(CloseFault::Mismatch { number: 3 })),
     ];
     for (case, fault) in cases {
-        let told = closed_as(&rt, rt.alloc(), case)?;
+        let told = closed_as(rt, alloc, case)?;
         let expected = Found {
             fault,
             numbers: (3, 4),
             zones: (2, 1),
         };
-        assert!(rt; told == expected);
+        checks.that(told == expected);
     }
     Ok(())
+}
+
+/// Runs the tests of this file.
+pub fn tests<R: Print + Eprint + Wait>(
+    rt: &R,
+    checks: &mut Checks,
+    alloc: Global,
+) -> io::Result<()> {
+    let ended = a_window_moves_on(rt, checks, alloc);
+    checks.end(rt, "shared::moving::a_window_moves_on", ended)
 }

@@ -3,27 +3,28 @@
 ghost use Rattle.std.specs.Prelude.{◌≡◌, []};
 ghost use Rattle.history.specs.Event.{lagging_of};
 
-use crate::books::books;
+use crate::checks::Checks;
+use crate::events::{of_the_second, too_late};
+use crate::handed::Handed;
+use crate::new_books::plain_books;
 use crate::shared::callers::call_all;
 use crate::shared::closing::{Told, told};
-use crate::shared::events::{of_the_second, too_late};
 use history::{Book, StepFault};
 use shared_book::{Blank, CallFault, CallLedger, CloseFault, SharedBook};
 use std::alloc::Global;
+use std::io;
 use std::marker::Brand;
-use std::process::Abort;
 use std::sync::Wait;
-use std::test::*;
 use undo_book::PlainBook;
 
-/// A call that the book refuses, and two that it takes.
-fn refused_and_taken<B: Book, L: CallLedger, R: Wait + Abort>(
+/// The fault of a call that the book refuses, and what closing tells after two more calls.
+fn refused_and_taken<B: Book, L: CallLedger, R: Wait>(
     rt: &R,
     alloc: Global,
     blank: Blank,
     book: B,
     opening: B,
-) -> Result<Told, Fail>
+) -> anyhow::Result<(Option<CallFault>, Told)>
     requires name { blank.name ≡ L.name }
     requires parts { blank.parts ≡ L.parts }
     requires limit { 100 ≡ L.limit }
@@ -33,20 +34,29 @@ fn refused_and_taken<B: Book, L: CallLedger, R: Wait + Abort>(
 {
     let (book, mut pass) = SharedBook::<B, L>::new(alloc, blank, book, opening, 100)?;
     let fault = book.call(rt, &mut pass, too_late(alloc)?).err();
-    assert!(rt; fault == Some(CallFault::Step(StepFault::BadMoment)));
-    let (pass, receipts) = call_all(rt, alloc, &book, pass, of_the_second(alloc)?)?;
-    Ok(told(alloc, book.close(vec![in alloc; pass]?, receipts)))
+    let Handed { pass, receipts } = call_all(rt, alloc, &book, pass, of_the_second(alloc)?)?;
+    Ok((
+        fault,
+        told(alloc, book.close(vec![in alloc; pass]?, receipts)),
+    ))
 }
 
-fn refused_and_taken_as<R: Wait + Abort>(rt: &R, alloc: Global) -> Result<Told, Fail> {
-    let (book, opening) = books(alloc, 64, 100)?;
+fn refused_and_taken_as<R: Wait>(
+    rt: &R,
+    alloc: Global,
+) -> anyhow::Result<(Option<CallFault>, Told)> {
+    let (book, opening) = plain_books(alloc, 64, 100)?;
     refused_and_taken::<PlainBook, Brand, R>(rt, alloc, Blank::new(1), book, opening)
 }
 
-#[test]
-fn a_refused_call_is_not_recorded(rt: HostRuntime) -> Result<(), Fail> {
-    let told = refused_and_taken_as(&rt, rt.alloc())?;
-    assert!(rt; told == (None, 2, Some(CloseFault::Missing { count: 2 })));
+fn a_refused_call_is_not_recorded<R: Wait>(
+    rt: &R,
+    checks: &mut Checks,
+    alloc: Global,
+) -> anyhow::Result<()> {
+    let (fault, told) = refused_and_taken_as(rt, alloc)?;
+    checks.that(fault == Some(CallFault::Step(StepFault::BadMoment)));
+    checks.that(told == (None, 2, Some(CloseFault::Missing { count: 2 })));
     Ok(())
 }
 
@@ -58,7 +68,7 @@ fn seen_by_both<B: Book, L: CallLedger, R: Wait>(
     book: B,
     opening: B,
     in_order: bool,
-) -> Result<u64, Fail>
+) -> anyhow::Result<u64>
     requires name { blank.name ≡ L.name }
     requires parts { blank.parts ≡ L.parts }
     requires limit { 100 ≡ L.limit }
@@ -68,7 +78,11 @@ fn seen_by_both<B: Book, L: CallLedger, R: Wait>(
 {
     let (book, mut one) = SharedBook::<B, L>::new(alloc, blank, book, opening, 100)?;
     let two = book.split(rt, &mut one)?;
-    let (two, _) = call_all(rt, alloc, &book, two, of_the_second(alloc)?)?;
+    let Handed {
+        pass: two,
+        receipts,
+    } = call_all(rt, alloc, &book, two, of_the_second(alloc)?)?;
+    drop(receipts);
     let joined = if in_order {
         book.join(rt, one, two)
     } else {
@@ -77,16 +91,35 @@ fn seen_by_both<B: Book, L: CallLedger, R: Wait>(
     Ok(joined.seen())
 }
 
-fn seen_by_both_as<R: Wait>(rt: &R, alloc: Global, in_order: bool) -> Result<u64, Fail> {
-    let (book, opening) = books(alloc, 64, 100)?;
+fn seen_by_both_as<R: Wait>(rt: &R, alloc: Global, in_order: bool) -> anyhow::Result<u64> {
+    let (book, opening) = plain_books(alloc, 64, 100)?;
     seen_by_both::<PlainBook, Brand, R>(rt, alloc, Blank::new(2), book, opening, in_order)
 }
 
-#[test]
-fn a_joined_pass_has_seen_what_either_had(rt: HostRuntime) -> Result<(), Fail> {
+fn a_joined_pass_has_seen_what_either_had<R: Wait>(
+    rt: &R,
+    checks: &mut Checks,
+    alloc: Global,
+) -> anyhow::Result<()> {
     for in_order in [true, false] {
-        let seen = seen_by_both_as(&rt, rt.alloc(), in_order)?;
-        assert!(rt; seen == 2);
+        let seen = seen_by_both_as(rt, alloc, in_order)?;
+        checks.that(seen == 2);
     }
     Ok(())
+}
+
+/// Runs the tests of this file.
+pub fn tests<R: Print + Eprint + Wait>(
+    rt: &R,
+    checks: &mut Checks,
+    alloc: Global,
+) -> io::Result<()> {
+    let ended = a_refused_call_is_not_recorded(rt, checks, alloc);
+    checks.end(rt, "shared::passes::a_refused_call_is_not_recorded", ended)?;
+    let ended = a_joined_pass_has_seen_what_either_had(rt, checks, alloc);
+    checks.end(
+        rt,
+        "shared::passes::a_joined_pass_has_seen_what_either_had",
+        ended,
+    )
 }

@@ -10,10 +10,8 @@ ghost use Rattle.dns_sockets.specs.Reads.{Reads};
 ghost use Rattle.dns_sockets.specs.Spots.{spot_after, IsOfOneMessage};
 
 use crate::clients::spot::Spot;
-use crate::deadline::{Deadline, begin_wait, glance, is_wait_over};
 use crate::lengths::MOST_FRAMED;
-use crate::stop_flag::StopFlag;
-use crate::timeouts::Timeouts;
+use clock::{Deadline, StopFlag, Timeouts, begin_wait, glance, is_wait_over};
 use std::alloc::Global;
 use std::io;
 use std::io::{BufRead, BufReader, ErrorKind, Read};

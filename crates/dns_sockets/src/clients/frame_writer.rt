@@ -5,9 +5,7 @@ ghost use Rattle.std.specs.Io.KnownBytes.{WriteAppends};
 ghost use Rattle.dns_sockets.specs.Spots.{spot_after, IsOfOneMessage};
 
 use crate::clients::spot::Spot;
-use crate::deadline::{Deadline, begin_wait, glance};
-use crate::stop_flag::{StopFlag, put_off};
-use crate::timeouts::Timeouts;
+use clock::{Deadline, StopFlag, Timeouts, begin_wait, glance, put_off};
 use std::io;
 use std::io::Write;
 use std::rt::Clock;

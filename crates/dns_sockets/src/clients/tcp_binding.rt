@@ -1,7 +1,7 @@
 //! The TCP sockets of the service, and the connection that wakes a worker.
 
 use crate::clients::options::{limit_accept, set_backlog};
-use crate::deadline::glance;
+use clock::glance;
 use mio::net;
 use std::io;
 use std::net::{Net, SocketAddr, TcpListener, TcpStream};

@@ -5,7 +5,7 @@ ghost use Rattle.std.specs.Io.KnownBytes.{Appends};
 ghost use Rattle.arrayvec.specs.ArrayVec.{array_vec_len};
 ghost use Rattle.front_workers.specs.Framing.{framed};
 
-use crate::waiting::{MOST_CALLS, would_wait};
+use crate::call_errors::{MOST_CALLS, would_wait};
 use arrayvec::ArrayVec;
 use std::io;
 use std::io::{ErrorKind, Write};

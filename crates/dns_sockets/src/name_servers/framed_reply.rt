@@ -7,7 +7,7 @@ ghost use Rattle.front_workers.specs.declared.limits.TheConstants.{MOST_MESSAGE}
 ghost use Rattle.front_workers.specs.Framing.{framed};
 ghost use Rattle.dns_sockets.specs.Wanting.{framed_size, octets_wanting, IsWholeFrame};
 
-use crate::waiting::{MOST_CALLS, would_wait};
+use crate::call_errors::{MOST_CALLS, would_wait};
 use front_workers::{MOST_MESSAGE, size_of};
 use std::alloc::Global;
 use std::io;

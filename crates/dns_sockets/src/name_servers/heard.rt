@@ -2,7 +2,7 @@
 
 /// The result of one call that listens to an exchange over UDP.
 #[derive(Clone, Copy, PartialEq, Eq)]
-pub enum Heard {
+pub enum UdpHeard {
     /// Nothing yet.
     Nothing,
     /// The reply, of so many octets.

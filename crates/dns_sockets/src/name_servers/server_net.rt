@@ -4,7 +4,7 @@ ghost use Rattle.std.specs.Prelude.{ℕ, List, ◌≤◌, length, take, IfOk, On
 ghost use Rattle.std.specs.declared.net.SocketAddr.{SocketAddr};
 
 use crate::name_servers::drawn_port::bind_for;
-use crate::timeouts::Timeouts;
+use clock::Timeouts;
 use std::io;
 use std::io::{Read, Write};
 use std::net::{Net, SocketAddr, TcpStream, UdpSocket};

@@ -12,8 +12,9 @@ ghost use Rattle.dns_sockets.specs.Withheld.{IsWithheld};
 ghost use Rattle.front_workers.specs.Counts.{Rises};
 ghost use Rattle.front_workers.specs.declared.device.DeviceFault.TheVariants.{Device};
 
-use crate::deadline::{Deadline, glance};
+use crate::call_errors::MOST_CALLS;
 use crate::lengths::MOST_FRAMED;
+use crate::name_servers::fault_line::{WITHHELD, cause_of, log_exchange};
 use crate::name_servers::fitting::{MOST_MISFITS, fits};
 use crate::name_servers::own::{check_host, check_other, may_be_own};
 use crate::name_servers::place::place_of;
@@ -21,13 +22,12 @@ use crate::name_servers::range::AddressRange;
 use crate::name_servers::server_net::ServerNet;
 use crate::name_servers::timed::Timed;
 use crate::name_servers::withheld::is_withheld;
-use crate::stop_flag::{StopFlag, put_off};
-use crate::waiting::MOST_CALLS;
+use clock::{Deadline, StopFlag, glance, put_off};
 use dns_query::Over;
 use dns_text::{Addr, NoMemory, Octets};
-use front_workers::{DEVICE_FAULT, DeviceFault, Exchange, MOST_MESSAGE, is_dear};
+use front_workers::{DeviceFault, Exchange, MOST_MESSAGE, is_dear};
 use iterate::Hunt;
-use log::{Log, warn};
+use log::Log;
 use std::alloc::Global;
 use std::io;
 use std::io::{ErrorKind, Read, Write};
@@ -43,8 +43,8 @@ use std::rt::Clock;
 ///   does not fit.
 ///
 /// An exchange fails if the reply would take too long to read. One with an address that belongs to no host, with the service itself,
-/// or with a server that is withheld (`is_withheld`), fails at once. Each exchange that fails is logged. Once the stop flag is set each
-/// exchange fails, one under way soon after, unless it is still connecting.
+/// or with a server that is withheld (`is_withheld`), fails at once. Each exchange that fails is logged with its cause, server and
+/// question. Once the stop flag is set each exchange fails, one under way soon after, unless it is still connecting.
 #[derive(Drop)]
 pub struct SocketExchange<'a, R, F: StopFlag> {
     rt: &'a R,
@@ -85,14 +85,14 @@ impl<'a, R, F: StopFlag> SocketExchange<'a, R, F> {
 }
 
 impl<'a, R: Log, F: StopFlag> SocketExchange<'a, R, F> {
-    /// Logs and counts an exchange that failed.
-    fn fail(&mut self) -> DeviceFault
+    /// Logs and counts an exchange that failed by this cause.
+    fn fail(&mut self, cause: &'static str, server: &Addr, query: &[u8]) -> DeviceFault
         ensures fault { result ≡ Device }
         ensures counted { Rises self.old.failures self.new.failures }
         ensures service { self.new.service ≡ self.old.service }
         ensures ranges { self.new.ranges ≡ self.old.ranges }
     {
-        warn!(self.rt; "{DEVICE_FAULT}");
+        log_exchange(self.rt, self.alloc, cause, server, query);
         self.failures = self.failures.saturating_add(1);
         DeviceFault::Device
     }
@@ -260,7 +260,7 @@ impl<'a, R: ServerNet + Clock + Log, F: StopFlag> Exchange for SocketExchange<'a
         query: &[u8],
     ) -> Result<Octets, DeviceFault> {
         if is_withheld(self.ranges, server, hunt) {
-            return Err(self.fail());
+            return Err(self.fail(WITHHELD, server, query));
         }
         match ask_over(
             self.rt,
@@ -275,7 +275,7 @@ impl<'a, R: ServerNet + Clock + Log, F: StopFlag> Exchange for SocketExchange<'a
                 Ok(reply) => Ok(Octets::new(reply)),
                 Err(_) => Err(DeviceFault::NoMemory),
             },
-            Err(_) => Err(self.fail()),
+            Err(error) => Err(self.fail(cause_of(&error), server, query)),
         }
     }
 }

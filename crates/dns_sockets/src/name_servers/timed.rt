@@ -1,9 +1,7 @@
 //! A connection whose calls end by a deadline.
 
-use crate::deadline::{Deadline, glance};
 use crate::name_servers::server_net::ServerNet;
-use crate::stop_flag::{StopFlag, put_off};
-use crate::timeouts::Timeouts;
+use clock::{Deadline, StopFlag, Timeouts, glance, put_off};
 use std::io;
 use std::io::{Read, Write};
 use std::rt::Clock;

@@ -5,16 +5,16 @@ ghost use Rattle.std.specs.declared.net.SocketAddr.{SocketAddr};
 ghost use Rattle.front_workers.specs.declared.limits.TheConstants.{MOST_MESSAGE};
 ghost use Rattle.dns_sockets.specs.Fits.{Fits};
 ghost use Rattle.dns_sockets.specs.Heard.{IfReply};
-ghost use Rattle.dns_sockets.specs.declared.name_servers.heard.Heard.TheVariants.{Misfits, Nothing};
+ghost use Rattle.dns_sockets.specs.declared.name_servers.heard.UdpHeard.TheVariants.{Misfits, Nothing};
 ghost use Rattle.dns_sockets.specs.Datagrams.{EndsByMisfit, HearsNothing, IsStruck, StaysAs};
 ghost use Rattle.dns_sockets.specs.Own.{IsNoLine, MayAsk};
 
+use crate::call_errors::would_wait;
 use crate::name_servers::fitting::{MOST_MISFITS, fits};
-use crate::name_servers::heard::Heard;
+use crate::name_servers::heard::UdpHeard;
 use crate::name_servers::one_socket::OneSocket;
 use crate::name_servers::own::{check_host, check_other, may_be_own};
 use crate::name_servers::ready_net::{ReadyNet, ReadySocket};
-use crate::waiting::would_wait;
 use front_workers::MOST_MESSAGE;
 use mio::{Registry, Token};
 use std::io;
@@ -73,18 +73,18 @@ impl<S: ReadySocket> UdpLine<S> {
     }
 
     /// Counts a datagram that does not fit the query. The poll reports once more what waits after it, unless there were too many.
-    fn strike(&mut self, registry: &Registry, token: Token) -> io::Result<Heard>
+    fn strike(&mut self, registry: &Registry, token: Token) -> io::Result<UdpHeard>
         ensures kept { self.new.socket ≡ self.old.socket }
         ensures counted { self.old.misfits ≤ self.new.misfits }
         ensures heard { IfOk result (λ heard. IsStruck S.reported_again token heard self.old self.new) }
         ensures failed { OnErr result (S.failed self.old.socket) }
     {
         if self.misfits + 1 >= MOST_MISFITS {
-            return Ok(Heard::Misfits);
+            return Ok(UdpHeard::Misfits);
         }
         self.misfits = self.misfits.saturating_add(1);
         self.socket.report_again(registry, token)?;
-        Ok(Heard::Nothing)
+        Ok(UdpHeard::Nothing)
     }
 
     /// Takes a datagram, if one came. If it fits the query, it is the reply, which fills the front of the room. Of `MOST_MISFITS` that do
@@ -95,7 +95,7 @@ impl<S: ReadySocket> UdpLine<S> {
         token: Token,
         query: &[u8],
         room: &mut [u8],
-    ) -> io::Result<Heard>
+    ) -> io::Result<UdpHeard>
         requires { length room.old ≡ MOST_MESSAGE }
         ensures stays { StaysAs S.opened S.reported S.sent self.old.socket self.new.socket × (self.old.misfits ≤ self.new.misfits) }
         ensures few { IfOk result (λ heard. IfReply heard (λ count. count ≤ MOST_MESSAGE)) }
@@ -110,7 +110,7 @@ impl<S: ReadySocket> UdpLine<S> {
         match self.socket.take_datagram(room) {
             Ok(count) => {
                 if fits(query, &room[..count]) {
-                    return Ok(Heard::Reply(count));
+                    return Ok(UdpHeard::Reply(count));
                 }
                 self.strike(registry, token)
             }
@@ -119,7 +119,7 @@ impl<S: ReadySocket> UdpLine<S> {
                     // A signal ended the call. The poll reports once more what waits.
                     self.socket.report_again(registry, token)?;
                 }
-                Ok(Heard::Nothing)
+                Ok(UdpHeard::Nothing)
             }
         }
     }

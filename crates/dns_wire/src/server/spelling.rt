@@ -12,22 +12,22 @@ const SHORT: usize = 46;
 
 /// At most `SHORT` octets: the first `len` of `octets`.
 #[derive(Clone, Copy)]
-struct Inline {
+struct InlineOctets {
     len: u8,
     octets: [u8; SHORT],
     ghost within: { len ≤ SHORT },
 }
 
 #[derive(Drop)]
-enum Storage {
-    Short(Inline),
+enum OctetStorage {
+    Short(InlineOctets),
     Long(Vec<u8>),
 }
 
 /// The octets of a question. They take a block of memory only if they are many.
 #[derive(Drop)]
 pub struct QuestionOctets {
-    storage: Storage,
+    storage: OctetStorage,
 }
 
 impl Model for QuestionOctets {
@@ -42,13 +42,13 @@ impl Model for QuestionOctets {
 
 /// Octets that fit into the value itself.
 #[inline(always)]
-fn run_of(octets: &[u8]) -> Inline
+fn run_of(octets: &[u8]) -> InlineOctets
     requires { length octets.now ≤ SHORT }
     ensures { take result.len result.octets ≡ octets.now }
 {
     let mut room = [0; SHORT];
     room[..octets.len()].copy_from_slice(octets);
-    Inline {
+    InlineOctets {
         len: octets.len() as u8,
         octets: room,
     }
@@ -61,9 +61,9 @@ impl QuestionOctets {
         ensures { IfOk result (λ o. o ≡ octets.now) }
     {
         let storage = if octets.len() <= SHORT {
-            Storage::Short(run_of(octets))
+            OctetStorage::Short(run_of(octets))
         } else {
-            Storage::Long(Vec::from_slice(alloc, octets)?)
+            OctetStorage::Long(Vec::from_slice(alloc, octets)?)
         };
         Ok(QuestionOctets { storage })
     }
@@ -73,8 +73,8 @@ impl QuestionOctets {
         ensures { result.now ≡ self.now }
     {
         match &self.storage {
-            Storage::Short(run) => &run.octets[..usize::from(run.len)],
-            Storage::Long(octets) => octets,
+            OctetStorage::Short(run) => &run.octets[..usize::from(run.len)],
+            OctetStorage::Long(octets) => octets,
         }
     }
 }

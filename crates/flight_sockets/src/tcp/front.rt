@@ -13,8 +13,8 @@ use crate::tcp::client::TcpClient;
 use crate::tcp::client_stream::ClientStream;
 use crate::tcp::connection::Connection;
 use crate::tcp::marks::{MOST_WAITING, Marks};
-use crate::tcp::table::Table;
-use crate::tcp::taken::Taken;
+use crate::tcp::table::ConnectionTable;
+use crate::tcp::taken::TakenMessage;
 use dns_text::NoMemory;
 use flight::ReplyOctets;
 use front_workers::MOST_DATAGRAM;
@@ -42,7 +42,7 @@ const MOST_KEPT: usize = 24 << 20;
 #[derive(Drop)]
 pub(crate) struct TcpFront<S: ClientStream> {
     alloc: Global,
-    table: Table<S>,
+    table: ConnectionTable<S>,
     marks: Marks,
     /// The most connections.
     limit: usize,
@@ -78,7 +78,7 @@ impl<S: ClientStream> TcpFront<S> {
     {
         Ok(TcpFront {
             alloc,
-            table: Table::new(alloc),
+            table: ConnectionTable::new(alloc),
             marks: Marks::new(alloc),
             limit,
             room: Vec::from_elem(alloc, 0u8, ROOM)?,
@@ -164,34 +164,34 @@ impl<S: ClientStream> TcpFront<S> {
     }
 
     /// Takes the next message of a connection, by one call that reads. It ends if that fails, or if the connections would keep too much.
-    pub fn take_message(&mut self, key: usize) -> Taken
+    pub fn take_message(&mut self, key: usize) -> TakenMessage
         ensures { TakesFrom S.reads S.writes key result self.old self.new }
     {
         let Some(mut connection) = self.table.take(key) else {
-            return Taken::Nothing;
+            return TakenMessage::Nothing;
         };
         if !self.may_read(key, &connection) {
             if self.is_wanted(key, &connection) {
                 self.marks.stall(key);
                 self.table.put_back(connection);
             }
-            return Taken::Nothing;
+            return TakenMessage::Nothing;
         }
         let Ok(arrived) = connection.read_next(self.alloc, &mut self.room, self.moment) else {
-            return Taken::Nothing;
+            return TakenMessage::Nothing;
         };
         if !self.may_keep(&connection) {
-            return Taken::Nothing;
+            return TakenMessage::Nothing;
         }
         let serial = connection.serial();
         let network = connection.network();
         self.table.put_back(connection);
         match arrived {
-            Arrived::Nothing => Taken::Nothing,
-            Arrived::Part | Arrived::End => Taken::More,
+            Arrived::Nothing => TakenMessage::Nothing,
+            Arrived::Part | Arrived::End => TakenMessage::More,
             Arrived::Message(message) => {
                 self.marks.wait(key);
-                Taken::Message(serial, network, message)
+                TakenMessage::Message(serial, network, message)
             }
         }
     }

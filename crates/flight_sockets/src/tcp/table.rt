@@ -14,7 +14,7 @@ use std::alloc::Global;
 
 /// The connections of a worker, and the number of the next one.
 #[derive(Drop)]
-pub(crate) struct Table<S: ClientStream> {
+pub(crate) struct ConnectionTable<S: ClientStream> {
     connections: Slab<Connection<S>>,
     next: u64,
     /// The octets of memory that the connections keep beyond what each may keep at rest, together.
@@ -23,13 +23,13 @@ pub(crate) struct Table<S: ClientStream> {
     ghost within: { AreWithin connections.slots beyond },
 }
 
-impl<S: ClientStream> Table<S> {
+impl<S: ClientStream> ConnectionTable<S> {
     /// No connection.
-    pub fn new(alloc: Global) -> Table<S>
+    pub fn new(alloc: Global) -> ConnectionTable<S>
         ensures kept { result.connections.slots ≡ [] }
         ensures next { result.next ≡ 0 }
     {
-        Table {
+        ConnectionTable {
             connections: Slab::new(alloc),
             next: 0,
             beyond: 0,

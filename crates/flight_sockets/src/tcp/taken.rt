@@ -4,7 +4,7 @@ use crate::tcp::begun_message::WholeMessage;
 
 /// The result of one call that takes a message of a connection.
 #[derive(Drop)]
-pub(crate) enum Taken {
+pub(crate) enum TakenMessage {
     /// No message is to be taken of the connection now.
     Nothing,
     /// None yet, but more octets may be there.

@@ -2,7 +2,7 @@
 
 ghost use Rattle.std.specs.Prelude.{◌≡◌, ◌≤◌, IfOk, OnOk};
 ghost use Rattle.front_workers.specs.Counts.{Rises};
-ghost use Rattle.dns_sockets.specs.Moments.{millis_at};
+ghost use Rattle.clock.specs.Moments.{millis_at};
 ghost use Rattle.flight.specs.declared.table.TheConstants.{PATIENCE, QUESTION_PATIENCE};
 ghost use Rattle.flight.specs.declared.kept.TheConstants.{MOST_AT_REST};
 ghost use Rattle.flight.specs.Bounds.{AllGoOn, Relieves, kept_all};
@@ -14,7 +14,7 @@ ghost use Rattle.flight_sockets.specs.Looked.{AllLookedAt, LooksAtAll};
 ghost use Rattle.flight_sockets.specs.Memory.{KeepLittle};
 ghost use Rattle.flight_sockets.specs.Streaming.{BeginsClient, StreamEndsOverdue, StreamGoesOn, fresh_worker};
 
-use crate::asking::Asking;
+use crate::asking::AskingTerms;
 use crate::listener::SERVICE;
 use crate::socket_line::SocketLine;
 use crate::table_seed::TableSeed;
@@ -23,11 +23,11 @@ use crate::tcp::client::TcpClient;
 use crate::tcp::client_stream::ClientStream;
 use crate::tcp::front::{TcpFront, key_of};
 use crate::tcp::listener::{ClientListener, TcpPoll};
-use crate::tcp::taken::Taken;
+use crate::tcp::taken::TakenMessage;
 use crate::turns::{begin_anew, look_all, patience};
 use crate::worker_sockets::WorkerSockets;
-use command_text::Clock;
-use dns_sockets::{Elapsing, MonotonicClock, ReadyNet, would_wait};
+use clock::{Clock, Elapsing, MonotonicClock};
+use dns_sockets::{ReadyNet, would_wait};
 use dns_text::NoMemory;
 use flight::{Flight, Numbered};
 use front_workers::{MOST_DATAGRAM, is_dear, wants_reply};
@@ -63,7 +63,7 @@ pub(crate) type Questions<D, C, G, R, S> = Flight<D, SocketLine<R>, C, G, TcpCli
 
 /// A turn that did not fail. Only `TcpTurns::turn` makes one, so whoever has one took a turn.
 #[derive(Drop)]
-pub(crate) struct TcpTurned {
+pub(crate) struct TcpTurnTaken {
     made: (),
 }
 
@@ -117,7 +117,7 @@ impl<'a, R: ReadyNet + Log + Elapsing + Wait, S: ClientStream, L: ClientListener
         alloc: Global,
         listener: TcpPoll<L>,
         connections: usize,
-        asking: Asking<'a>,
+        asking: AskingTerms<'a>,
         seed: TableSeed,
         start: Instant,
     ) -> Result<TcpTurns<'a, R, S, L>, NoMemory>
@@ -224,7 +224,7 @@ impl<'a, R: ReadyNet + Log + Elapsing + Wait, S: ClientStream, L: ClientListener
         } else {
             questions.begin(desk, &mut self.sockets, now, client, octets);
         }
-        self.sockets.tally.sort();
+        self.sockets.tally.count_hit_or_miss();
     }
 
     /// Takes the next message of a connection, if one has come, and begins its question. Returns whether more may be there.
@@ -239,9 +239,9 @@ impl<'a, R: ReadyNet + Log + Elapsing + Wait, S: ClientStream, L: ClientListener
     {
         let sockets = &mut self.sockets;
         match sockets.outbox.take_message(key) {
-            Taken::Nothing => false,
-            Taken::More => true,
-            Taken::Message(serial, network, message) => {
+            TakenMessage::Nothing => false,
+            TakenMessage::More => true,
+            TakenMessage::Message(serial, network, message) => {
                 let client = TcpClient::new(key, serial, network, &message, desk);
                 self.begin(desk, questions, client, message.as_slice());
                 true
@@ -459,7 +459,7 @@ impl<'a, R: ReadyNet + Log + Elapsing + Wait, S: ClientStream, L: ClientListener
         &mut self,
         desk: &mut D,
         questions: &mut Questions<D, C, G, R, S>,
-    ) -> io::Result<TcpTurned>
+    ) -> io::Result<TcpTurnTaken>
         ensures goes_on { StreamGoesOn S.reads S.writes S.drained questions.old self.old questions.new self.new }
         ensures overdue { OnOk result (StreamEndsOverdue S.reads S.writes S.drained questions.old self.old questions.new self.new) }
     {
@@ -468,7 +468,7 @@ impl<'a, R: ReadyNet + Log + Elapsing + Wait, S: ClientStream, L: ClientListener
         let tended = self.tend();
         self.serve_queued(desk, questions);
         tended?;
-        Ok(TcpTurned { made: () })
+        Ok(TcpTurnTaken { made: () })
     }
 }
 

@@ -12,15 +12,14 @@ ghost use Rattle.flight_sockets.specs.Begun.{none_in_flight};
 ghost use Rattle.flight_sockets.specs.Memory.{KeepLittle};
 ghost use Rattle.flight_sockets.specs.Streaming.{AreAccounted, StreamRuns, fresh_worker};
 
-use crate::asking::Asking;
-use crate::fault_line::cause_of;
+use crate::asking::AskingTerms;
 use crate::table_seed::TableSeed;
 use crate::tally::Tally;
 use crate::tcp::client_stream::ClientStream;
 use crate::tcp::listener::{ClientListener, TcpPoll};
 use crate::tcp::turns::TcpTurns;
-use command_text::Clock;
-use dns_sockets::{Elapsing, ReadyNet, StopFlag, lacks_descriptors};
+use clock::{Clock, Elapsing, StopFlag};
+use dns_sockets::{ReadyNet, cause_of, lacks_descriptors};
 use dns_text::NoMemory;
 use flight::{Flight, Numbered};
 use front_workers::{DEVICE_FAULT, MOST_FAILURES, WORKER_ENDED, WorkEnd};
@@ -61,7 +60,7 @@ impl<'a, R: ReadyNet + Log + Elapsing + Wait, S: ClientStream, L: ClientListener
         alloc: Global,
         listener: TcpPoll<L>,
         connections: usize,
-        asking: Asking<'a>,
+        asking: AskingTerms<'a>,
         seed: TableSeed,
         start: Instant,
     ) -> Result<TcpWorker<'a, R, S, L>, NoMemory>

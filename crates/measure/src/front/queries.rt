@@ -5,7 +5,7 @@ ghost use Rattle.std.specs.Prelude.{◌≡◌};
 use crate::books::filled_book;
 use crate::front::desk::StillDesk;
 use anyhow::anyhow;
-use command_text::Clock;
+use clock::Clock;
 use dns_query::Over;
 use dns_text::{Addr, Octets};
 use dns_wire::{Asked, read_question};

@@ -2,7 +2,7 @@
 
 ghost use Rattle.std.specs.Prelude.{◌≡◌};
 
-use command_text::Clock;
+use clock::Clock;
 
 /// The moment of the next reading.
 #[derive(Drop)]

@@ -4,7 +4,7 @@ use crate::books::DNS_PORT;
 use crate::in_flight::desk::LineDesk;
 use crate::in_flight::sockets::{Peer, Sockets, Wire};
 use crate::stop::Stop;
-use command_text::Clock;
+use clock::Clock;
 use dns_text::Addr;
 use flight::Flight;
 use rand_pcg::Pcg32;

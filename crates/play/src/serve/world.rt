@@ -5,7 +5,7 @@ ghost use Rattle.std.specs.Prelude.{◌≡◌};
 use crate::books::{CELLS, DNS_PORT, book_with};
 use crate::serve::exchange::Servers;
 use crate::stop::Stop;
-use command_text::Clock;
+use clock::Clock;
 use front_workers::Tools;
 use rand_pcg::Pcg32;
 use std::alloc::Global;

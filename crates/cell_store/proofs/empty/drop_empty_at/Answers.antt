@@ -14,32 +14,28 @@ pub returns-clause-cells : goal.returns-clause-cells
 returns-clause-cells c =
     let old = c.args.owners.now in
     let new = c.drop_empty.new.self in
-    same_at old (with_value_at old c.args.place new) c.args.place c.pair_mut-cells.result.0.now c.pair_mut-cells.result.1.now new c.pair_mut-cells.ensures.value refl c.drop_empty.ensures.cells
+    same_at old (with_value_at old c.args.place new) c.args.place c.pair_mut-cells.result.0.now c.pair_mut-cells.result.1.now new c.pair_mut-cells.ensures.value refl c.drop_empty.ensures.same.cells
 
-pub returns-clause-kept : goal.returns-clause-kept
-returns-clause-kept c =
+pub returns-clause-gains : goal.returns-clause-gains
+returns-clause-gains c =
     let old = c.args.owners.now in
     let new = c.drop_empty.new.self in
-    let each = each_at old (with_value_at old c.args.place new) c.args.place c.pair_mut-cells.result.0.now c.pair_mut-cells.result.1.now new c.pair_mut-cells.ensures.value refl in (
-      λ top is name. each (IsUpTo top) (c.drop_empty.ensures.upto top) name (is name),
-      λ number kind name is. each (CanSettle number kind) (c.drop_empty.ensures.settles number kind) name is,
-    )
+    let each = each_at old (with_value_at old c.args.place new) c.args.place c.pair_mut-cells.result.0.now c.pair_mut-cells.result.1.now new c.pair_mut-cells.ensures.value refl in
+    record {
+      upto = λ top is name. each (IsUpTo top) (c.drop_empty.ensures.upto top) name (is name);
+      settles = λ number kind name is. each (CanSettle number kind) (c.drop_empty.ensures.same.settles number kind) name is;
+      pairs = pairs_at old (with_value_at old c.args.place new) c.args.place c.pair_mut-cells.result.0.now c.pair_mut-cells.result.1.now new c.pair_mut-cells.ensures.value refl
+          (λ scope has. sym (c.drop_empty.ensures.same.places.places scope) ∙ has);
+    }
 
 pub returns-clause-counted : goal.returns-clause-counted
 returns-clause-counted c =
     let set = count_set_at c.args.owners.now.entries c.args.place c.pair_mut-cells.result.0.now c.pair_mut-cells.result.1.now c.drop_empty.new.self c.pair_mut-cells.ensures.value in
-    omega (arith, set, c.drop_empty.ensures.places.count)
-
-pub returns-clause-pairs : goal.returns-clause-pairs
-returns-clause-pairs c =
-    let old = c.args.owners.now in
-    let new = c.drop_empty.new.self in
-    pairs_at old (with_value_at old c.args.place new) c.args.place c.pair_mut-cells.result.0.now c.pair_mut-cells.result.1.now new c.pair_mut-cells.ensures.value refl
-    (λ scope has. sym (c.drop_empty.ensures.places.places scope) ∙ has)
+    omega (arith, set, c.drop_empty.ensures.same.places.count)
 
 pub returns-clause-entries : goal.returns-clause-entries
 returns-clause-entries c = stays_at c.args.owners.now.entries c.args.place c.drop_empty.new.self
 
 pub returns-clause-used : goal.returns-clause-used
 returns-clause-used c = λ some.
-    now_used c.args.owners.now.entries c.args.place c.pair_mut-cells.result.0.now c.pair_mut-cells.result.1.now c.drop_empty.new.self c.pair_mut-cells.ensures.value c.drop_empty.ensures.places c.drop_empty.ensures.tidy some
+    now_used c.args.owners.now.entries c.args.place c.pair_mut-cells.result.0.now c.pair_mut-cells.result.1.now c.drop_empty.new.self c.pair_mut-cells.ensures.value c.drop_empty.ensures.same.places c.drop_empty.ensures.tidy some

@@ -41,4 +41,4 @@ loop-place-preserved c =
 
 pub returns-clause-differ : goal.returns-clause-differ
 returns-clause-differ c = λ was.
-    all_differ c.loop-place.versions.items (c.loop-place.invariant.ranked was).0 (λ i d low. c.loop-place.invariant.apart i d (omega arith))
+    all_differ c.loop-place.versions.items (c.loop-place.invariant.drops.ranked was).0 (λ i d low. c.loop-place.invariant.apart i d (omega arith))

@@ -93,15 +93,6 @@ pub overflow_sub-others : goal.overflow_sub-others
 overflow_sub-others c =
     omega (arith, count_found_at c.args.owners.now.entries c.in-Some.place c.pair_mut-cells.result.0.now c.pair_mut-cells.result.1.now c.pair_mut-cells.ensures.value, c.requires.index.0.counted, c.counted.ensures)
 
-pub returns-in-Some-clause-counted : goal.returns-in-Some-clause-counted
-returns-in-Some-clause-counted c =
-    let owners = c.args.owners.now in
-    let key = c.pair_mut-cells.result.0.now in
-    let lent = c.pair_mut-cells.result.1.now in
-    let counted = count_found_at owners.entries c.in-Some.place key lent c.pair_mut-cells.ensures.value in
-    let set = count_set_at owners.entries c.in-Some.place key lent c.admit-result.new.self c.pair_mut-cells.ensures.value in
-    omega (arith, counted, set, c.requires.index.0.counted, c.counted.ensures, c.counted-in-Some.ensures)
-
 pub returns-in-Some-clause-bound : goal.returns-in-Some-clause-bound
 returns-in-Some-clause-bound c =
     let owners = c.args.owners.now in
@@ -112,12 +103,15 @@ returns-in-Some-clause-bound c =
     let new = c.admit-result.new.self in
     let after = with_value_at owners c.in-Some.place new in
     let counted = count_found_at owners.entries c.in-Some.place key lent c.pair_mut-cells.ensures.value in
-    let has : one_if (not (has_place_for owners find)) ≡ one_if (not (has_place lent find.scope)) = ap (λ (o : Option OwnerCells). one_if (not (option_map_or (λ cells. has_place cells find.scope) o false))) there.held in (
-      omega (arith, counted, has, c.requires.index.0.counted, c.admit-result.ensures.count, c.counted.ensures, c.counted-in-Some.ensures),
-      pairs_added owners owners after find.owner key new refl there.same (there.updates new) find.scope
-          (λ scope had. ap (λ (o : Option OwnerCells). scope_eq find.scope scope || option_map_or (λ cells. has_place cells scope) o false) there.held ∙ c.admit-result.ensures.places scope had),
-      there.stays new,
-    )
+    let has : one_if (not (has_place_for owners find)) ≡ one_if (not (has_place lent find.scope)) = ap (λ (o : Option OwnerCells). one_if (not (option_map_or (λ cells. has_place cells find.scope) o false))) there.held in
+    let set = count_set_at owners.entries c.in-Some.place key lent new c.pair_mut-cells.ensures.value in
+    record {
+      counted = omega (arith, counted, set, c.requires.index.0.counted, c.counted.ensures, c.counted-in-Some.ensures);
+      most = omega (arith, counted, has, c.requires.index.0.counted, c.admit-result.ensures.adds.count, c.counted.ensures, c.counted-in-Some.ensures);
+      pairs = pairs_added owners owners after find.owner key new refl there.same (there.updates new) find.scope
+          (λ scope had. ap (λ (o : Option OwnerCells). scope_eq find.scope scope || option_map_or (λ cells. has_place cells scope) o false) there.held ∙ c.admit-result.ensures.adds.places scope had);
+      others = there.stays new;
+    }
 
 pub returns-clause-bound : goal.returns-clause-bound
 returns-clause-bound c =
@@ -127,25 +121,19 @@ returns-clause-bound c =
     let absent : get name_eq owners find.owner ≡ None = none_there (name_eq find.owner) owners.entries (gone ∙ c.requires.index.1) in
     let none : (scope : Scope) → option_map_or (λ cells. has_place cells scope) (get name_eq owners find.owner) false ≡ has_place c.new-cells.result scope =
     λ scope. ap (λ (o : Option OwnerCells). option_map_or (λ cells. has_place cells scope) o false) absent ∙ sym (c.new-cells.ensures.places scope) in
-    let has : one_if (not (has_place_for owners find)) ≡ one_if (not (has_place c.new-cells.result find.scope)) = ap (λ b. one_if (not b)) (none find.scope) in (
-      omega (arith, has, c.new-cells.ensures.count, c.admit.ensures.count, c.counted-counted.ensures),
-      pairs_added owners owners c.insert.new.self find.owner c.in_ok-owner.owner c.admit.new.self refl (c.in_ok-owner.ensures ∙ ap (λ (f : Find). f.owner) c.find-2.ensures) c.in_ok-insert.ensures.updates find.scope
-          (λ scope had. ap (λ b. scope_eq find.scope scope || b) (none scope) ∙ c.admit.ensures.places scope had),
-      stays_put find.owner owners.entries c.admit.new.self absent c.insert.new.self.entries
-          (c.in_ok-insert.ensures.entries ∙ ap (λ (n : Labels). insert_entry name_eq owners.entries n c.admit.new.self) (c.in_ok-owner.ensures ∙ ap (λ (f : Find). f.owner) c.find-2.ensures)),
-    )
-
-pub returns-clause-counted : goal.returns-clause-counted
-returns-clause-counted c =
-    let owners = c.args.owners.now in
-    let find = c.args.find in
-    let gone : None ≡ c.args.place = grind (arith, common_steps) in
-    let absent : get name_eq owners find.owner ≡ None = none_there (name_eq find.owner) owners.entries (gone ∙ c.requires.index.1) in
+    let has : one_if (not (has_place_for owners find)) ≡ one_if (not (has_place c.new-cells.result find.scope)) = ap (λ b. one_if (not b)) (none find.scope) in
     let name : c.in_ok-owner.owner ≡ find.owner = c.in_ok-owner.ensures ∙ ap (λ (f : Find). f.owner) c.find-2.ensures in
     let more = count_insert owners.entries find.owner c.admit.new.self absent in
     let put : count_entries c.insert.new.self.entries ≡ count_entries (insert_entry name_eq owners.entries find.owner c.admit.new.self) =
     ap count_entries c.in_ok-insert.ensures.entries ∙ ap (λ (n : Labels). count_entries (insert_entry name_eq owners.entries n c.admit.new.self)) name in
-    omega (arith, more, put, c.requires.index.0.counted, c.counted-counted.ensures)
+    record {
+      counted = omega (arith, more, put, c.requires.index.0.counted, c.counted-counted.ensures);
+      most = omega (arith, has, c.new-cells.ensures.count, c.admit.ensures.adds.count, c.counted-counted.ensures);
+      pairs = pairs_added owners owners c.insert.new.self find.owner c.in_ok-owner.owner c.admit.new.self refl (c.in_ok-owner.ensures ∙ ap (λ (f : Find). f.owner) c.find-2.ensures) c.in_ok-insert.ensures.updates find.scope
+          (λ scope had. ap (λ b. scope_eq find.scope scope || b) (none scope) ∙ c.admit.ensures.adds.places scope had);
+      others = stays_put find.owner owners.entries c.admit.new.self absent c.insert.new.self.entries
+          (c.in_ok-insert.ensures.entries ∙ ap (λ (n : Labels). insert_entry name_eq owners.entries n c.admit.new.self) (c.in_ok-owner.ensures ∙ ap (λ (f : Find). f.owner) c.find-2.ensures));
+    }
 
 pub admit-result-requires : goal.admit-result-requires
 admit-result-requires c =
@@ -209,7 +197,7 @@ returns-in-Some-clause-named c = λ each.
     let was = used_at owners.entries c.in-Some.place key lent c.pair_mut-cells.ensures.value each in
     each_at owners.entries c.in-Some.place new (
       held_count c.admit-result.result lent new find.scope c.args.top (admission_of find find c.args.moment) c.admit-result.ensures.cells c.admit-result.ensures.err was.0,
-      c.admit-result.ensures.tidy was.1,
+      c.admit-result.ensures.adds.tidy was.1,
     ) each
 
 pub returns-clause-named : goal.returns-clause-named
@@ -218,4 +206,4 @@ returns-clause-named c = λ each.
     let find = c.args.find in
     let new = c.admit.new.self in
     let one = admitted_count c.new-cells.result new find.scope c.args.top (admission_of find find c.args.moment) c.in_ok-admit.ensures.cells in
-    subst (λ (l : List (Labels × OwnerCells)). EachCounts l) (sym c.in_ok-insert.ensures.entries) (each_put c.in_ok-owner.owner owners.entries new (one, c.admit.ensures.tidy c.new-cells.ensures.tidy) each)
+    subst (λ (l : List (Labels × OwnerCells)). EachCounts l) (sym c.in_ok-insert.ensures.entries) (each_put c.in_ok-owner.owner owners.entries new (one, c.admit.ensures.adds.tidy c.new-cells.ensures.tidy) each)

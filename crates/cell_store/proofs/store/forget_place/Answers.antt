@@ -17,11 +17,17 @@ overflow_sub-stored c =
 pub returns-clause-cells : goal.returns-clause-cells
 returns-clause-cells c = forgot_cells c.args.owners.now c.swap_remove_full.new.self c.args.owner.now c.swap_remove_full.ensures.updates
 
-pub returns-clause-upto : goal.returns-clause-upto
-returns-clause-upto c = λ top is name. forgot_each c.args.owners.now c.swap_remove_full.new.self c.args.owner.now c.swap_remove_full.ensures.updates (IsUpTo top) name (is name)
-
-pub returns-clause-settles : goal.returns-clause-settles
-returns-clause-settles c = λ n k name settles. forgot_each c.args.owners.now c.swap_remove_full.new.self c.args.owner.now c.swap_remove_full.ensures.updates (CanSettle n k) name settles
+pub returns-clause-gains : goal.returns-clause-gains
+returns-clause-gains c =
+    let old = c.args.owners.now in
+    let new = c.swap_remove_full.new.self in
+    let owner = c.args.owner.now in
+    let updates = c.swap_remove_full.ensures.updates in
+    record {
+      upto = λ top is name. forgot_each old new owner updates (IsUpTo top) name (is name);
+      settles = λ n k name settles. forgot_each old new owner updates (CanSettle n k) name settles;
+      pairs = forgot_pairs old new owner updates;
+    }
 
 pub returns-clause-counted : goal.returns-clause-counted
 returns-clause-counted c =
@@ -35,20 +41,20 @@ returns-clause-fewer c =
     let gone = count_removed (name_eq c.args.owner.now) c.args.owners.now.entries c.in_ok-place.cells held in
     rw held ((omega (arith, gone, c.requires.counted, c.counted.ensures), omega (arith, gone, c.requires.counted, c.counted.ensures)))
 
-pub returns-clause-pairs : goal.returns-clause-pairs
-returns-clause-pairs c = forgot_pairs c.args.owners.now c.swap_remove_full.new.self c.args.owner.now c.swap_remove_full.ensures.updates
-
 pub returns-in_err-place-clause-cells : goal.returns-in_err-place-clause-cells
 returns-in_err-place-clause-cells c = forgot_cells c.args.owners.now c.swap_remove_full.new.self c.args.owner.now c.swap_remove_full.ensures.updates
 
-pub returns-in_err-place-clause-upto : goal.returns-in_err-place-clause-upto
-returns-in_err-place-clause-upto c = λ top is name. forgot_each c.args.owners.now c.swap_remove_full.new.self c.args.owner.now c.swap_remove_full.ensures.updates (IsUpTo top) name (is name)
-
-pub returns-in_err-place-clause-settles : goal.returns-in_err-place-clause-settles
-returns-in_err-place-clause-settles c = λ n k name settles. forgot_each c.args.owners.now c.swap_remove_full.new.self c.args.owner.now c.swap_remove_full.ensures.updates (CanSettle n k) name settles
-
-pub returns-in_err-place-clause-pairs : goal.returns-in_err-place-clause-pairs
-returns-in_err-place-clause-pairs c = forgot_pairs c.args.owners.now c.swap_remove_full.new.self c.args.owner.now c.swap_remove_full.ensures.updates
+pub returns-in_err-place-clause-gains : goal.returns-in_err-place-clause-gains
+returns-in_err-place-clause-gains c =
+    let old = c.args.owners.now in
+    let new = c.swap_remove_full.new.self in
+    let owner = c.args.owner.now in
+    let updates = c.swap_remove_full.ensures.updates in
+    record {
+      upto = λ top is name. forgot_each old new owner updates (IsUpTo top) name (is name);
+      settles = λ n k name settles. forgot_each old new owner updates (CanSettle n k) name settles;
+      pairs = forgot_pairs old new owner updates;
+    }
 
 pub returns-in_err-place-clause-fewer : goal.returns-in_err-place-clause-fewer
 returns-in_err-place-clause-fewer c =

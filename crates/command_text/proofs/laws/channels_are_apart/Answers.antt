@@ -15,4 +15,4 @@ returns-clause-control c = (unknown Control _ refl, (unknown Control _ refl, (un
 
 pub returns-clause-script : goal.returns-clause-script
 unfolding by_word
-returns-clause-script c = unknown Script _ refl
+returns-clause-script c = (unknown Script _ refl, (unknown Script _ refl, (unknown Script _ refl, tt)))

@@ -4,7 +4,7 @@ use Rattle.flight_sockets.proofs.kept.make_room.Goals as goal
 
 pub returns-clause-room : goal.returns-clause-room
 returns-clause-room g c =
-    freed g.K.PartialEq.eq g.V.Ends.until c.args.most c.args.now c.args.kept.now c.swap_remove_index.new.self c.in-Some.place c.swap_remove_index.result
+    freed g.K.PartialEq.eq g.V.Expires.until c.args.most c.args.now c.args.kept.now c.swap_remove_index.new.self c.in-Some.place c.swap_remove_index.result
     (omega arith) c.in-Some.ensures c.swap_remove_index.ensures.entry c.swap_remove_index.ensures.updates
 
 pub returns-clause-made : goal.returns-clause-made

@@ -1,7 +1,8 @@
 use Rattle.std.proofs.Common.{◌≡◌, ◌<◌}
 use Rattle.dns_query.specs.declared.over.Over.TheVariants.{Tcp}
 use Rattle.front_workers.specs.Stream.{serving, lacking}
-use Rattle.front_workers.specs.Working.{connections, streaming, Streamed, Works, HasFailed}
+use Rattle.front_workers.specs.TcpWorking.{connections, streaming, Streamed}
+use Rattle.front_workers.specs.Working.{Works, HasFailed}
 use Rattle.front_workers.proofs.tcp_worker.work_tcp.Given as goal
 
 -- the connections so far were served

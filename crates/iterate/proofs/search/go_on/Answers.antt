@@ -1,5 +1,5 @@
 use Rattle.std.proofs.Common.{◌≡◌, ◌<◌, [], ap, sym, ◌∙◌, subst, rules}
-use Rattle.iterate.specs.declared.search.Move.{Move}
+use Rattle.iterate.specs.declared.search.NextMove.{NextMove}
 use Rattle.iterate.specs.Hunting.{IsNextStep, IsTried}
 use Rattle.dns_query.specs.declared.over.Over.TheVariants.{Udp}
 use Rattle.iterate.specs.Measure.{left_of_search}
@@ -16,7 +16,7 @@ use Rattle.iterate.proofs.search.go_on.Goals as goal
 pub returns-in-Ask-clause-goes : goal.returns-in-Ask-clause-goes
 returns-in-Ask-clause-goes g c = λ port question log s o.
     let at = c.going.invariant.going port question log s o in
-    let next = subst (λ (n : Move). IsNextStep c.going.current n) c.in-Ask.is c.in_ok-server.ensures in
+    let next = subst (λ (n : NextMove). IsNextStep c.going.current n) c.in-Ask.is c.in_ok-server.ensures in
     let behind = g.R.Rng.stream c.ask.new.ids in
     let here : g.R.Rng.stream c.going.ids ≡ g.R.Rng.stream c.args.ids.now = cc in
     let same : drawing (g.R.Rng.stream c.going.ids) behind ≡ drawing (g.R.Rng.stream c.args.ids.now) behind = ap (λ (s : Stream). drawing s behind) here in
@@ -25,7 +25,7 @@ returns-in-Ask-clause-goes g c = λ port question log s o.
 pub returns-in-Seek-clause-goes : goal.returns-in-Seek-clause-goes
 returns-in-Seek-clause-goes g c = λ port question log s o.
     let at = c.going.invariant.going port question log s o in
-    let next = subst (λ (n : Move). IsNextStep c.going.current n) c.in-Seek.is c.in_ok-server.ensures in
+    let next = subst (λ (n : NextMove). IsNextStep c.going.current n) c.in-Seek.is c.in_ok-server.ensures in
     let stream = g.R.Rng.stream c.going.ids in
     let here : stream ≡ g.R.Rng.stream c.args.ids.now = cc in
     from_more_ok port question log c.args.moment c.seek.result (ap (λ (s : Stream). drawing s stream) here) (at_most (left_of_search c.args.search 4))
@@ -33,13 +33,13 @@ returns-in-Seek-clause-goes g c = λ port question log s o.
 
 pub going-smaller-in-Pass : goal.going-smaller-in-Pass
 going-smaller-in-Pass g c =
-    let next = subst (λ (n : Move). IsNextStep c.going.current n) c.in-Pass.is c.in_ok-server.ensures in
+    let next = subst (λ (n : NextMove). IsNextStep c.going.current n) c.in-Pass.is c.in_ok-server.ensures in
     hunts_fall c.going.current.frames.items c.in_ok-current-in-Pass.current.frames.items c.going.current.base c.in_ok-current-in-Pass.current.base []
     (next_within (hunt_of c.going.current).sought (hunt_of c.going.current).servers.missing next.0 next.1.rest next.1.next) c.in_ok-current-in-Pass.ensures.supplied
 
 pub going-preserved-in-Pass : goal.going-preserved-in-Pass
 going-preserved-in-Pass g c =
-    let next = subst (λ (n : Move). IsNextStep c.going.current n) c.in-Pass.is c.in_ok-server.ensures in
+    let next = subst (λ (n : NextMove). IsNextStep c.going.current n) c.in-Pass.is c.in_ok-server.ensures in
     record {
       same = c.going.invariant.same;
       first = λ server rest is. absurd (asked_not (hunt_of c.going.current) server rest (subst (λ (x : Search). IsNextServer x server rest) (sym (c.going.invariant.first server rest is)) is) next.3);
@@ -52,7 +52,7 @@ going-preserved-in-Pass g c =
 pub returns-then-is_outermost-clause-goes : goal.returns-then-is_outermost-clause-goes
 returns-then-is_outermost-clause-goes g c = λ port question log s o.
     let at = c.going.invariant.going port question log s o in
-    let next = subst (λ (n : Move). IsNextStep c.going.current n) c.in-Close.is c.in_ok-server.ensures in
+    let next = subst (λ (n : NextMove). IsNextStep c.going.current n) c.in-Close.is c.in_ok-server.ensures in
     let none : c.going.current.frames.items ≡ [] = c.if-is_outermost.ensures.outermost (search rules) in
     let stream = g.R.Rng.stream c.going.ids in
     let here : stream ≡ g.R.Rng.stream c.args.ids.now = cc in
@@ -61,7 +61,7 @@ returns-then-is_outermost-clause-goes g c = λ port question log s o.
 
 pub going-preserved : goal.going-preserved
 going-preserved g c =
-    let next = subst (λ (n : Move). IsNextStep c.going.current n) c.in-Close.is c.in_ok-server.ensures in record {
+    let next = subst (λ (n : NextMove). IsNextStep c.going.current n) c.in-Close.is c.in_ok-server.ensures in record {
       same = c.going.invariant.same;
       first = λ server rest is. absurd (asked_not (hunt_of c.going.current) server rest (subst (λ (x : Search). IsNextServer x server rest) (sym (c.going.invariant.first server rest is)) is) next.0);
       going = λ port question log s o.
@@ -71,17 +71,17 @@ going-preserved g c =
 
 pub returns-in-Ask-clause-asks : goal.returns-in-Ask-clause-asks
 returns-in-Ask-clause-asks g c = λ server rest is few.
-    let next = subst (λ (n : Move). IsNextStep c.going.current n) c.in-Ask.is c.in_ok-server.ensures in
+    let next = subst (λ (n : NextMove). IsNextStep c.going.current n) c.in-Ask.is c.in_ok-server.ensures in
     let same = c.going.invariant.first server rest is in
     let there = subst (λ (x : Search). IsNextServer x server rest) (sym same) is in
     asks_same Udp c.ask.result (same_first (sym next.1 ∙ there)) (c.ask.ensures.query (subst (λ (x : Search). x.path.sent < 64) (sym same) few))
 
 pub returns-in-Seek-clause-asks : goal.returns-in-Seek-clause-asks
 returns-in-Seek-clause-asks g c = λ server rest is few.
-    let next = subst (λ (n : Move). IsNextStep c.going.current n) c.in-Seek.is c.in_ok-server.ensures in
+    let next = subst (λ (n : NextMove). IsNextStep c.going.current n) c.in-Seek.is c.in_ok-server.ensures in
     absurd (asked_not (hunt_of c.going.current) server rest (subst (λ (x : Search). IsNextServer x server rest) (sym (c.going.invariant.first server rest is)) is) next.2)
 
 pub returns-then-is_outermost-clause-asks : goal.returns-then-is_outermost-clause-asks
 returns-then-is_outermost-clause-asks g c = λ server rest is few.
-    let next = subst (λ (n : Move). IsNextStep c.going.current n) c.in-Close.is c.in_ok-server.ensures in
+    let next = subst (λ (n : NextMove). IsNextStep c.going.current n) c.in-Close.is c.in_ok-server.ensures in
     absurd (asked_not (hunt_of c.going.current) server rest (subst (λ (x : Search). IsNextServer x server rest) (sym (c.going.invariant.first server rest is)) is) next.0)

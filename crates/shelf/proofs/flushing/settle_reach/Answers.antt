@@ -1,4 +1,4 @@
-use Rattle.std.proofs.Common.{ℕ, List, [], ◌∷◌, ◌++◌, length, sym, ap, ◌∙◌, arith}
+use Rattle.std.proofs.Common.{ℕ, List, [], ◌∷◌, length, sym, ap, ◌∙◌, arith}
 use Rattle.std.specs.Prelude.{◌==◌, ◌&&◌}
 use Rattle.std.specs.List.{list_any}
 use Rattle.dns_name.specs.Below.{is_at_or_below}
@@ -8,13 +8,14 @@ use Rattle.ranked.specs.declared.flush.Reach.{Reach}
 use Rattle.cell_store.specs.Owner.{after_settle}
 use Rattle.dns_name.specs.Labels.{Labels}
 use Rattle.shelf.specs.declared.settling.Settling.{Settling}
-use Rattle.shelf.specs.Settling.{joining, without_outdone}
-use Rattle.shelf.proofs.FaceLaws.{covers_below, covers_name, covers_one, settles_each}
+use Rattle.shelf.specs.Settling.{joined_to, joining}
+use Rattle.shelf.proofs.FaceLaws.{covers_below, covers_name, covers_one}
+use Rattle.shelf.proofs.LosingLaws.{lose_no_cells}
 use Rattle.shelf.proofs.SettlingLaws.{doubt_items, doubt_moved, moved_like, moved_then}
 use Rattle.shelf.proofs.flushing.settle_reach.Goals as goal
 
 abbrev joins : (reach : Reach) (zone : Labels) (number names : ℕ) (was : List Settling) → List Settling
-joins reach zone number names was = let own : Settling = joining reach zone number names in without_outdone own.zone own.number was ++ own ∷ []
+joins reach zone number names was = joined_to (joining reach zone number names) was
 
 pub returns-in-OneType-clause-moved : goal.returns-in-OneType-clause-moved
 returns-in-OneType-clause-moved c = λ top older upto is.
@@ -25,13 +26,10 @@ returns-in-OneType-clause-moved c = λ top older upto is.
     let first = doubt_moved c.root.result top was now owners (c.settle_zone.ensures.moved top (omega arith) upto is) in
     moved_then (λ q v. after_settle (covers c.args.flush q) c.args.number v) top was now now owners owners c.settle_name.new.owners first
     (moved_like (λ q v. after_settle (name_eq c.args.flush.name q.owner && list_any (λ own. own == q.kind) (c.in-OneType.kind ∷ [])) c.args.number v) (λ q v. after_settle (covers c.args.flush q) c.args.number v) top now now
-    owners c.settle_name.new.owners (λ q v. ap (λ b. after_settle b c.args.number v) (sym (covers_one flush c.in-OneType.kind q c.in-OneType.is))) (c.settle_name.ensures.moved top now first.upto first.settling))
+    owners c.settle_name.new.owners (λ q v. ap (λ b. after_settle b c.args.number v) (sym (covers_one flush c.in-OneType.kind q c.in-OneType.is))) (c.settle_name.ensures.moved now top first.upto first.settling))
 
-pub returns-in-OneType-clause-settles : goal.returns-in-OneType-clause-settles
-returns-in-OneType-clause-settles c = λ kept all. settles_each c.args.owners.now c.settle_name.new.owners kept c.settle_name.ensures.settles all
-
-pub returns-in-OneType-clause-counted : goal.returns-in-OneType-clause-counted
-returns-in-OneType-clause-counted c = c.settle_name.ensures.counted
+pub returns-in-OneType-clause-lost : goal.returns-in-OneType-clause-lost
+returns-in-OneType-clause-lost c = c.settle_name.ensures.lost
 
 pub returns-in-OneType-clause-space : goal.returns-in-OneType-clause-space
 returns-in-OneType-clause-space c = c.settle_zone.ensures.room
@@ -55,13 +53,10 @@ returns-in-Name-clause-moved c = λ top older upto is.
     (λ q v.
     ap (λ (kinds : List ℕ). after_settle (name_eq c.args.flush.name q.owner && list_any (λ own. own == q.kind) kinds) c.args.number v) c.flushed_types.ensures
     ∙ ap (λ b. after_settle b c.args.number v) (sym (covers_name flush q c.in-Name.is)))
-    (c.settle_name-in-Name.ensures.moved top now first.upto first.settling))
+    (c.settle_name-in-Name.ensures.moved now top first.upto first.settling))
 
-pub returns-in-Name-clause-settles : goal.returns-in-Name-clause-settles
-returns-in-Name-clause-settles c = λ kept all. settles_each c.args.owners.now c.settle_name-in-Name.new.owners kept c.settle_name-in-Name.ensures.settles all
-
-pub returns-in-Name-clause-counted : goal.returns-in-Name-clause-counted
-returns-in-Name-clause-counted c = c.settle_name-in-Name.ensures.counted
+pub returns-in-Name-clause-lost : goal.returns-in-Name-clause-lost
+returns-in-Name-clause-lost c = c.settle_name-in-Name.ensures.lost
 
 pub returns-in-Name-clause-space : goal.returns-in-Name-clause-space
 returns-in-Name-clause-space c = c.settle_zone-in-Name.ensures.room
@@ -78,11 +73,8 @@ returns-in-Zone-clause-moved c = λ top older upto is.
     moved_like (λ q v. after_settle (is_at_or_below q.owner flush.name) c.args.number v) (λ q v. after_settle (covers flush q) c.args.number v) top c.args.settlings.now.items c.settle_zone-in-Zone.new.settlings.items c.args.owners.now c.args.owners.now
     (λ q v. ap (λ b. after_settle b c.args.number v) (sym (covers_below flush q c.in-Zone.is))) (c.settle_zone-in-Zone.ensures.moved top older upto is)
 
-pub returns-in-Zone-clause-settles : goal.returns-in-Zone-clause-settles
-returns-in-Zone-clause-settles c = λ kept all. all
-
-pub returns-in-Zone-clause-counted : goal.returns-in-Zone-clause-counted
-returns-in-Zone-clause-counted c = (c.requires.counted.0, omega arith, λ each. each)
+pub returns-in-Zone-clause-lost : goal.returns-in-Zone-clause-lost
+returns-in-Zone-clause-lost c = lose_no_cells c.args.owners.now c.args.stored.now c.args.ends.now c.requires.tallied.counted c.requires.tallied.size
 
 pub returns-in-Zone-clause-space : goal.returns-in-Zone-clause-space
 returns-in-Zone-clause-space c = c.settle_zone-in-Zone.ensures.room

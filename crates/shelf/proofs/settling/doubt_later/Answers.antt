@@ -1,25 +1,36 @@
-use Rattle.std.proofs.Common.{◌<◌, length, ◌∙◌, arith}
+use Rattle.std.proofs.Common.{◌<◌, length, refl, ◌∙◌, arith}
 use Rattle.shelf.specs.Settling.{doubting, most_settling, without_outdone}
 use Rattle.shelf.proofs.EndLaws.{ends_mixed}
-use Rattle.shelf.proofs.SettlingLaws.{doubt_items, doubt_moved, doubt_versions}
+use Rattle.shelf.proofs.SettlingLaws.{doubt_items, doubt_moved, doubt_versions, moved_same}
 use Rattle.shelf.proofs.LeftLaws.{doubted_room, pushed_left}
 use Rattle.shelf.proofs.UsefulLaws.{useful_joined}
 use Rattle.shelf.proofs.settling.doubt_later.Goals as goal
 
-pub returns-clause-ends : goal.returns-clause-ends
-returns-clause-ends c = c.doubt_all.ensures.ends
+pub returns-clause-doubt : goal.returns-clause-doubt
+returns-clause-doubt c =
+    let names = length c.args.owners.now.entries in
+    record {
+      ends = c.doubt_all.ensures.ends;
+      left = omega (
+        arith,
+        c.doubt_all.ensures.left,
+        pushed_left (doubting names) (without_outdone (doubting names).zone 0 c.args.settlings.now.items) c.settle_zone.new.settlings.items
+            (doubt_items c.root.result names c.args.settlings.now.items c.settle_zone.new.settlings.items c.root.ensures c.settle_zone.ensures.items),
+      );
+    }
 
 pub returns-clause-moved : goal.returns-clause-moved
 returns-clause-moved c = λ top upto all. doubt_moved c.root.result top c.args.settlings.now.items c.settle_zone.new.settlings.items c.args.owners.now (c.settle_zone.ensures.moved top (omega arith) upto all)
 
 pub returns-clause-room : goal.returns-clause-room
 returns-clause-room c =
-    let names = length c.args.owners.now.entries in (
-      c.settle_zone.ensures.room.0,
-      c.settle_zone.ensures.room.1,
-      useful_joined (doubting names) c.args.settlings.now.items c.settle_zone.new.settlings.items (doubt_items c.root.result names c.args.settlings.now.items c.settle_zone.new.settlings.items c.root.ensures c.settle_zone.ensures.items),
-      λ few. omega (arith, c.settle_zone.ensures.room.0, c.len.ensures, c.if-len-ge-MOST_SETTLING.false),
-    )
+    let names = length c.args.owners.now.entries in
+    record {
+      more = c.settle_zone.ensures.room;
+      useful = useful_joined (doubting names) c.args.settlings.now.items c.settle_zone.new.settlings.items
+          (doubt_items c.root.result names c.args.settlings.now.items c.settle_zone.new.settlings.items c.root.ensures c.settle_zone.ensures.items);
+      short = λ few. omega (arith, c.settle_zone.ensures.room.0, c.len.ensures, c.if-len-ge-MOST_SETTLING.false);
+    }
 
 pub returns-clause-items : goal.returns-clause-items
 returns-clause-items c = λ space.
@@ -27,20 +38,19 @@ returns-clause-items c = λ space.
     let few : length c.args.settlings.now.items < most_settling = omega (arith, c.len.ensures, c.if-len-ge-MOST_SETTLING.false) in
     doubt_items c.root.result names c.args.settlings.now.items c.settle_zone.new.settlings.items c.root.ensures c.settle_zone.ensures.items ∙ doubted_room names c.args.settlings.now.items few
 
-pub returns-clause-doubt : goal.returns-clause-doubt
-returns-clause-doubt c =
-    let names = length c.args.owners.now.entries in
-    omega (
-      arith,
-      c.doubt_all.ensures.left,
-      pushed_left (doubting names) (without_outdone (doubting names).zone 0 c.args.settlings.now.items) c.settle_zone.new.settlings.items
-          (doubt_items c.root.result names c.args.settlings.now.items c.settle_zone.new.settlings.items c.root.ensures c.settle_zone.ensures.items),
-    )
-
 pub returns-clause-versions : goal.returns-clause-versions
 returns-clause-versions c =
     let names = length c.args.owners.now.entries in
     doubt_versions names c.args.settlings.now.items c.settle_zone.new.settlings.items (doubt_items c.root.result names c.args.settlings.now.items c.settle_zone.new.settlings.items c.root.ensures c.settle_zone.ensures.items)
 
-pub returns-then-len-ge-MOST_SETTLING-clause-ends : goal.returns-then-len-ge-MOST_SETTLING-clause-ends
-returns-then-len-ge-MOST_SETTLING-clause-ends c = λ kept more is. ends_mixed kept more c.args.owners.now.entries c.args.ends.now c.end_mixed.new.ends is (c.end_mixed.ensures.evened is.flags)
+pub returns-then-len-ge-MOST_SETTLING-clause-doubt : goal.returns-then-len-ge-MOST_SETTLING-clause-doubt
+returns-then-len-ge-MOST_SETTLING-clause-doubt c = record {
+  ends = λ kept more is. ends_mixed kept more c.args.owners.now.entries c.args.ends.now c.end_mixed.new.ends is (c.end_mixed.ensures.evened is.flags);
+  left = omega (arith, c.end_mixed.ensures.left);
+}
+
+pub returns-then-len-ge-MOST_SETTLING-clause-moved : goal.returns-then-len-ge-MOST_SETTLING-clause-moved
+returns-then-len-ge-MOST_SETTLING-clause-moved c = λ top upto all. moved_same top c.args.settlings.now.items c.args.owners.now upto all
+
+pub returns-then-len-ge-MOST_SETTLING-clause-room : goal.returns-then-len-ge-MOST_SETTLING-clause-room
+returns-then-len-ge-MOST_SETTLING-clause-room c = record { more = (omega arith, refl); useful = λ is. is; short = λ few. few }

@@ -5,7 +5,7 @@ use Rattle.std.proofs.Math.ListN.{length-set}
 use Rattle.dns_name.specs.Labels.{Labels}
 use Rattle.cell_store.specs.declared.owner.OwnerCells.{OwnerCells}
 use Rattle.cell_store.specs.Count.{count_of}
-use Rattle.cell_store.specs.Store.{IsDroppedAt}
+use Rattle.cell_store.specs.Store.{AreSameCells, IsDroppedAt}
 use Rattle.shelf.specs.declared.lasts.Lasts.{Lasts}
 use Rattle.shelf.specs.Lasts.{IsShaped}
 use Rattle.shelf.specs.Sweep.{count_ended}
@@ -14,7 +14,7 @@ use Rattle.shelf.proofs.EndLaws.{ends_put}
 use Rattle.shelf.proofs.ListLaws.{get_some}
 use Rattle.shelf.proofs.NamedLaws.{each_gone, each_kept}
 use Rattle.shelf.proofs.SettlingLaws.{same_length}
-use Rattle.shelf.proofs.SweepLaws.{less_left}
+use Rattle.shelf.proofs.SweepLaws.{gain_twice, less_left}
 use Rattle.shelf.proofs.VisitLaws.{ended_drop, ended_fewer, ended_more}
 use Rattle.shelf.proofs.WinnerLaws.{alike, shaped_same}
 use Rattle.shelf.proofs.settling.drop_or_end.Goals as goal
@@ -32,35 +32,39 @@ swap_remove-requires c = record {
 }
 
 -- the name goes
-pub returns-then-drop_if_uncounted-clause-reached : goal.returns-then-drop_if_uncounted-clause-reached
-returns-then-drop_if_uncounted-clause-reached c = λ zone number left is.
+pub returns-then-drop_if_uncounted-clause-tidied : goal.returns-then-drop_if_uncounted-clause-tidied
+returns-then-drop_if_uncounted-clause-tidied c =
     let olds = c.args.owners.now.entries in
-    let gone : IsDroppedAt c.args.place c.args.owners.now.entries c.drop_if_uncounted.new.owners.entries true =
+    let news = c.drop_if_uncounted.new.owners in
+    let place = c.args.place in
+    let gone : IsDroppedAt place c.args.owners.now.entries c.drop_if_uncounted.new.owners.entries true =
     subst (λ b. IsDroppedAt c.args.place c.args.owners.now.entries c.drop_if_uncounted.new.owners.entries b) c.if-drop_if_uncounted.true c.drop_if_uncounted.ensures.entries in
-    let there : slice_get c.args.owners.now.entries c.args.place ≡ Some (get_or c.args.owners.now.entries c.args.place gone.0) = get_some olds c.args.place gone.0 c.requires.low in
-    dropped_reached c.args.owners.now c.drop_if_uncounted.new.owners c.args.place (get_or olds c.args.place gone.0) gone.0 c.requires.low there gone.1 c.drop_if_uncounted.ensures.cells
-    (gone_at olds c.drop_if_uncounted.new.owners c.args.place (get_or olds c.args.place gone.0) c.drop_if_uncounted.result there c.if-drop_if_uncounted.true c.drop_if_uncounted.ensures.gone) zone number left is
-
-pub returns-then-drop_if_uncounted-clause-ends : goal.returns-then-drop_if_uncounted-clause-ends
-returns-then-drop_if_uncounted-clause-ends c = λ kept before stay is.
-    let gone : IsDroppedAt c.args.place c.args.owners.now.entries c.drop_if_uncounted.new.owners.entries true =
-    subst (λ b. IsDroppedAt c.args.place c.args.owners.now.entries c.drop_if_uncounted.new.owners.entries b) c.if-drop_if_uncounted.true c.drop_if_uncounted.ensures.entries in
-    let low : c.args.place < length before = omega (arith, c.requires.low, same_length before c.args.owners.now.entries stay.names) in
-    ends_gone before c.args.owners.now.entries c.drop_if_uncounted.new.owners.entries c.args.place gone.0 low stay.others stay.names gone.1 kept c.args.ends.now c.drop_at.new.ends c.swap_remove.new.self
-    c.drop_at.ensures.by c.swap_remove.ensures.ends c.swap_remove.ensures.winners is
-
-pub returns-then-drop_if_uncounted-clause-size : goal.returns-then-drop_if_uncounted-clause-size
-returns-then-drop_if_uncounted-clause-size c =
-    let gone : IsDroppedAt c.args.place c.args.owners.now.entries c.drop_if_uncounted.new.owners.entries true =
-    subst (λ b. IsDroppedAt c.args.place c.args.owners.now.entries c.drop_if_uncounted.new.owners.entries b) c.if-drop_if_uncounted.true c.drop_if_uncounted.ensures.entries in
-    let names = swapped_size c.args.owners.now.entries c.args.place gone.0 in
-    let moments = swapped_size c.args.ends.now.moments c.args.place 0 in
-    let seconds = swapped_size c.drop_at.new.ends.lasts.ends.items c.args.place 0 in (
-      omega (arith, ap length gone.1, names, ap length c.drop_at.ensures.by.moments, moments, c.requires.size.0),
-      c.drop_at.ensures.by.flags,
-      omega (arith, ap length gone.1, names, ap length c.swap_remove.ensures.ends, seconds, ap length c.drop_at.ensures.by.lasts.0, c.requires.size.2),
-      c.swap_remove.ensures.shape,
-    )
+    let there : slice_get c.args.owners.now.entries c.args.place ≡ Some (get_or c.args.owners.now.entries c.args.place gone.0) = get_some olds place gone.0 c.requires.low in
+    record {
+      cells = c.drop_if_uncounted.ensures.cells;
+      gains = (less_left [] 0 c.args.owners.now news c.drop_if_uncounted.ensures.cells c.drop_if_uncounted.ensures.left).gains;
+      counted = c.drop_if_uncounted.ensures.counted;
+      reached = λ zone number left is.
+          dropped_reached c.args.owners.now news place (get_or olds place gone.0) gone.0 c.requires.low there gone.1 c.drop_if_uncounted.ensures.cells
+          (gone_at olds news place (get_or olds place gone.0) c.drop_if_uncounted.result there c.if-drop_if_uncounted.true c.drop_if_uncounted.ensures.gone) zone number left is;
+      ends = λ kept before stay is.
+          let low : c.args.place < length before = omega (arith, c.requires.low, same_length before c.args.owners.now.entries stay.names) in
+          ends_gone before olds news.entries place gone.0 low stay.others stay.names gone.1 kept c.args.ends.now c.drop_at.new.ends c.swap_remove.new.self
+          c.drop_at.ensures.by c.swap_remove.ensures.ends c.swap_remove.ensures.winners is;
+      named = λ before stay each.
+          let size = same_length before c.args.owners.now.entries stay.names in
+          let low : c.args.place < length before = omega (arith, c.requires.low, size) in
+          each_gone before olds news.entries c.args.ends.now.moments place gone.0 low stay.others stay.names gone.1 (c.requires.size.0 ∙ size) each;
+      size =
+          let names = swapped_size c.args.owners.now.entries c.args.place gone.0 in
+          let moments = swapped_size c.args.ends.now.moments c.args.place 0 in
+          let seconds = swapped_size c.drop_at.new.ends.lasts.ends.items c.args.place 0 in (
+            omega (arith, ap length gone.1, names, ap length c.drop_at.ensures.by.moments, moments, c.requires.size.0),
+            c.drop_at.ensures.by.flags,
+            omega (arith, ap length gone.1, names, ap length c.swap_remove.ensures.ends, seconds, ap length c.drop_at.ensures.by.lasts.0, c.requires.size.2),
+            c.swap_remove.ensures.shape,
+          );
+    }
 
 pub returns-then-drop_if_uncounted-clause-ended : goal.returns-then-drop_if_uncounted-clause-ended
 returns-then-drop_if_uncounted-clause-ended c = (
@@ -77,50 +81,43 @@ drop_empty_at-requires c =
     let stays : IsDroppedAt c.args.place c.args.owners.now.entries c.drop_if_uncounted.new.owners.entries false =
     subst (λ b. IsDroppedAt c.args.place c.args.owners.now.entries c.drop_if_uncounted.new.owners.entries b) c.if-drop_if_uncounted.false c.drop_if_uncounted.ensures.entries in
     let less = less_left [] 0 c.args.owners.now c.drop_if_uncounted.new.owners c.drop_if_uncounted.ensures.cells c.drop_if_uncounted.ensures.left in
-    record { low = omega (arith, c.requires.low, ap length stays.0); top = (c.requires.top.0, less.upto c.requires.top.0 c.requires.top.1) }
+    record { low = omega (arith, c.requires.low, ap length stays.0); top = (c.requires.top.0, less.gains.upto c.requires.top.0 c.requires.top.1) }
 
-pub returns-clause-cells : goal.returns-clause-cells
-returns-clause-cells c = λ q v. c.drop_empty_at.ensures.cells q v ∙ c.drop_if_uncounted.ensures.cells q v
-
-pub returns-clause-kept : goal.returns-clause-kept
-returns-clause-kept c =
-    let less = less_left [] 0 c.args.owners.now c.drop_if_uncounted.new.owners c.drop_if_uncounted.ensures.cells c.drop_if_uncounted.ensures.left in (
-      λ top is. c.drop_empty_at.ensures.kept.0 top (less.upto top is),
-      λ number kind name is. c.drop_empty_at.ensures.kept.1 number kind name (less.settles number kind name is),
-      λ pair has. less.pairs pair (c.drop_empty_at.ensures.pairs pair has),
-    )
-
-pub returns-clause-counted : goal.returns-clause-counted
-returns-clause-counted c = c.drop_empty_at.ensures.counted ∙ c.drop_if_uncounted.ensures.counted
-
-pub returns-clause-reached : goal.returns-clause-reached
-returns-clause-reached c = λ zone number left is.
+pub returns-clause-tidied : goal.returns-clause-tidied
+returns-clause-tidied c =
+    let olds = c.args.owners.now in
+    let middle = c.drop_if_uncounted.new.owners in
+    let news = c.drop_empty_at.new.owners in
+    let place = c.args.place in
     let stays : IsDroppedAt c.args.place c.args.owners.now.entries c.drop_if_uncounted.new.owners.entries false =
     subst (λ b. IsDroppedAt c.args.place c.args.owners.now.entries c.drop_if_uncounted.new.owners.entries b) c.if-drop_if_uncounted.false c.drop_if_uncounted.ensures.entries in
+    let less = less_left [] 0 olds middle c.drop_if_uncounted.ensures.cells c.drop_if_uncounted.ensures.left in
     let names = c.drop_empty_at.ensures.entries.names ∙ ap keys_of stays.0 in
-    same_reached c.args.owners.now c.drop_empty_at.new.owners names (λ q v. c.drop_empty_at.ensures.cells q v ∙ c.drop_if_uncounted.ensures.cells q v) zone number left is
-
-pub returns-clause-ends : goal.returns-clause-ends
-returns-clause-ends c = λ kept before stay is.
-    let stays : IsDroppedAt c.args.place c.args.owners.now.entries c.drop_if_uncounted.new.owners.entries false =
-    subst (λ b. IsDroppedAt c.args.place c.args.owners.now.entries c.drop_if_uncounted.new.owners.entries b) c.if-drop_if_uncounted.false c.drop_if_uncounted.ensures.entries in
-    let names = c.drop_empty_at.ensures.entries.names ∙ ap keys_of stays.0 in
-    let low : c.args.place < length before = omega (arith, c.requires.low, same_length before c.args.owners.now.entries stay.names) in
-    ends_put kept before c.drop_empty_at.new.owners.entries c.args.ends.now c.put.new.ends c.args.place is
-    (λ i off. c.drop_empty_at.ensures.entries.others i off ∙ (ap (λ (l : List (Labels × OwnerCells)). slice_get l i) stays.0 ∙ stay.others i off)) (names ∙ stay.names) low
-    (record { moments = c.put.ensures.moments; unmixed = c.put.ensures.unmixed; sure = c.put.ensures.sure; left = c.put.ensures.left.0; flags = c.put.ensures.flags; lasts = alike c.put.new.ends.lasts c.args.ends.now.lasts c.put.ensures.lasts })
-
-pub returns-clause-size : goal.returns-clause-size
-returns-clause-size c =
-    let stays : IsDroppedAt c.args.place c.args.owners.now.entries c.drop_if_uncounted.new.owners.entries false =
-    subst (λ b. IsDroppedAt c.args.place c.args.owners.now.entries c.drop_if_uncounted.new.owners.entries b) c.if-drop_if_uncounted.false c.drop_if_uncounted.ensures.entries in
-    let names = c.drop_empty_at.ensures.entries.names ∙ ap keys_of stays.0 in
-    let size = same_length c.args.owners.now.entries c.drop_empty_at.new.owners.entries names in (
-      ap length c.put.ensures.moments ∙ (length-set c.args.ends.now.moments c.args.place 0 ∙ (c.requires.size.0 ∙ sym size)),
-      c.put.ensures.flags,
-      ap (λ (l : Lasts). length l.ends.items) c.put.ensures.lasts ∙ (c.requires.size.2 ∙ sym size),
-      subst (λ (l : Lasts). IsShaped l) (sym c.put.ensures.lasts) c.requires.size.3,
-    )
+    let cells : AreSameCells c.args.owners.now c.drop_empty_at.new.owners = λ q v. c.drop_empty_at.ensures.cells q v ∙ c.drop_if_uncounted.ensures.cells q v in
+    record {
+      cells = cells;
+      gains = gain_twice olds middle news less.gains c.drop_empty_at.ensures.gains;
+      counted = c.drop_empty_at.ensures.counted ∙ c.drop_if_uncounted.ensures.counted;
+      reached = λ zone number left is. same_reached olds news names cells zone number left is;
+      ends = λ kept before stay is.
+          let low : c.args.place < length before = omega (arith, c.requires.low, same_length before c.args.owners.now.entries stay.names) in
+          ends_put kept before news.entries c.args.ends.now c.put.new.ends place is
+          (λ i off. c.drop_empty_at.ensures.entries.others i off ∙ (ap (λ (l : List (Labels × OwnerCells)). slice_get l i) stays.0 ∙ stay.others i off)) (names ∙ stay.names) low
+          (record { moments = c.put.ensures.moments; unmixed = c.put.ensures.unmixed; sure = c.put.ensures.sure; left = c.put.ensures.left.0; flags = c.put.ensures.flags; lasts = alike c.put.new.ends.lasts c.args.ends.now.lasts c.put.ensures.lasts });
+      named = λ before stay each.
+          let size = same_length before c.drop_empty_at.new.owners.entries (names ∙ stay.names) in
+          let low : c.args.place < length before = omega (arith, c.requires.low, same_length before c.args.owners.now.entries stay.names) in
+          let some = subst (λ (l : List (Labels × OwnerCells)). IfSome (slice_get l c.args.place) (λ e. 1 ≤ count_of e.1)) (sym stays.0) stays.1 in
+          each_kept before news.entries c.args.ends.now.moments place (c.requires.size.0 ∙ same_length before c.args.owners.now.entries stay.names)
+          (λ i off. c.drop_empty_at.ensures.entries.others i off ∙ (ap (λ (l : List (Labels × OwnerCells)). slice_get l i) stays.0 ∙ stay.others i off)) size low (c.drop_empty_at.ensures.used some) each;
+      size =
+          let same = same_length c.args.owners.now.entries c.drop_empty_at.new.owners.entries names in (
+            ap length c.put.ensures.moments ∙ (length-set c.args.ends.now.moments place 0 ∙ (c.requires.size.0 ∙ sym same)),
+            c.put.ensures.flags,
+            ap (λ (l : Lasts). length l.ends.items) c.put.ensures.lasts ∙ (c.requires.size.2 ∙ sym same),
+            subst (λ (l : Lasts). IsShaped l) (sym c.put.ensures.lasts) c.requires.size.3,
+          );
+    }
 
 pub returns-clause-ended : goal.returns-clause-ended
 returns-clause-ended c = (
@@ -131,27 +128,3 @@ returns-clause-ended c = (
       (omega (arith, more), omega (arith, fewer))),
   c.put.ensures.left,
 )
-
-pub returns-then-drop_if_uncounted-clause-named : goal.returns-then-drop_if_uncounted-clause-named
-returns-then-drop_if_uncounted-clause-named c = λ before stay each.
-    let gone : IsDroppedAt c.args.place c.args.owners.now.entries c.drop_if_uncounted.new.owners.entries true =
-    subst (λ b. IsDroppedAt c.args.place c.args.owners.now.entries c.drop_if_uncounted.new.owners.entries b) c.if-drop_if_uncounted.true c.drop_if_uncounted.ensures.entries in
-    let size = same_length before c.args.owners.now.entries stay.names in
-    let low : c.args.place < length before = omega (arith, c.requires.low, size) in
-    each_gone before c.args.owners.now.entries c.drop_if_uncounted.new.owners.entries c.args.ends.now.moments c.args.place gone.0 low stay.others stay.names gone.1 (c.requires.size.0 ∙ size) each
-
-pub returns-clause-named : goal.returns-clause-named
-returns-clause-named c = λ before stay each.
-    let stays : IsDroppedAt c.args.place c.args.owners.now.entries c.drop_if_uncounted.new.owners.entries false =
-    subst (λ b. IsDroppedAt c.args.place c.args.owners.now.entries c.drop_if_uncounted.new.owners.entries b) c.if-drop_if_uncounted.false c.drop_if_uncounted.ensures.entries in
-    let names = c.drop_empty_at.ensures.entries.names ∙ ap keys_of stays.0 in
-    let size = same_length before c.drop_empty_at.new.owners.entries (names ∙ stay.names) in
-    let low : c.args.place < length before = omega (arith, c.requires.low, same_length before c.args.owners.now.entries stay.names) in
-    let some = subst (λ (l : List (Labels × OwnerCells)). IfSome (slice_get l c.args.place) (λ e. 1 ≤ count_of e.1)) (sym stays.0) stays.1 in
-    each_kept before c.drop_empty_at.new.owners.entries c.args.ends.now.moments c.args.place (c.requires.size.0 ∙ same_length before c.args.owners.now.entries stay.names)
-    (λ i off. c.drop_empty_at.ensures.entries.others i off ∙ (ap (λ (l : List (Labels × OwnerCells)). slice_get l i) stays.0 ∙ stay.others i off)) size low (c.drop_empty_at.ensures.used some) each
-
-pub returns-then-drop_if_uncounted-clause-kept : goal.returns-then-drop_if_uncounted-clause-kept
-returns-then-drop_if_uncounted-clause-kept c =
-    let less = less_left [] 0 c.args.owners.now c.drop_if_uncounted.new.owners c.drop_if_uncounted.ensures.cells c.drop_if_uncounted.ensures.left in
-    (less.upto, less.settles, less.pairs)

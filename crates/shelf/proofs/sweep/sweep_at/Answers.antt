@@ -26,7 +26,7 @@ returns-clause-counted c =
 pub returns-clause-fewer : goal.returns-clause-fewer
 returns-clause-fewer c =
     let found = count_found_at c.args.owners.now.entries c.args.place c.pair_mut-cells.result.0.now c.pair_mut-cells.result.1.now c.pair_mut-cells.ensures.value in
-    omega (arith, found, c.requires.counted, c.sweep_name.ensures.swept.lost.count, c.counted-2.ensures, c.counted.ensures)
+    omega (arith, found, c.requires.counted, c.sweep_name.ensures.swept.lost.gains.count, c.counted-2.ensures, c.counted.ensures)
 
 pub sweep_name-requires-clause-top : goal.sweep_name-requires-clause-top
 sweep_name-requires-clause-top c = top_at c.args.owners.now c.args.place c.pair_mut-cells.result.0.now c.pair_mut-cells.result.1.now c.pair_mut-cells.ensures.unique c.pair_mut-cells.ensures.value c.requires.top

@@ -1,6 +1,6 @@
 use Rattle.std.proofs.Common.{◌≡◌, ◌∙◌, None, arith}
 use Rattle.std.proofs.lemmas.Grind.{common_steps}
-use Rattle.shelf.proofs.VisitLaws.{all_alive, each_clean, ended_zero, later_zero, when_none}
+use Rattle.shelf.proofs.VisitLaws.{all_alive, each_clean, ended_zero, later_zero, tallied_on, when_none}
 use Rattle.shelf.proofs.sweep.sweep_ended.Goals as goal
 
 pub loop-place-preserved : goal.loop-place-preserved
@@ -20,8 +20,5 @@ returns-clause-none c =
     let none : c.first_ended.result ≡ None = grind (arith, common_steps) in
     ended_zero c.args.asked c.loop-place.ends.moments (later_zero c.loop-place.ends.moments c.args.asked (when_none c.first_ended.result none c.first_ended.ensures.none))
 
-pub visit-requires-clause-lasts : goal.visit-requires-clause-lasts
-visit-requires-clause-lasts c = let winners = c.loop-place.invariant.underway.ends.winners in (winners.size, winners.shape)
-
-pub visit-requires-clause-counted : goal.visit-requires-clause-counted
-visit-requires-clause-counted c = let is = c.loop-place.invariant.underway in (is.counted, (c.requires.top.0, is.less.upto c.requires.top.0 c.requires.top.1))
+pub visit-requires-clause-tallied : goal.visit-requires-clause-tallied
+visit-requires-clause-tallied c = tallied_on c.args.kept.now c.args.moment c.args.asked c.args.stored.now c.loop-place.stored c.args.owners.now c.loop-place.owners c.loop-place.ends c.requires.top c.loop-place.invariant.underway

@@ -1,18 +1,24 @@
-use Rattle.std.proofs.Common.{◌≤◌, ◌∙◌, arith}
+use Rattle.std.proofs.Common.{◌≤◌, refl, ◌∙◌, arith}
 use Rattle.std.proofs.lemmas.List.{get_or_default}
 use Rattle.winner_tree.specs.Tree.{HasEnded, moment_at}
 use Rattle.cell_store.specs.Ends.{latest}
-use Rattle.shelf.proofs.VisitLaws.{all_alive, each_clean, ended_zero, later_zero, when_none, when_some}
+use Rattle.shelf.proofs.VisitLaws.{all_alive, each_clean, ended_zero, later_zero, start, tallied_on, when_none, when_some}
 use Rattle.shelf.proofs.sweep.sweep_few.Goals as goal
 
-pub returns-in-None-clause-alive : goal.returns-in-None-clause-alive
-returns-in-None-clause-alive c = λ last.
-    let later = later_zero c.loop-left.ends.moments c.args.moment (when_none c.first_ended.result c.in-None.is c.first_ended.ensures.none) in
-    all_alive c.args.kept.now c.args.moment c.loop-left.owners (each_clean c.args.kept.now c.args.moment c.args.moment c.loop-left.owners.entries c.loop-left.ends.moments c.loop-left.invariant.underway.due later)
+pub loop-left-init : goal.loop-left-init
+loop-left-init c = record {
+  underway = start c.args.kept.now c.args.moment c.args.owners.now c.args.ends.now c.args.stored.now c.requires.ready;
+  fewer = omega arith;
+  capacity = refl;
+}
 
-pub returns-in-None-clause-none : goal.returns-in-None-clause-none
-returns-in-None-clause-none c = λ last.
-    ended_zero c.args.moment c.loop-left.ends.moments (later_zero c.loop-left.ends.moments c.args.moment (when_none c.first_ended.result c.in-None.is c.first_ended.ensures.none))
+pub visit-requires-clause-low : goal.visit-requires-clause-low
+visit-requires-clause-low c =
+    let ended = when_some (HasEnded c.loop-left.ends.moments c.args.moment) c.first_ended.result c.in-Some.place c.in-Some.is c.first_ended.ensures.some in
+    omega (arith, ended.0, c.loop-left.invariant.underway.so_far.ends.size)
+
+pub visit-requires-clause-tallied : goal.visit-requires-clause-tallied
+visit-requires-clause-tallied c = tallied_on c.args.kept.now c.args.moment c.args.moment c.args.stored.now c.loop-left.stored c.args.owners.now c.loop-left.owners c.loop-left.ends c.requires.ready.top c.loop-left.invariant.underway
 
 pub loop-left-preserved : goal.loop-left-preserved
 loop-left-preserved c =
@@ -26,14 +32,15 @@ loop-left-preserved c =
       capacity = c.visit.ensures.capacity ∙ c.loop-left.invariant.capacity;
     }
 
-pub visit-requires-clause-lasts : goal.visit-requires-clause-lasts
-visit-requires-clause-lasts c = let winners = c.loop-left.invariant.underway.ends.winners in (winners.size, winners.shape)
+pub returns-in-None-clause-swept : goal.returns-in-None-clause-swept
+returns-in-None-clause-swept c = c.loop-left.invariant.underway.so_far
 
-pub returns-in-None-clause-counted : goal.returns-in-None-clause-counted
-returns-in-None-clause-counted c = let is = c.loop-left.invariant.underway in (is.counted, is.fewer, is.named)
+pub returns-in-None-clause-none : goal.returns-in-None-clause-none
+returns-in-None-clause-none c = λ last.
+    let later = later_zero c.loop-left.ends.moments c.args.moment (when_none c.first_ended.result c.in-None.is c.first_ended.ensures.none) in (
+      ended_zero c.args.moment c.loop-left.ends.moments later,
+      all_alive c.args.kept.now c.args.moment c.loop-left.owners (each_clean c.args.kept.now c.args.moment c.args.moment c.loop-left.owners.entries c.loop-left.ends.moments c.loop-left.invariant.underway.due later),
+    )
 
-pub returns-clause-counted : goal.returns-clause-counted
-returns-clause-counted c = let is = c.loop-left.invariant.underway in (is.counted, is.fewer, is.named)
-
-pub visit-requires-clause-counted : goal.visit-requires-clause-counted
-visit-requires-clause-counted c = let is = c.loop-left.invariant.underway in (is.counted, (c.requires.top.0, is.less.upto c.requires.top.0 c.requires.top.1))
+pub returns-clause-swept : goal.returns-clause-swept
+returns-clause-swept c = c.loop-left.invariant.underway.so_far

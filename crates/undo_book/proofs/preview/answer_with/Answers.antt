@@ -10,6 +10,6 @@ pub returns : goal.returns
 returns c =
     let q = c.args.question.now in
     IfOk-weaker c.to_seen.result _ _ (λ seen is.
-    is ∙ c.sight.ensures
+    is ∙ c.question_sight.ensures
     ∙ ap (λ (t : Tables). seen_first (local_of t.local q) (seen_by (shows_with c.args.past.now c.args.ticket c.args.struck c.args.moment q))) c.in_ok-tables.ensures)
     c.to_seen.ensures

@@ -16,7 +16,7 @@ use Rattle.world_book.proofs.seen.seen.Goals as goal
 pub returns-in_ok-seen-in-Answer : goal.returns-in_ok-seen-in-Answer
 returns-in_ok-seen-in-Answer g c = λ bound moment past is tied.
     let same = tied_shows g.C.World.World g.met.C.World.World.shows c.args.world.now c.args.journal.now bound past c.undone-undone.ensures.sound tied in
-    c.in_ok-seen-in-Answer.ensures ∙ c.sight.ensures
+    c.in_ok-seen-in-Answer.ensures ∙ c.question_sight.ensures
     ∙ answer_tells c.args.settings.now past (g.C.World.World.shown c.args.world.now) c.tables-tables.result.now moment c.args.clock (g.C.World.CellSource.shows_at c.args.world.now c.args.clock) c.in-Answer.question
     c.tables-tables.ensures (g.met.C.World.BookWorld.as_shown c.args.world.now c.args.clock) is same
     ∙ sym (ap (λ (a : Ask). seen_of c.args.settings.now past a moment) c.in-Answer.is)

@@ -16,15 +16,8 @@ forget_before-requires c = record { starts = starts_seen c.self.inside.finds c.s
 pub release-requires : goal.release-requires
 release-requires c = record {
   few = omega (arith, few_finds c.self.inside.versions.items (length c.self.inside.finds) c.self.invariant.named, c.self.invariant.short);
-  within = c.forget_before.ensures.within (length c.self.inside.finds) c.self.invariant.within;
+  within = c.forget_before.ensures.drops.within (length c.self.inside.finds) c.self.invariant.within;
 }
-
-pub returns-clause-places : goal.returns-clause-places
-returns-clause-places c =
-    let low : c.args.number ≤ c.self.inside.upto = omega (arith, ap (λ (s : Cells). s.upto) c.self.view_is) in
-    subst (λ (old : Cells). (v : ℕ) → place_in (cells_of c.release.new.versions c.release.new.finds c.self.inside.upto) v ≡ place_in old (max c.args.number v)) c.self.view_is
-    (forgotten (cells_of c.self.inside.versions c.self.inside.finds c.self.inside.upto) c.self.inside.versions.items c.forget_before.new.versions.items c.release.new.versions.items c.self.inside.finds c.release.new.finds c.args.number
-    (cells_of c.release.new.versions c.release.new.finds c.self.inside.upto) refl refl refl low c.forget_before.ensures.places c.release.ensures.same)
 
 pub invariant_of-self : goal.invariant_of-self
 invariant_of-self c =
@@ -32,17 +25,25 @@ invariant_of-self c =
     record {
       within = c.release.ensures.within;
       named = c.release.ensures.named;
-      ranked = c.release.ensures.ranked (c.forget_before.ensures.ranked c.self.invariant.ranked);
+      ranked = c.release.ensures.ranked (c.forget_before.ensures.drops.ranked c.self.invariant.ranked);
       differ = c.release.ensures.differ (c.forget_before.ensures.differ c.self.invariant.differ);
-      short = omega (arith, lengths, c.forget_before.ensures.fewer, c.self.invariant.short);
+      short = omega (arith, lengths, c.forget_before.ensures.drops.fewer, c.self.invariant.short);
       starts = subst (λ (l : List (Version Find)). IsFromStart l) (sym c.release.ensures.same) (seen_starts c.self.inside.finds c.forget_before.new.versions.items c.forget_before.ensures.starts.0);
     }
 
-pub returns-clause-counted : goal.returns-clause-counted
-returns-clause-counted c = λ is.
+pub returns : goal.returns
+returns c =
     let finds = c.self.inside.finds in
-    let old = counted_seen finds c.self.inside.versions.items c.self.invariant.within in
     let forgot = c.forget_before.new.versions.items in
-    let new = counted_seen finds forgot (c.forget_before.ensures.within (length finds) c.self.invariant.within) in
-    let here : list_any has_find forgot ≡ true = sym new ∙ (ap (list_any has_find) (sym c.release.ensures.same) ∙ is) in
-    sym (ap is_counted c.self.view_is) ∙ (old ∙ c.forget_before.ensures.finds here)
+    let low : c.args.number ≤ c.self.inside.upto = omega (arith, ap (λ (s : Cells). s.upto) c.self.view_is) in
+    record {
+      places = subst (λ (old : Cells). (v : ℕ) → place_in (cells_of c.release.new.versions c.release.new.finds c.self.inside.upto) v ≡ place_in old (max c.args.number v)) c.self.view_is
+          (forgotten (cells_of c.self.inside.versions finds c.self.inside.upto) c.self.inside.versions.items forgot c.release.new.versions.items finds c.release.new.finds c.args.number
+          (cells_of c.release.new.versions c.release.new.finds c.self.inside.upto) refl refl refl low c.forget_before.ensures.places c.release.ensures.same);
+      upto = ap (λ (s : Cells). s.upto) c.self.view_is;
+      counted = λ is.
+          let old = counted_seen finds c.self.inside.versions.items c.self.invariant.within in
+          let new = counted_seen finds forgot (c.forget_before.ensures.drops.within (length finds) c.self.invariant.within) in
+          let here : list_any has_find forgot ≡ true = sym new ∙ (ap (list_any has_find) (sym c.release.ensures.same) ∙ is) in
+          sym (ap is_counted c.self.view_is) ∙ (old ∙ c.forget_before.ensures.drops.finds here);
+    }

@@ -29,7 +29,7 @@ release-requires c =
     subst (λ (l : List (Version ℕ)). AllByRecursion (IsWithin slots) l) (sym c.reach.ensures) (reached_within slots c.self.inside.upto c.args.top c.self.inside.versions.items c.self.invariant.within) in
     record {
       few = omega (arith, few_finds c.self.inside.versions.items slots c.self.invariant.named, c.self.invariant.short, ap length c.push.ensures, length-append c.self.inside.finds (c.args.find ∷ []));
-      within = c.merge.ensures.within (length c.push.new.self) (admit_within c.self.inside.finds c.push.new.self c.reach.new.versions.items c.admit_each.new.versions.items c.args.find c.find.result.now c.len-slot.result c.args.moment c.args.outranked
+      within = c.merge.ensures.drops.within (length c.push.new.self) (admit_within c.self.inside.finds c.push.new.self c.reach.new.versions.items c.admit_each.new.versions.items c.args.find c.find.result.now c.len-slot.result c.args.moment c.args.outranked
           within (omega arith) c.push.ensures c.admit_each.ensures);
     }
 
@@ -87,7 +87,7 @@ invariant_of-self c =
       named = c.release.ensures.named;
       starts = subst (λ (l : List (Version Find)). IsFromStart l) (sym c.release.ensures.same)
           (seen_starts c.push.new.self c.merge.new.versions.items (c.merge.ensures.starts (starts_seen c.push.new.self c.admit_each.new.versions.items after)));
-      ranked = c.release.ensures.ranked (c.merge.ensures.ranked afters);
+      ranked = c.release.ensures.ranked (c.merge.ensures.drops.ranked afters);
       differ = c.release.ensures.differ (c.merge.ensures.differ afters);
-      short = omega (arith, lengths, short c.merge.new.versions.items (c.merge.ensures.ranked afters) (c.merge.ensures.differ afters));
+      short = omega (arith, lengths, short c.merge.new.versions.items (c.merge.ensures.drops.ranked afters) (c.merge.ensures.differ afters));
     }

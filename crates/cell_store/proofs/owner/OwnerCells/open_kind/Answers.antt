@@ -9,15 +9,10 @@ use Rattle.std.specs.Option.{option_map_or}
 use Rattle.ranked.specs.declared.find.Scope.TheVariants.{One, Whole}
 use Rattle.ranked.specs.declared.find.Scope.{Scope}
 use Rattle.cell_store.proofs.CountLaws.{count_push, place_push}
+use Rattle.cell_store.proofs.OpenLaws.{opens_none, opens_same}
 use Rattle.cell_store.proofs.OwnLaws.{upto_push}
 use Rattle.cell_store.proofs.OwnerLaws.{held_push, push_place}
 use Rattle.cell_store.proofs.owner.OwnerCells.open_kind.Goals as goal
-
-pub returns-clause-cells : goal.returns-clause-cells
-returns-clause-cells c = λ k v.
-    let items = c.push_reserved.ensures.items ∙ ap (λ (l : List KindColumn). l ++ record { kind = c.args.kind; column = c.in_ok-column.column } ∷ []) c.reserve_exact.ensures.items in
-    ap (λ (l : List KindColumn). column_held c.args.self.now.whole (column_of l k) v) items
-    ∙ held_push c.args.self.now.whole c.args.self.now.kinds.items c.args.kind c.in_ok-column.column c.requires.fresh c.in_ok-column.ensures.cells k v
 
 pub returns-clause-opened : goal.returns-clause-opened
 returns-clause-opened c =
@@ -29,21 +24,20 @@ returns-clause-opened c =
           (push_place c.args.self.now.kinds.items c.args.kind c.in_ok-column.column c.requires.fresh)),
     )
 
-pub returns-clause-settles : goal.returns-clause-settles
-returns-clause-settles c = λ n k settles.
-    let items = c.push_reserved.ensures.items ∙ ap (λ (l : List KindColumn). l ++ record { kind = c.args.kind; column = c.in_ok-column.column } ∷ []) c.reserve_exact.ensures.items in
-    subst (λ (l : List KindColumn). CanSettleColumn n c.args.self.now.whole (column_of l k)) (sym items)
-    (settles_push c.args.self.now.whole c.args.self.now.kinds.items c.args.kind c.in_ok-column.column c.requires.fresh n k settles)
-
-pub returns-clause-upto : goal.returns-clause-upto
-returns-clause-upto c =
-    let items = c.push_reserved.ensures.items ∙ ap (λ (l : List KindColumn). l ++ record { kind = c.args.kind; column = c.in_ok-column.column } ∷ []) c.reserve_exact.ensures.items in
-    upto_push c.args.top c.args.self.now _ c.args.kind c.in_ok-column.column refl items c.requires.fresh c.in_ok-column.ensures.upto c.in_ok-column.ensures.left c.in_ok-column.ensures.counted c.requires.upto
-
-pub returns-clause-places : goal.returns-clause-places
-returns-clause-places c = record {
-  count = ap (λ n. one_if (is_some c.args.self.now.whole) + n) (ap count_kinds items ∙ count_push c.args.self.now.kinds.items own c.in_ok-column.ensures.counted);
-  places = split;
+pub returns-clause-opens : goal.returns-clause-opens
+returns-clause-opens c = record {
+  same = record {
+    cells = λ k v. ap (λ (l : List KindColumn). column_held c.args.self.now.whole (column_of l k) v) items
+        ∙ held_push c.args.self.now.whole c.args.self.now.kinds.items c.args.kind c.in_ok-column.column c.requires.fresh c.in_ok-column.ensures.cells k v;
+    places = record {
+      count = ap (λ n. one_if (is_some c.args.self.now.whole) + n) (ap count_kinds items ∙ count_push c.args.self.now.kinds.items own c.in_ok-column.ensures.counted);
+      places = split;
+    };
+    settles = λ n k settles.
+        subst (λ (l : List KindColumn). CanSettleColumn n c.args.self.now.whole (column_of l k)) (sym items)
+        (settles_push c.args.self.now.whole c.args.self.now.kinds.items c.args.kind c.in_ok-column.column c.requires.fresh n k settles);
+  };
+  upto = upto_push c.args.top c.args.self.now _ c.args.kind c.in_ok-column.column refl items c.requires.fresh c.in_ok-column.ensures.upto c.in_ok-column.ensures.left c.in_ok-column.ensures.counted c.requires.upto;
 }
   where
     own : KindColumn
@@ -57,3 +51,9 @@ returns-clause-places c = record {
         ap (λ (l : List KindColumn). option_map_or is_counted (column_of l k) false) items
         ∙ place_push c.args.self.now.whole c.args.self.now.kinds.items c.args.kind c.in_ok-column.column c.requires.fresh c.in_ok-column.ensures.counted k
     split Whole = refl
+
+pub returns-in_err-column-clause-opens : goal.returns-in_err-column-clause-opens
+returns-in_err-column-clause-opens c = opens_none c.args.top c.args.self.now c.requires.upto
+
+pub returns-in_err-reserve_exact-clause-opens : goal.returns-in_err-reserve_exact-clause-opens
+returns-in_err-reserve_exact-clause-opens c = opens_same c.args.self.now _ refl c.reserve_exact.ensures.items c.args.top c.requires.upto

@@ -14,22 +14,16 @@ returns-clause-cells c = λ top is k v.
     ap (λ (o : Option WholeFind). column_held o (column_of c.settle_whole.new.self.kinds.items k) v) c.settle_whole.ensures.whole
     ∙ settled_cells c.args.self.now.whole c.args.number c.args.self.now.kinds.items c.settle_whole.new.self.kinds.items each is.left k v
 
-pub returns-clause-upto : goal.returns-clause-upto
-returns-clause-upto c = λ top is.
-    let each = subst (λ (l : List KindColumn). IsEach (IsSettled c.args.number) c.args.self.now.kinds.items l) (sym c.settle_whole.ensures.kinds) c.settle_each.ensures in
-    settled_upto c.args.number top c.args.self.now c.settle_whole.new.self c.settle_whole.ensures.whole each is
-
-pub returns-clause-settles : goal.returns-clause-settles
-returns-clause-settles c = λ n k settles.
-    let each = subst (λ (l : List KindColumn). IsEach (IsSettled c.args.number) c.args.self.now.kinds.items l) (sym c.settle_whole.ensures.kinds) c.settle_each.ensures in
-    settled_settles c.args.number c.args.self.now.whole c.settle_whole.new.self.whole c.args.self.now.kinds.items c.settle_whole.new.self.kinds.items c.settle_whole.ensures.whole each n k settles
-
-pub returns-clause-count : goal.returns-clause-count
-returns-clause-count c =
-    let each = subst (λ (l : List KindColumn). IsEach (IsSettled c.args.number) c.args.self.now.kinds.items l) (sym c.settle_whole.ensures.kinds) c.settle_each.ensures in
-    omega (arith, count_settled c.args.number c.args.self.now.kinds.items c.settle_whole.new.self.kinds.items each, whole_less c.args.number c.args.self.now.whole c.settle_whole.new.self.whole c.settle_whole.ensures.whole)
-
-pub returns-clause-places : goal.returns-clause-places
-returns-clause-places c =
-    let each = subst (λ (l : List KindColumn). IsEach (IsSettled c.args.number) c.args.self.now.kinds.items l) (sym c.settle_whole.ensures.kinds) c.settle_each.ensures in
-    kept_settled c.args.number c.args.self.now c.settle_whole.new.self c.settle_whole.ensures.whole each
+pub returns-clause-gains : goal.returns-clause-gains
+returns-clause-gains c =
+    let number = c.args.number in
+    let old = c.args.self.now in
+    let new = c.settle_whole.new.self in
+    let whole = c.settle_whole.ensures.whole in
+    let each = subst (λ (l : List KindColumn). IsEach (IsSettled number) old.kinds.items l) (sym c.settle_whole.ensures.kinds) c.settle_each.ensures in
+    record {
+      upto = λ top is. settled_upto number top old new whole each is;
+      settles = λ n k settles. settled_settles number old.whole new.whole old.kinds.items new.kinds.items whole each n k settles;
+      count = omega (arith, count_settled number old.kinds.items new.kinds.items each, whole_less number old.whole new.whole whole);
+      places = kept_settled number old new whole each;
+    }

@@ -12,17 +12,21 @@ returns-clause-cells c = λ k v.
     ap (λ (l : List KindColumn). alive_at c.args.moment (column_held c.drop_dead.new.self.whole (column_of l k) v)) c.drop_dead.ensures.kinds
     ∙ swept_whole_cell c.args.moment c.args.self.now.whole c.drop_dead.new.self.whole c.args.self.now.kinds.items k v c.drop_dead.ensures.whole
 
-pub returns-clause-upto : goal.returns-clause-upto
-returns-clause-upto c = λ top is. swept_whole_upto c.args.moment top c.args.self.now c.drop_dead.new.self c.drop_dead.ensures.whole c.drop_dead.ensures.kinds is
-
-pub returns-clause-settles : goal.returns-clause-settles
-returns-clause-settles c = λ n k settles.
-    subst (λ (l : List KindColumn). CanSettleColumn n c.drop_dead.new.self.whole (column_of l k)) (sym c.drop_dead.ensures.kinds)
-    (swept_whole_settles c.args.moment n c.args.self.now.whole c.drop_dead.new.self.whole (column_of c.args.self.now.kinds.items k) c.drop_dead.ensures.whole settles)
-
 pub returns-clause-lost : goal.returns-clause-lost
-returns-clause-lost c = record {
-  count = omega (arith, swept_whole_count c.args.moment c.args.self.now.whole c.drop_dead.new.self.whole c.drop_dead.ensures.whole, ap count_kinds c.drop_dead.ensures.kinds);
-  places = kept_swept c.args.moment c.args.self.now c.drop_dead.new.self c.drop_dead.ensures.whole c.drop_dead.ensures.kinds;
-  cells = less_swept c.args.moment c.args.self.now c.drop_dead.new.self c.drop_dead.ensures.whole c.drop_dead.ensures.kinds;
-}
+returns-clause-lost c =
+    let moment = c.args.moment in
+    let old = c.args.self.now in
+    let new = c.drop_dead.new.self in
+    let whole = c.drop_dead.ensures.whole in
+    let kinds = c.drop_dead.ensures.kinds in
+    record {
+      gains = record {
+        upto = λ top is. swept_whole_upto moment top old new whole kinds is;
+        settles = λ n k settles.
+            subst (λ (l : List KindColumn). CanSettleColumn n new.whole (column_of l k)) (sym kinds)
+            (swept_whole_settles moment n old.whole new.whole (column_of old.kinds.items k) whole settles);
+        count = omega (arith, swept_whole_count moment old.whole new.whole whole, ap count_kinds kinds);
+        places = kept_swept moment old new whole kinds;
+      };
+      cells = less_swept moment old new whole kinds;
+    }

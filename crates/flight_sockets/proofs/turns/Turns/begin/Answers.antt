@@ -1,5 +1,5 @@
 use Rattle.std.proofs.Common.{◌≡◌, arith, refl, rules, subst, sym}
-use Rattle.dns_sockets.specs.Moments.{ClockState, millis_at}
+use Rattle.clock.specs.Moments.{ClockState, millis_at}
 use Rattle.flight_sockets.specs.Accounts.{KeepsTime}
 use Rattle.flight_sockets.specs.Begun.{begun as begun_now, passed, refused}
 use Rattle.flight_sockets.proofs.Accounting.{begun, latest_begun, stayed, time_at}

@@ -1,5 +1,5 @@
 use Rattle.std.proofs.Common.{◌≤◌, ℕ, arith, refl, subst}
-use Rattle.dns_sockets.specs.Moments.{millis_at}
+use Rattle.clock.specs.Moments.{millis_at}
 use Rattle.flight.specs.Waiting.{EarlyGoOn}
 use Rattle.flight_sockets.proofs.Accounting.{gone_on, latest_on, looked_on, stayed, time_at, worker_of}
 use Rattle.flight_sockets.specs.Sockets.{asking_of}

@@ -1,5 +1,5 @@
 use Rattle.std.proofs.Common.{arith, refl, subst, sym}
-use Rattle.dns_sockets.specs.Moments.{ClockState, IsRead, millis_at}
+use Rattle.clock.specs.Moments.{ClockState, IsRead, millis_at}
 use Rattle.flight.specs.Waiting.{EarlyGoOn, IsPatient, IsTimely}
 use Rattle.flight_sockets.proofs.Accounting.{gone_on, looked_on, stayed, worker_of}
 use Rattle.flight_sockets.specs.Sockets.{asking_of}

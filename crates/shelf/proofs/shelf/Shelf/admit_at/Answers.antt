@@ -23,44 +23,62 @@ hold-requires c = record {
   );
 }
 
-pub returns-in-Unwanted-clause-admitted : goal.returns-in-Unwanted-clause-admitted
-returns-in-Unwanted-clause-admitted c =
+pub returns-in-Unwanted : goal.returns-in-Unwanted
+returns-in-Unwanted c =
     let self = c.args.self.now in
+    let find = c.args.find in
     let new = admission_of c.args.find c.args.find c.args.moment in
-    let unwanted = room_unwanted self c.args.find c.args.moment (c.in-Unwanted.ensures ∙ ap (λ (f : Find). room_for self f c.args.moment) c.find-2.ensures) in
+    let room = c.in-Unwanted.ensures ∙ ap (λ (f : Find). room_for c.args.self.now f c.args.moment) c.find-2.ensures in
+    let unwanted = room_unwanted self c.args.find c.args.moment room in
     record {
-      cells = λ told is question version there.
-          unwanted_cell self c.args.find c.args.moment unwanted question version there
-          ∙ (ap (λ (h : Option (Admitted Find)). cond (touches c.args.find question) (after_admission h new) h) (is question version there)
-          ∙ sym (told_more question (only version) told (admitted c.args.find c.args.moment)));
-      faces = λ chosen q.
-          unwanted_cell self c.args.find c.args.moment unwanted q (chosen_version self.kept.items q chosen) (chosen_is_version self.kept.items q chosen);
-      pairs = same_pairs self c.args.find;
+      whole = c.requires.whole;
+      admitted = record {
+        cells = λ told is question version there.
+            unwanted_cell self c.args.find c.args.moment unwanted question version there
+            ∙ (ap (λ (h : Option (Admitted Find)). cond (touches c.args.find question) (after_admission h new) h) (is question version there)
+            ∙ sym (told_more question (only version) told (admitted c.args.find c.args.moment)));
+        faces = λ chosen q.
+            unwanted_cell self c.args.find c.args.moment unwanted q (chosen_version self.kept.items q chosen) (chosen_is_version self.kept.items q chosen);
+        pairs = same_pairs self c.args.find;
+      };
+      full = tt;
+      room = by_room_ok self find c.args.moment _ _ refl (λ same needs. not_needed self find c.args.moment room same needs);
+      same = tt;
+      flushes = (refl, refl, refl);
+      stored = omega arith;
     }
 
-pub returns-in-Free-clause-full : goal.returns-in-Free-clause-full
-returns-in-Free-clause-full c = fault_of c.args.self.now c.args.find c.args.moment c.hold.result c.hold.ensures.fault.0 c.hold.ensures.fault.1
-
-pub returns-in-Unwanted-clause-room : goal.returns-in-Unwanted-clause-room
-returns-in-Unwanted-clause-room c = by_room_ok c.args.self.now c.args.find c.args.moment _ _ refl (λ same needs. not_needed c.args.self.now c.args.find c.args.moment (c.in-Unwanted.ensures ∙ ap (λ (f : Find). room_for c.args.self.now f c.args.moment) c.find-2.ensures) same needs)
-
-pub returns-in-Full-clause-full : goal.returns-in-Full-clause-full
-returns-in-Full-clause-full c =
+pub returns-in-Full : goal.returns-in-Full
+returns-in-Full c =
+    let self = c.args.self.now in
+    let find = c.args.find in
     let full = room_full c.args.self.now c.args.find c.args.moment (c.in-Full.ensures ∙ ap (λ (f : Find). room_for c.args.self.now f c.args.moment) c.find-2.ensures) in
-    (c.stored.ensures.value, full.0, full.1)
+    record {
+      whole = c.requires.whole;
+      admitted = tt;
+      full = (c.stored.ensures.value, full.0, full.1);
+      room = by_room_full self c.requires.whole find c.args.moment _ _ refl c.stored.ensures.value full
+          (λ told each. omega (arith, full.0, c.stored.ensures.value, c.stored.ensures.most c.requires.whole told each));
+      same = record { cells = λ told is. is; faces = λ chosen q. refl; kept = refl; top = refl; stored = refl; pairs = λ pair has. has };
+      flushes = (refl, refl, refl);
+      stored = omega arith;
+    }
 
-pub returns-in-Full-clause-room : goal.returns-in-Full-clause-room
-returns-in-Full-clause-room c =
-    let full = room_full c.args.self.now c.args.find c.args.moment (c.in-Full.ensures ∙ ap (λ (f : Find). room_for c.args.self.now f c.args.moment) c.find-2.ensures) in
-    by_room_full c.args.self.now c.requires.whole c.args.find c.args.moment _ _ refl c.stored.ensures.value full
-    (λ told each. omega (arith, full.0, c.stored.ensures.value, c.stored.ensures.most c.requires.whole told each))
-
-pub returns-in-Free-clause-room : goal.returns-in-Free-clause-room
-returns-in-Free-clause-room c =
-    by_room_free c.args.self.now c.requires.whole c.args.find c.args.moment c.hold.result
-    (λ same needs. not_both c.args.self.now c.args.find c.args.moment (c.in-Free.ensures ∙ ap (λ (f : Find). room_for c.args.self.now f c.args.moment) c.find-2.ensures) same needs)
-    (has_or_needs c.args.self.now c.args.find c.args.moment (c.in-Free.ensures ∙ ap (λ (f : Find). room_for c.args.self.now f c.args.moment) c.find-2.ensures))
-    c.hold.ensures.fault.0 c.hold.ensures.fault.1
+pub returns-in-Free : goal.returns-in-Free
+returns-in-Free c =
+    let self = c.args.self.now in
+    let find = c.args.find in
+    let held = c.hold.ensures in
+    let room = c.in-Free.ensures ∙ ap (λ (f : Find). room_for c.args.self.now f c.args.moment) c.find-2.ensures in
+    record {
+      whole = held.whole;
+      admitted = held.admitted;
+      full = fault_of self find c.args.moment c.hold.result held.fault.0 held.fault.1;
+      room = by_room_free self c.requires.whole find c.args.moment c.hold.result (λ same needs. not_both self find c.args.moment room same needs) (has_or_needs self find c.args.moment room) held.fault.0 held.fault.1;
+      same = held.same;
+      flushes = held.kept.0;
+      stored = held.kept.1;
+    }
 
 pub room_for-requires : goal.room_for-requires
 room_for-requires c =

@@ -68,10 +68,10 @@ pub follow-requires : goal.follow-requires
 follow-requires c =
     let self = c.args.self.now in
     record {
-      shape = held_shape self c.admit_at-result.new.owners c.args.find c.args.find c.touch.new.ends c.fit.new.ends c.requires.whole.ends c.admit_at-result.ensures.bound.2 refl (touched_by self c.args.find c.args.place c.touch.new.ends c.requires.whole c.requires.room.0 c.in_ok-touch.ensures.ok) c.fit.ensures.ends;
+      shape = held_shape self c.admit_at-result.new.owners c.args.find c.args.find c.touch.new.ends c.fit.new.ends c.requires.whole.ends c.admit_at-result.ensures.bound.others refl (touched_by self c.args.find c.args.place c.touch.new.ends c.requires.whole c.requires.room.0 c.in_ok-touch.ensures.ok) c.fit.ensures.ends;
       room = λ more.
           subst (λ (l : Lasts). HaveRoom l) (sym c.fit.ensures.lasts)
-          (held_room self c.admit_at-result.new.owners c.args.find c.args.find c.touch.new.ends c.fit.new.ends c.requires.whole.ends c.admit_at-result.ensures.bound.2 refl (touched_by self c.args.find c.args.place c.touch.new.ends c.requires.whole c.requires.room.0 c.in_ok-touch.ensures.ok) c.fit.ensures.ends
+          (held_room self c.admit_at-result.new.owners c.args.find c.args.find c.touch.new.ends c.fit.new.ends c.requires.whole.ends c.admit_at-result.ensures.bound.others refl (touched_by self c.args.find c.args.place c.touch.new.ends c.requires.whole c.requires.room.0 c.in_ok-touch.ensures.ok) c.fit.ensures.ends
           (HaveRoom c.touch.new.ends.lasts)
           (λ past. c.in_ok-touch.ensures.room (none_past (name_place c.args.find.owner self.owners.entries) (length self.ends.moments) c.args.place
           (spot self c.args.find c.args.place c.requires.whole c.requires.room.0) (past ∙ sym c.requires.whole.ends.size))) more);
@@ -94,12 +94,12 @@ reach_names-requires c =
         numbers = c.requires.whole.numbers;
         ascending = c.requires.whole.ascending;
         settles = settles_kept self.owners c.admit_at-result.new.owners self.top self.kept.items c.admit_at-result.ensures.settles c.requires.whole.numbers c.requires.whole.settles;
-        counted = c.admit_at-result.ensures.counted;
-        few = omega (arith, c.admit_at-result.ensures.bound.0, c.requires.room.1);
+        counted = c.admit_at-result.ensures.bound.counted;
+        few = omega (arith, c.admit_at-result.ensures.bound.most, c.requires.room.1);
         small = c.requires.whole.small;
         room = c.requires.whole.room;
-        ends = held_ends self c.admit_at-result.new.owners c.args.find c.args.find c.touch.new.ends c.fit.new.ends c.requires.whole.ends c.admit_at-result.ensures.bound.2 refl (touched_by self c.args.find c.args.place c.touch.new.ends c.requires.whole c.requires.room.0 c.in_ok-touch.ensures.ok) c.fit.ensures.ends c.follow.new.self c.follow.ensures.ends c.follow.ensures.winners;
-        settling = admitted_settling self.top self.owners c.admit_at-result.new.owners c.args.find.owner c.admit_at-result.ensures.bound.2.names
+        ends = held_ends self c.admit_at-result.new.owners c.args.find c.args.find c.touch.new.ends c.fit.new.ends c.requires.whole.ends c.admit_at-result.ensures.bound.others refl (touched_by self c.args.find c.args.place c.touch.new.ends c.requires.whole c.requires.room.0 c.in_ok-touch.ensures.ok) c.fit.ensures.ends c.follow.new.self c.follow.ensures.ends c.follow.ensures.winners;
+        settling = admitted_settling self.top self.owners c.admit_at-result.new.owners c.args.find.owner c.admit_at-result.ensures.bound.others.names
             c.args.find c.args.moment cells self.settlings.items c.requires.whole.settling;
         space = c.requires.whole.space;
         named = c.admit_at-result.ensures.named c.requires.whole.named;
@@ -115,7 +115,7 @@ returns-clause-admitted c =
     let new = admission_of c.args.find c.args.find c.args.moment in
     let done : c.admit_at-result.result ≡ Ok c.in_ok-result.field-0 = cc in
     let cells = held_ok c.admit_at-result.result c.in_ok-result.field-0 c.admit_at-result.ensures.cells done in
-    let kept = c.reach_names.ensures.flushes.0 in
+    let kept = c.reach_names.ensures.loses.flushes.0 in
     let low = version_low self.owners self.top self.settlings.items c.requires.whole.settling in
     record {
       cells = λ told is question version there.
@@ -129,15 +129,27 @@ returns-clause-admitted c =
           ap (λ (l : List KeptFlush). cell_at c.reach_names.new.self q (chosen_version l q chosen)) kept
           ∙ (c.reach_names.ensures.cells q version
           ∙ cells q (settled_version self.settlings.items q.owner version) (low q.owner version (chosen_low self.top self.kept.items q chosen c.requires.whole.numbers)));
-      pairs = λ pair has. c.admit_at-result.ensures.bound.1 pair (c.reach_names.ensures.pairs pair has);
+      pairs = λ pair has. c.admit_at-result.ensures.bound.pairs pair (c.reach_names.ensures.loses.pairs pair has);
     }
 
 at_most_one : (b : Bool) → one_if b ≤ 1
 at_most_one true = omega arith
 at_most_one false = omega arith
 
-pub returns-clause-stored : goal.returns-clause-stored
-returns-clause-stored c = omega (arith, c.reach_names.ensures.stored, c.admit_at-result.ensures.bound.0, at_most_one (not (has_place_for c.args.self.now.owners c.args.find)))
+pub returns-clause-whole : goal.returns-clause-whole
+returns-clause-whole c = c.reach_names.ensures.loses.whole
+
+pub returns-clause-kept : goal.returns-clause-kept
+returns-clause-kept c = (
+  c.reach_names.ensures.loses.flushes,
+  omega (arith, c.reach_names.ensures.loses.stored, c.admit_at-result.ensures.bound.most, at_most_one (not (has_place_for c.args.self.now.owners c.args.find))),
+)
+
+pub returns-in_err-result-clause-kept : goal.returns-in_err-result-clause-kept
+returns-in_err-result-clause-kept c = ((refl, refl, refl), omega (arith, c.admit_at-result.ensures.bound.most, at_most_one (not (has_place_for c.args.self.now.owners c.args.find))))
+
+pub returns-in_err-touch-clause-kept : goal.returns-in_err-touch-clause-kept
+returns-in_err-touch-clause-kept c = ((refl, refl, refl), omega arith)
 
 pub returns-in_err-result-clause-whole : goal.returns-in_err-result-clause-whole
 returns-in_err-result-clause-whole c =
@@ -148,12 +160,12 @@ returns-in_err-result-clause-whole c =
       numbers = c.requires.whole.numbers;
       ascending = c.requires.whole.ascending;
       settles = settles_kept self.owners c.admit_at-result.new.owners self.top self.kept.items c.admit_at-result.ensures.settles c.requires.whole.numbers c.requires.whole.settles;
-      counted = c.admit_at-result.ensures.counted;
-      few = omega (arith, c.admit_at-result.ensures.bound.0, c.requires.room.1);
+      counted = c.admit_at-result.ensures.bound.counted;
+      few = omega (arith, c.admit_at-result.ensures.bound.most, c.requires.room.1);
       small = c.requires.whole.small;
       room = c.requires.whole.room;
-      ends = held_ends self c.admit_at-result.new.owners c.args.find c.args.find c.touch.new.ends c.fit.new.ends c.requires.whole.ends c.admit_at-result.ensures.bound.2 refl (touched_by self c.args.find c.args.place c.touch.new.ends c.requires.whole c.requires.room.0 c.in_ok-touch.ensures.ok) c.fit.ensures.ends c.follow.new.self c.follow.ensures.ends c.follow.ensures.winners;
-      settling = held_settling self.owners c.admit_at-result.new.owners c.args.find c.args.moment self.top self.stored c.admit_at-result.new.stored c.admit_at-result.result c.admit_at-result.ensures.cells c.admit_at-result.ensures.err c.admit_at-result.ensures.bound.2.names
+      ends = held_ends self c.admit_at-result.new.owners c.args.find c.args.find c.touch.new.ends c.fit.new.ends c.requires.whole.ends c.admit_at-result.ensures.bound.others refl (touched_by self c.args.find c.args.place c.touch.new.ends c.requires.whole c.requires.room.0 c.in_ok-touch.ensures.ok) c.fit.ensures.ends c.follow.new.self c.follow.ensures.ends c.follow.ensures.winners;
+      settling = held_settling self.owners c.admit_at-result.new.owners c.args.find c.args.moment self.top self.stored c.admit_at-result.new.stored c.admit_at-result.result c.admit_at-result.ensures.cells c.admit_at-result.ensures.err c.admit_at-result.ensures.bound.others.names
           self.settlings.items c.requires.whole.settling;
       space = c.requires.whole.space;
       named = c.admit_at-result.ensures.named c.requires.whole.named;

@@ -15,7 +15,7 @@ use Rattle.shelf.specs.Clean.{AreEnds}
 use Rattle.shelf.proofs.EndLaws.{ends_kept, reset_ends, version_more}
 use Rattle.shelf.proofs.AboutLaws.{about_same}
 use Rattle.shelf.proofs.ShelfLaws.{flush_told}
-use Rattle.shelf.proofs.FaceLaws.{flush_face, all_more, ascending_more, upto_greater}
+use Rattle.shelf.proofs.FaceLaws.{flush_face, all_more, ascending_more, settles_each, upto_greater}
 use Rattle.shelf.proofs.SettlingLaws.{kept_settling, newer_settling, nothing_settled}
 use Rattle.shelf.proofs.shelf.Shelf.open_flush.Goals as goal
 
@@ -31,14 +31,14 @@ returns-clause-flushed c =
     record {
       cells = λ told is question version there.
           ap (λ (l : List Settling). settled_cell l c.open_flush.new.owners question version) c.reserve_settlings.ensures.items
-          ∙ (c.open_flush.ensures.cells question (settled_version self.settlings.items question.owner version)
+          ∙ (c.open_flush.ensures.opens.cells question (settled_version self.settlings.items question.owner version)
           ∙ flush_told (cell_at self) self.kept.items self.top told c.args.flush c.args.number (nothing_settled self.owners self.top self.settlings.items c.requires.whole.upto) c.requires.whole.numbers c.requires.newest is question version
           (ap (λ (l : List KeptFlush). is_version l question version) (sym c.in_ok-push.ensures.items) ∙ there));
       kept = c.in_ok-push.ensures.items;
       faces = flush_face (cell_at self) (settled_cell c.reserve_settlings.new.settlings.items c.open_flush.new.owners) self.kept.items c.push.new.self.items (record { flush = c.args.flush; number = c.args.number; shown = true })
-          (λ q. nothing_settled self.owners self.top self.settlings.items c.requires.whole.upto q c.args.number c.requires.newest) (λ q v. ap (λ (l : List Settling). settled_cell l c.open_flush.new.owners q v) c.reserve_settlings.ensures.items ∙ c.open_flush.ensures.cells q (settled_version self.settlings.items q.owner v)) c.in_ok-push.ensures.items;
+          (λ q. nothing_settled self.owners self.top self.settlings.items c.requires.whole.upto q c.args.number c.requires.newest) (λ q v. ap (λ (l : List Settling). settled_cell l c.open_flush.new.owners q v) c.reserve_settlings.ensures.items ∙ c.open_flush.ensures.opens.cells q (settled_version self.settlings.items q.owner v)) c.in_ok-push.ensures.items;
       top = refl;
-      pairs = c.open_flush.ensures.pairs;
+      pairs = c.open_flush.ensures.opens.pairs;
     }
 
 pub returns-clause-whole : goal.returns-clause-whole
@@ -47,24 +47,24 @@ returns-clause-whole c =
     let own : KeptFlush = record { flush = c.args.flush; number = c.args.number; shown = true } in
     let owners = c.open_flush.new.owners in
     record {
-      upto = upto_greater owners self.top c.args.number (omega (arith, c.requires.newest)) c.open_flush.ensures.upto;
-      about = about_same self.owners owners c.open_flush.ensures.cells c.requires.whole.about;
+      upto = upto_greater owners self.top c.args.number (omega (arith, c.requires.newest)) c.open_flush.ensures.opens.upto;
+      about = about_same self.owners owners c.open_flush.ensures.opens.cells c.requires.whole.about;
       numbers = subst (λ (l : List KeptFlush). AllByRecursion (λ k. k.number ≤ c.args.number) l) (sym c.in_ok-push.ensures.items)
           (all_more (λ k. k.number ≤ self.top) (λ k. k.number ≤ c.args.number) self.kept.items own (λ k low. omega (arith, low, c.requires.newest)) c.requires.whole.numbers (omega arith));
       ascending = subst (λ (l : List KeptFlush). IsAscending l) (sym c.in_ok-push.ensures.items) (ascending_more self.top self.kept.items own c.requires.whole.numbers c.requires.newest c.requires.whole.ascending);
       settles = subst (λ (l : List KeptFlush). AllByRecursion (λ k. CanSettleFlush owners k.number k.flush) l) (sym c.in_ok-push.ensures.items)
-          (all_more (λ k. CanSettleFlush owners k.number k.flush) (λ k. CanSettleFlush owners k.number k.flush) self.kept.items own (λ k told. told) (c.open_flush.ensures.settles self.kept.items c.requires.whole.settles) (c.in_ok-open_flush.ensures.opened c.args.number));
-      counted = c.requires.whole.counted ∙ sym c.open_flush.ensures.counted;
+          (all_more (λ k. CanSettleFlush owners k.number k.flush) (λ k. CanSettleFlush owners k.number k.flush) self.kept.items own (λ k told. told) (settles_each self.owners owners self.kept.items c.open_flush.ensures.opens.settles c.requires.whole.settles) (c.in_ok-open_flush.ensures.opened c.args.number));
+      counted = c.requires.whole.counted ∙ sym c.open_flush.ensures.opens.counted;
       few = c.requires.whole.few;
       small = c.requires.whole.small;
       room = omega (arith, c.in_ok-reserve.ensures.room, c.in_ok-push.ensures.len, c.len.ensures);
       ends = ends_kept self.kept.items c.push.new.self.items (λ q v there. ap (λ (l : List KeptFlush). is_version l q v) c.in_ok-push.ensures.items ∙ version_more self.kept.items own q v there) owners.entries c.reset.new.ends
-          (reset_ends self owners c.args.flush c.reset.new.ends c.requires.whole.ends c.open_flush.ensures.entries.0 c.open_flush.ensures.entries.1 c.reset.ensures);
+          (reset_ends self owners c.args.flush c.reset.new.ends c.requires.whole.ends c.open_flush.ensures.entries.others c.open_flush.ensures.entries.size c.reset.ensures);
       settling = subst (λ (l : List Settling). AllByRecursion (IsSettling c.args.number owners) l) (sym c.reserve_settlings.ensures.items)
           (newer_settling self.top c.args.number owners (omega (arith, c.requires.newest)) self.settlings.items
-          (kept_settling self.top self.owners owners c.args.flush.name (inl c.open_flush.ensures.entries.2) c.open_flush.ensures.cells self.settlings.items c.requires.whole.settling));
+          (kept_settling self.top self.owners owners c.args.flush.name (inl c.open_flush.ensures.entries.names) c.open_flush.ensures.opens.cells self.settlings.items c.requires.whole.settling));
       space = omega (arith, c.in_ok-reserve_settlings.ensures.room, c.in_ok-push.ensures.len, c.len-2.ensures);
-      named = c.open_flush.ensures.named c.requires.whole.named;
+      named = c.open_flush.ensures.opens.named c.requires.whole.named;
       useful = subst (λ (l : List Settling). AreUseful l) (sym c.reserve_settlings.ensures.items) c.requires.whole.useful;
       short = omega (arith, ap length c.reserve_settlings.ensures.items, c.requires.whole.short);
       doubt = omega (arith, c.reset.ensures.left, ap most_left c.reserve_settlings.ensures.items, c.requires.whole.doubt);
@@ -77,20 +77,20 @@ returns-in_err-push-clause-whole c =
     let owners = c.open_flush.new.owners in
     let items = c.in_err-push.ensures.items in
     record {
-      upto = c.open_flush.ensures.upto;
-      about = about_same self.owners owners c.open_flush.ensures.cells whole.about;
+      upto = c.open_flush.ensures.opens.upto;
+      about = about_same self.owners owners c.open_flush.ensures.opens.cells whole.about;
       numbers = subst (λ (l : List KeptFlush). AllByRecursion (λ k. k.number ≤ self.top) l) (sym items) whole.numbers;
       ascending = subst (λ (l : List KeptFlush). IsAscending l) (sym items) whole.ascending;
-      settles = subst (λ (l : List KeptFlush). AllByRecursion (λ k. CanSettleFlush owners k.number k.flush) l) (sym items) (c.open_flush.ensures.settles self.kept.items whole.settles);
-      counted = whole.counted ∙ sym c.open_flush.ensures.counted;
+      settles = subst (λ (l : List KeptFlush). AllByRecursion (λ k. CanSettleFlush owners k.number k.flush) l) (sym items) (settles_each self.owners owners self.kept.items c.open_flush.ensures.opens.settles whole.settles);
+      counted = whole.counted ∙ sym c.open_flush.ensures.opens.counted;
       few = whole.few;
       small = whole.small;
       room = omega (arith, ap length items, c.reserve.ensures.more, whole.room);
       ends = subst (λ (l : List KeptFlush). AreEnds l owners.entries c.reset.new.ends) (sym items)
-          (reset_ends self owners c.args.flush c.reset.new.ends whole.ends c.open_flush.ensures.entries.0 c.open_flush.ensures.entries.1 c.reset.ensures);
-      settling = subst (λ (l : List Settling). AllByRecursion (IsSettling self.top owners) l) (sym c.reserve_settlings.ensures.items) (kept_settling self.top self.owners owners c.args.flush.name (inl c.open_flush.ensures.entries.2) c.open_flush.ensures.cells self.settlings.items whole.settling);
+          (reset_ends self owners c.args.flush c.reset.new.ends whole.ends c.open_flush.ensures.entries.others c.open_flush.ensures.entries.size c.reset.ensures);
+      settling = subst (λ (l : List Settling). AllByRecursion (IsSettling self.top owners) l) (sym c.reserve_settlings.ensures.items) (kept_settling self.top self.owners owners c.args.flush.name (inl c.open_flush.ensures.entries.names) c.open_flush.ensures.opens.cells self.settlings.items whole.settling);
       space = omega (arith, ap length items, ap length c.reserve_settlings.ensures.items, c.reserve_settlings.ensures.more, whole.space);
-      named = c.open_flush.ensures.named whole.named;
+      named = c.open_flush.ensures.opens.named whole.named;
       useful = subst (λ (l : List Settling). AreUseful l) (sym c.reserve_settlings.ensures.items) whole.useful;
       short = omega (arith, ap length c.reserve_settlings.ensures.items, whole.short);
       doubt = omega (arith, c.reset.ensures.left, ap most_left c.reserve_settlings.ensures.items, whole.doubt);
@@ -102,19 +102,19 @@ returns-in_err-open_flush-clause-whole c =
     let whole = c.requires.whole in
     let owners = c.open_flush.new.owners in
     record {
-      upto = c.open_flush.ensures.upto;
-      about = about_same self.owners owners c.open_flush.ensures.cells whole.about;
+      upto = c.open_flush.ensures.opens.upto;
+      about = about_same self.owners owners c.open_flush.ensures.opens.cells whole.about;
       numbers = whole.numbers;
       ascending = whole.ascending;
-      settles = c.open_flush.ensures.settles self.kept.items whole.settles;
-      counted = whole.counted ∙ sym c.open_flush.ensures.counted;
+      settles = settles_each self.owners owners self.kept.items c.open_flush.ensures.opens.settles whole.settles;
+      counted = whole.counted ∙ sym c.open_flush.ensures.opens.counted;
       few = whole.few;
       small = whole.small;
       room = omega (arith, c.reserve.ensures.more, whole.room);
-      ends = reset_ends self owners c.args.flush c.reset.new.ends whole.ends c.open_flush.ensures.entries.0 c.open_flush.ensures.entries.1 c.reset.ensures;
-      settling = subst (λ (l : List Settling). AllByRecursion (IsSettling self.top owners) l) (sym c.reserve_settlings.ensures.items) (kept_settling self.top self.owners owners c.args.flush.name (inl c.open_flush.ensures.entries.2) c.open_flush.ensures.cells self.settlings.items whole.settling);
+      ends = reset_ends self owners c.args.flush c.reset.new.ends whole.ends c.open_flush.ensures.entries.others c.open_flush.ensures.entries.size c.reset.ensures;
+      settling = subst (λ (l : List Settling). AllByRecursion (IsSettling self.top owners) l) (sym c.reserve_settlings.ensures.items) (kept_settling self.top self.owners owners c.args.flush.name (inl c.open_flush.ensures.entries.names) c.open_flush.ensures.opens.cells self.settlings.items whole.settling);
       space = omega (arith, ap length c.reserve_settlings.ensures.items, c.reserve_settlings.ensures.more, whole.space);
-      named = c.open_flush.ensures.named whole.named;
+      named = c.open_flush.ensures.opens.named whole.named;
       useful = subst (λ (l : List Settling). AreUseful l) (sym c.reserve_settlings.ensures.items) whole.useful;
       short = omega (arith, ap length c.reserve_settlings.ensures.items, whole.short);
       doubt = omega (arith, c.reset.ensures.left, ap most_left c.reserve_settlings.ensures.items, whole.doubt);
@@ -165,10 +165,10 @@ pub returns-in_err-reserve_settlings-clause-same : goal.returns-in_err-reserve_s
 returns-in_err-reserve_settlings-clause-same c = on_err _ _ (same_shelf _ _ c.reserve_settlings.ensures.items (λ q v. refl) refl refl refl (λ pair has. has))
 
 pub returns-in_err-open_flush-clause-same : goal.returns-in_err-open_flush-clause-same
-returns-in_err-open_flush-clause-same c = on_err _ _ (same_shelf _ _ c.reserve_settlings.ensures.items c.open_flush.ensures.cells refl refl refl c.open_flush.ensures.pairs)
+returns-in_err-open_flush-clause-same c = on_err _ _ (same_shelf _ _ c.reserve_settlings.ensures.items c.open_flush.ensures.opens.cells refl refl refl c.open_flush.ensures.opens.pairs)
 
 pub returns-in_err-push-clause-same : goal.returns-in_err-push-clause-same
-returns-in_err-push-clause-same c = on_err _ _ (same_shelf _ _ c.reserve_settlings.ensures.items c.open_flush.ensures.cells c.in_err-push.ensures.items refl refl c.open_flush.ensures.pairs)
+returns-in_err-push-clause-same c = on_err _ _ (same_shelf _ _ c.reserve_settlings.ensures.items c.open_flush.ensures.opens.cells c.in_err-push.ensures.items refl refl c.open_flush.ensures.opens.pairs)
 
 -- no entry has changed
 stay_same : (name : Labels) (entries : List (Labels × OwnerCells)) → StayBut name entries entries

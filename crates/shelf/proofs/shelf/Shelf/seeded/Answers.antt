@@ -16,31 +16,35 @@ use Rattle.shelf.specs.declared.settling.Settling.{Settling}
 use Rattle.shelf.specs.Settling.{settled_version, AreUseful, IsSettling}
 use Rattle.shelf.proofs.shelf.Shelf.seeded.Goals as goal
 
-pub returns-clause-cells : goal.returns-clause-cells
-returns-clause-cells c = λ q v there.
-    subst (λ (l : List (Labels × OwnerCells)). cell_by_owner (lookup (name_eq q.owner) l) q.kind (settled_version c.new-3.result.items q.owner v) ≡ None) (sym c.with_hasher.ensures.empty) refl
-
-pub returns-clause-whole : goal.returns-clause-whole
-returns-clause-whole c =
+pub returns-clause-empty : goal.returns-clause-empty
+returns-clause-empty c =
     let owners = c.with_hasher.result in
     let kept = c.new.result.items in
-    let empty : owners.entries ≡ [] = c.with_hasher.ensures.empty in
-    let none : kept ≡ [] = c.new.ensures.items in
+    let empty : c.with_hasher.result.entries ≡ [] = c.with_hasher.ensures.empty in
+    let none : c.new.result.items ≡ [] = c.new.ensures.items in
     record {
-      upto = λ name. subst (λ (l : List (Labels × OwnerCells)). IfSome (lookup (name_eq name) l) (IsUpTo 0)) (sym empty) tt;
-      about = λ q v. subst (λ (l : List (Labels × OwnerCells)). IfSome (cell_by_owner (lookup (name_eq q.owner) l) q.kind v) (λ held. touches held.body q ≡ true)) (sym empty) tt;
-      numbers = subst (λ (l : List KeptFlush). AllByRecursion (λ own. own.number ≤ 0) l) (sym none) tt;
-      ascending = subst (λ (l : List KeptFlush). IsAscending l) (sym none) tt;
-      settles = subst (λ (l : List KeptFlush). AllByRecursion (λ own. CanSettleFlush owners own.number own.flush) l) (sym none) tt;
-      counted = sym (ap count_entries empty);
-      few = omega arith;
-      small = c.requires;
-      room = omega (arith, ap length none);
-      ends = subst (λ (l : List (Labels × OwnerCells)). AreEnds kept l c.no_ends.result) (sym empty) (c.no_ends.ensures.ends kept);
-      settling = subst (λ (l : List Settling). AllByRecursion (IsSettling 0 owners) l) (sym c.new-3.ensures.items) tt;
-      space = omega (arith, ap length none, ap length c.new-3.ensures.items);
-      named = subst (λ (l : List (Labels × OwnerCells)). EachCounts l) (sym empty) (λ i. tt);
-      useful = subst (λ (l : List Settling). AreUseful l) (sym c.new-3.ensures.items) tt;
-      short = omega (arith, ap length c.new-3.ensures.items);
-      doubt = omega (arith, c.no_ends.ensures.left);
+      cells = λ q v there.
+          subst (λ (l : List (Labels × OwnerCells)). cell_by_owner (lookup (name_eq q.owner) l) q.kind (settled_version c.new-3.result.items q.owner v) ≡ None) (sym empty) refl;
+      whole = record {
+        upto = λ name. subst (λ (l : List (Labels × OwnerCells)). IfSome (lookup (name_eq name) l) (IsUpTo 0)) (sym empty) tt;
+        about = λ q v. subst (λ (l : List (Labels × OwnerCells)). IfSome (cell_by_owner (lookup (name_eq q.owner) l) q.kind v) (λ held. touches held.body q ≡ true)) (sym empty) tt;
+        numbers = subst (λ (l : List KeptFlush). AllByRecursion (λ own. own.number ≤ 0) l) (sym none) tt;
+        ascending = subst (λ (l : List KeptFlush). IsAscending l) (sym none) tt;
+        settles = subst (λ (l : List KeptFlush). AllByRecursion (λ own. CanSettleFlush owners own.number own.flush) l) (sym none) tt;
+        counted = sym (ap count_entries empty);
+        few = omega arith;
+        small = c.requires;
+        room = omega (arith, ap length none);
+        ends = subst (λ (l : List (Labels × OwnerCells)). AreEnds kept l c.no_ends.result) (sym empty) (c.no_ends.ensures.ends kept);
+        settling = subst (λ (l : List Settling). AllByRecursion (IsSettling 0 owners) l) (sym c.new-3.ensures.items) tt;
+        space = omega (arith, ap length none, ap length c.new-3.ensures.items);
+        named = subst (λ (l : List (Labels × OwnerCells)). EachCounts l) (sym empty) (λ i. tt);
+        useful = subst (λ (l : List Settling). AreUseful l) (sym c.new-3.ensures.items) tt;
+        short = omega (arith, ap length c.new-3.ensures.items);
+        doubt = omega (arith, c.no_ends.ensures.left);
+      };
+      kept = none;
+      top = refl;
+      stored = refl;
+      limit = refl;
     }

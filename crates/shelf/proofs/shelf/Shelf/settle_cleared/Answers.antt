@@ -32,13 +32,13 @@ returns-then-len-before-clause-whole c = λ is.
       few = is.few;
       small = is.small;
       room = omega (arith, fewer, is.room);
-      ends = c.doubt_later.ensures.ends kept c.remove_number.new.kept.items is.ends;
+      ends = c.doubt_later.ensures.doubt.ends kept c.remove_number.new.kept.items is.ends;
       settling = moved.settling;
-      space = omega (arith, fewer, c.doubt_later.ensures.room.0, c.doubt_later.ensures.room.1, is.space);
+      space = omega (arith, fewer, c.doubt_later.ensures.room.more.0, c.doubt_later.ensures.room.more.1, is.space);
       named = is.named;
-      useful = c.doubt_later.ensures.room.2 is.useful;
-      short = c.doubt_later.ensures.room.3 is.short;
-      doubt = c.doubt_later.ensures.doubt;
+      useful = c.doubt_later.ensures.room.useful is.useful;
+      short = c.doubt_later.ensures.room.short is.short;
+      doubt = c.doubt_later.ensures.doubt.left;
     }
 
 pub returns-then-len-before-clause-settlings : goal.returns-then-len-before-clause-settlings

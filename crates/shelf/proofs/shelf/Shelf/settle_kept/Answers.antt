@@ -8,26 +8,35 @@ use Rattle.shelf.proofs.KeptLaws.{cleared_settled, oldest_kept, oldest_same, old
 use Rattle.shelf.proofs.ByRoomLaws.{owners_pairs}
 use Rattle.shelf.proofs.shelf.Shelf.settle_kept.Goals as goal
 
-pub returns-then-stands_first-clause-faces : goal.returns-then-stands_first-clause-faces
-returns-then-stands_first-clause-faces c =
+pub returns-then-stands_first-clause-gone : goal.returns-then-stands_first-clause-gone
+returns-then-stands_first-clause-gone c =
     let olds = c.args.self.now.kept.items in
-    let first : stands_first c.args.number olds ≡ true = grind (arith, common_steps) in
-    λ chosen there. oldest_same {X = λ (choice : ℕ → Bool). (q : Question) → face_of c.settle_oldest.new.self choice q ≡ face_of c.args.self.now choice q}
-    c.args.number olds chosen first there c.settle_oldest.ensures.faces
+    let settled = c.settle_oldest.ensures in
+    let first : stands_first c.args.number c.args.self.now.kept.items ≡ true = grind (arith, common_steps) in
+    record {
+      whole = settled.whole;
+      faces = λ chosen there. oldest_same {X = λ (choice : ℕ → Bool). (q : Question) → face_of c.settle_oldest.new.self choice q ≡ face_of c.args.self.now choice q}
+          c.args.number olds chosen first there settled.faces;
+      kept = oldest_kept c.args.number olds c.settle_oldest.new.self.kept.items first settled.kept;
+      top = settled.bounds.0;
+      limit = settled.bounds.1;
+      stored = settled.bounds.2;
+      pairs = settled.pairs;
+    }
 
-pub returns-then-stands_first-clause-kept : goal.returns-then-stands_first-clause-kept
-returns-then-stands_first-clause-kept c =
-    let olds = c.args.self.now.kept.items in
-    let first : stands_first c.args.number olds ≡ true = grind (arith, common_steps) in
-    oldest_kept c.args.number olds c.settle_oldest.new.self.kept.items first c.settle_oldest.ensures.kept
-
-pub returns-clause-faces : goal.returns-clause-faces
-returns-clause-faces c =
+pub returns-clause-gone : goal.returns-clause-gone
+returns-clause-gone c =
+    let cleared = c.settle_cleared.ensures in
     let first : stands_first c.args.number c.args.self.now.kept.items ≡ false = grind (arith, common_steps) in
-    λ chosen there. c.settle_cleared.ensures.faces chosen (there ∙ first)
-
-pub returns-clause-pairs : goal.returns-clause-pairs
-returns-clause-pairs c = owners_pairs c.args.self.now.owners c.settle_cleared.new.self.owners c.settle_cleared.ensures.owners
+    record {
+      whole = cleared.whole c.requires.whole;
+      faces = λ chosen there. cleared.faces chosen (there ∙ first);
+      kept = cleared.kept;
+      top = cleared.top;
+      limit = cleared.limit;
+      stored = omega (arith, cleared.stored);
+      pairs = owners_pairs c.args.self.now.owners c.settle_cleared.new.self.owners cleared.owners;
+    }
 
 pub returns-then-stands_first-clause-settlings : goal.returns-then-stands_first-clause-settlings
 returns-then-stands_first-clause-settlings c =

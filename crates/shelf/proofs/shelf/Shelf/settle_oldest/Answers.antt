@@ -1,17 +1,16 @@
-use Rattle.std.proofs.Common.{◌≤◌, ap, ◌∙◌, arith}
+use Rattle.std.proofs.Common.{◌≤◌, refl, ap, ◌∙◌, arith}
 use Rattle.shelf.specs.declared.shelf.KeptFlush.{KeptFlush}
 use Rattle.shelf.specs.Settling.{joined_by, settled_cell}
 use Rattle.shelf.specs.Told.{cell_at, CanSettleFlush}
-use Rattle.shelf.proofs.FaceLaws.{read_first, removed_face, removed_kept, all_removed, ascending_removed, all_first}
+use Rattle.shelf.proofs.FaceLaws.{read_first, removed_face, removed_kept, all_removed, ascending_removed, all_first, settles_each}
+use Rattle.shelf.proofs.LosingLaws.{tallied}
 use Rattle.shelf.proofs.shelf.Shelf.settle_oldest.Goals as goal
 
 pub settle_flush-requires : goal.settle_flush-requires
 settle_flush-requires c =
-    let ends = c.requires.whole.ends in
     record {
-      size = (ends.size, ends.flags, ends.winners.size, ends.winners.shape);
+      tallied = tallied c.args.self.now c.requires.whole;
       room = omega (arith, c.requires.whole.space);
-      counted = (c.requires.whole.counted, (c.args.self.now.top, c.requires.whole.upto));
       settles = all_first (λ own. CanSettleFlush c.args.self.now.owners own.number own.flush) c.args.self.now.kept.items c.remove-own.result (omega arith) c.remove-own.ensures.value c.requires.whole.settles;
     }
 
@@ -36,19 +35,19 @@ returns-clause-whole c =
       about = moved.about whole.about;
       numbers = all_removed (λ own. own.number ≤ self.top) self.kept.items c.remove-own.new.self.items c.remove-own.ensures.items whole.numbers;
       ascending = ascending_removed self.kept.items c.remove-own.new.self.items c.remove-own.ensures.items whole.ascending;
-      settles = c.settle_flush.ensures.settles c.remove-own.new.self.items
+      settles = settles_each self.owners c.settle_flush.new.owners c.remove-own.new.self.items c.settle_flush.ensures.lost.gains.settles
           (all_removed (λ own. CanSettleFlush self.owners own.number own.flush) self.kept.items c.remove-own.new.self.items c.remove-own.ensures.items whole.settles);
-      counted = c.settle_flush.ensures.counted.0;
-      few = omega (arith, c.settle_flush.ensures.counted.1, whole.few);
+      counted = c.settle_flush.ensures.lost.counted;
+      few = omega (arith, c.settle_flush.ensures.lost.fewer, whole.few);
       small = whole.small;
       room = omega (arith, c.remove-own.ensures.len, whole.room);
-      ends = c.settle_flush.ensures.ends self.kept.items c.remove-own.new.self.items whole.ends;
+      ends = c.settle_flush.ensures.doubt.ends self.kept.items c.remove-own.new.self.items whole.ends;
       settling = moved.settling;
-      space = omega (arith, c.settle_flush.ensures.space.0, c.settle_flush.ensures.space.1, c.remove-own.ensures.len, whole.space);
-      named = c.settle_flush.ensures.counted.2 whole.named;
-      useful = c.settle_flush.ensures.space.2 whole.useful;
-      short = c.settle_flush.ensures.space.3 whole.short;
-      doubt = c.settle_flush.ensures.doubt;
+      space = omega (arith, c.settle_flush.ensures.space.more.0, c.settle_flush.ensures.space.more.1, c.remove-own.ensures.len, whole.space);
+      named = c.settle_flush.ensures.lost.named whole.named;
+      useful = c.settle_flush.ensures.space.useful whole.useful;
+      short = c.settle_flush.ensures.space.short whole.short;
+      doubt = c.settle_flush.ensures.doubt.left;
     }
 
 pub returns-clause-settlings : goal.returns-clause-settlings
@@ -63,3 +62,9 @@ returns-clause-settlings c = λ own later is.
             (read_first self.kept.items own c.remove-own.result later c.remove-own.ensures.value is),
       ),
     )
+
+pub returns-clause-bounds : goal.returns-clause-bounds
+returns-clause-bounds c = (refl, refl, c.settle_flush.ensures.lost.fewer)
+
+pub returns-clause-pairs : goal.returns-clause-pairs
+returns-clause-pairs c = c.settle_flush.ensures.lost.gains.pairs

@@ -1,4 +1,4 @@
-use Rattle.std.proofs.Common.{◌≡◌, ◌<◌, List, [], sym, ap, ◌∙◌, subst, arith}
+use Rattle.std.proofs.Common.{◌≡◌, ◌<◌, List, [], refl, sym, ap, ◌∙◌, subst, arith}
 use Rattle.std.specs.List.{AllByRecursion}
 use Rattle.cell_store.specs.Ends.{latest}
 use Rattle.cell_store.specs.Sweep.{alive_at}
@@ -17,55 +17,66 @@ use Rattle.shelf.proofs.BoundLaws.{no_doubt}
 use Rattle.shelf.proofs.VisitLaws.{reached_short, turn_more, turn_reached, turn_short, turn_small}
 use Rattle.shelf.proofs.shelf.Shelf.sweep_some.Goals as goal
 
-pub sweep_few-requires-clause-ends : goal.sweep_few-requires-clause-ends
-sweep_few-requires-clause-ends c = (
-  subst (λ (l : List KeptFlush). AreEnds l c.args.self.now.owners.entries c.args.self.now.ends) (sym c.deref.ensures.value) c.requires.whole.ends,
-  no_doubt c.args.self.now c.requires.whole (c.is_reaching.ensures.none c.if-is_reaching.false),
-)
+pub sweep_few-requires-clause-ready : goal.sweep_few-requires-clause-ready
+sweep_few-requires-clause-ready c =
+    let self = c.args.self.now in
+    let whole = c.requires.whole in
+    record {
+      ends = subst (λ (l : List KeptFlush). AreEnds l c.args.self.now.owners.entries c.args.self.now.ends) (sym c.deref.ensures.value) whole.ends;
+      sure = no_doubt self whole (c.is_reaching.ensures.none c.if-is_reaching.false);
+      counted = whole.counted;
+      top = (self.top, whole.upto);
+    }
 
 pub returns-clause-faces : goal.returns-clause-faces
 returns-clause-faces c = λ chosen q.
     let self = c.args.self.now in
     let none : c.args.self.now.settlings.items ≡ [] = c.is_reaching.ensures.none c.if-is_reaching.false in
     let v = chosen_version self.kept.items q chosen in
-    let less = subst (λ (l : List KeptFlush). AreLessened l c.args.moment c.args.self.now.owners c.sweep_few.new.owners) c.deref.ensures.value c.sweep_few.ensures.less in
+    let less = subst (λ (l : List KeptFlush). AreLessened l c.args.moment c.args.self.now.owners c.sweep_few.new.owners) c.deref.ensures.value c.sweep_few.ensures.swept.less in
     ap (λ (s : List Settling). alive_at c.args.moment (settled_cell s c.sweep_few.new.owners q v)) none
     ∙ (less.cells q v (chosen_is_version self.kept.items q chosen)
     ∙ sym (ap (λ (s : List Settling). alive_at c.args.moment (settled_cell s self.owners q v)) none))
 
-pub returns-clause-whole : goal.returns-clause-whole
-returns-clause-whole c =
+pub returns-clause-loses : goal.returns-clause-loses
+returns-clause-loses c =
     let self = c.args.self.now in
     let whole = c.requires.whole in
     let none : c.args.self.now.settlings.items ≡ [] = c.is_reaching.ensures.none c.if-is_reaching.false in
-    let less = subst (λ (l : List KeptFlush). AreLessened l c.args.moment c.args.self.now.owners c.sweep_few.new.owners) c.deref.ensures.value c.sweep_few.ensures.less in
+    let less = subst (λ (l : List KeptFlush). AreLessened l c.args.moment c.args.self.now.owners c.sweep_few.new.owners) c.deref.ensures.value c.sweep_few.ensures.swept.less in
+    let swept = c.sweep_few.ensures.swept in
     record {
-      upto = less.upto self.top whole.upto;
-      about = less.about whole.about;
-      numbers = whole.numbers;
-      ascending = whole.ascending;
-      settles = settles_each self.owners c.sweep_few.new.owners self.kept.items less.settles whole.settles;
-      counted = c.sweep_few.ensures.counted.0;
-      few = omega (arith, c.sweep_few.ensures.counted.1, whole.few);
-      small = whole.small;
-      room = omega (arith, c.sweep_few.ensures.capacity, whole.room);
-      ends = subst (λ (l : List KeptFlush). AreEnds l c.sweep_few.new.owners.entries c.sweep_few.new.ends) c.deref.ensures.value c.sweep_few.ensures.ends.0;
-      settling = subst (λ (s : List Settling). AllByRecursion (IsSettling self.top c.sweep_few.new.owners) s) (sym none) tt;
-      space = whole.space;
-      named = c.sweep_few.ensures.counted.2 whole.named;
-      useful = whole.useful;
-      short = whole.short;
-      doubt = omega (arith, c.sweep_few.ensures.ends.1);
+      whole = record {
+        upto = less.gains.upto self.top whole.upto;
+        about = less.about whole.about;
+        numbers = whole.numbers;
+        ascending = whole.ascending;
+        settles = settles_each self.owners c.sweep_few.new.owners self.kept.items less.gains.settles whole.settles;
+        counted = c.sweep_few.ensures.swept.counted;
+        few = omega (arith, c.sweep_few.ensures.swept.fewer, whole.few);
+        small = whole.small;
+        room = omega (arith, c.sweep_few.ensures.capacity, whole.room);
+        ends = subst (λ (l : List KeptFlush). AreEnds l c.sweep_few.new.owners.entries c.sweep_few.new.ends) c.deref.ensures.value c.sweep_few.ensures.swept.ends;
+        settling = subst (λ (s : List Settling). AllByRecursion (IsSettling self.top c.sweep_few.new.owners) s) (sym none) tt;
+        space = whole.space;
+        named = c.sweep_few.ensures.swept.named whole.named;
+        useful = whole.useful;
+        short = whole.short;
+        doubt = omega (arith, c.sweep_few.ensures.swept.sure);
+      };
+      flushes = (refl, refl, refl);
+      stored = swept.fewer;
+      pairs = swept.less.gains.pairs;
     }
 
-pub returns-clause-counted : goal.returns-clause-counted
-returns-clause-counted c = (c.sweep_few.ensures.counted.1, λ pair has. c.sweep_few.ensures.less.pairs pair has)
+pub returns-then-is_reaching-clause-loses : goal.returns-then-is_reaching-clause-loses
+returns-then-is_reaching-clause-loses c = c.reach_names.ensures.loses
 
 pub returns-then-is_reaching-clause-faces : goal.returns-then-is_reaching-clause-faces
 returns-then-is_reaching-clause-faces c = λ chosen q.
     let self = c.args.self.now in
     let new = c.reach_names.new.self in
-    ap (λ (l : List KeptFlush). alive_at c.args.moment (cell_at new q (chosen_version l q chosen))) c.reach_names.ensures.flushes.0
+    ap (λ (l : List KeptFlush). alive_at c.args.moment (cell_at new q (chosen_version l q chosen))) c.reach_names.ensures.loses.flushes.0
     ∙ ap (alive_at c.args.moment) (c.reach_names.ensures.cells q (chosen_version self.kept.items q chosen))
 
 pub returns-then-is_reaching-clause-more : goal.returns-then-is_reaching-clause-more
@@ -94,15 +105,12 @@ pub returns-clause-none : goal.returns-clause-none
 returns-clause-none c = λ last.
     let small : c.args.moment < latest = omega (arith, c.if-moment-eq18446744073709551615.false, c.ranges.moment.fits) in
     let none : c.args.self.now.settlings.items ≡ [] = c.is_reaching.ensures.none c.if-is_reaching.false in
-    turn_small c.args.moment c.sweep_few.new.ends.moments c.args.self.now.settlings.items small none (c.sweep_few.ensures.none last)
+    turn_small c.args.moment c.sweep_few.new.ends.moments c.args.self.now.settlings.items small none (c.sweep_few.ensures.none last).0
 
 pub returns-clause-alive : goal.returns-clause-alive
 returns-clause-alive c = λ last.
     let self = c.args.self.now in
     let none : c.args.self.now.settlings.items ≡ [] = c.is_reaching.ensures.none c.if-is_reaching.false in
-    let alive = subst (λ (l : List KeptFlush). AreAlive l c.args.moment c.sweep_few.new.owners) c.deref.ensures.value (c.sweep_few.ensures.alive last) in
+    let alive = subst (λ (l : List KeptFlush). AreAlive l c.args.moment c.sweep_few.new.owners) c.deref.ensures.value (c.sweep_few.ensures.none last).1 in
     let swept : Shelf = record { alloc = self.alloc; owners = c.sweep_few.new.owners; kept = self.kept; top = self.top; stored = c.sweep_few.new.stored; limit = self.limit; numbers = c.sweep_few.new.numbers; ends = c.sweep_few.new.ends; settlings = self.settlings } in
     (alive, needed swept c.args.moment none alive)
-
-pub sweep_few-requires-clause-top : goal.sweep_few-requires-clause-top
-sweep_few-requires-clause-top c = (c.args.self.now.top, c.requires.whole.upto)

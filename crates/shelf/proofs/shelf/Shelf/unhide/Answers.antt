@@ -1,4 +1,4 @@
-use Rattle.std.proofs.Common.{◌≤◌, List, true, sym, ap, ◌∙◌, subst, length, arith}
+use Rattle.std.proofs.Common.{◌≤◌, List, true, refl, sym, ap, ◌∙◌, subst, length, arith}
 use Rattle.std.specs.List.{AllByRecursion}
 use Rattle.shelf.specs.declared.shelf.KeptFlush.{KeptFlush}
 use Rattle.shelf.specs.Told.{cell_at, is_version, chosen_version, IsAscending, CanSettleFlush}
@@ -7,15 +7,23 @@ use Rattle.shelf.proofs.ShelfLaws.{same_version, same_numbers}
 use Rattle.shelf.proofs.FaceLaws.{length_shown, same_all, same_ascending, same_chosen}
 use Rattle.shelf.proofs.shelf.Shelf.unhide.Goals as goal
 
-pub returns-clause-cells : goal.returns-clause-cells
-returns-clause-cells c = λ told is question version there.
-    let kept = c.args.self.now.kept.items in
-    is question version (sym (ap (λ (l : List KeptFlush). is_version l question version) c.set_shown.ensures ∙ same_version c.args.number true kept question version) ∙ there)
-
-pub returns-clause-faces : goal.returns-clause-faces
-returns-clause-faces c = λ chosen q.
-    ap (λ (l : List KeptFlush). cell_at c.args.self.now q (chosen_version l q chosen)) c.set_shown.ensures
-    ∙ ap (cell_at c.args.self.now q) (same_chosen c.args.number true c.args.self.now.kept.items q chosen)
+pub returns-clause-turns : goal.returns-clause-turns
+returns-clause-turns c =
+    let self = c.args.self.now in
+    let kept = self.kept.items in
+    let number = c.args.number in
+    record {
+      cells = λ told is question version there.
+          is question version (sym (ap (λ (l : List KeptFlush). is_version l question version) c.set_shown.ensures ∙ same_version number true kept question version) ∙ there);
+      faces = λ chosen q.
+          ap (λ (l : List KeptFlush). cell_at c.args.self.now q (chosen_version l q chosen)) c.set_shown.ensures
+          ∙ ap (cell_at c.args.self.now q) (same_chosen number true kept q chosen);
+      kept = c.set_shown.ensures;
+      top = refl;
+      limit = refl;
+      stored = refl;
+      owners = refl;
+    }
 
 pub returns-clause-whole : goal.returns-clause-whole
 returns-clause-whole c = λ is.

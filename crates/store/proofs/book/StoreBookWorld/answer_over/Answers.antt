@@ -25,6 +25,6 @@ returns-in-Flush c =
     IfOk-weaker c.to_seen.result _ _
     (λ seen is.
     flush_over x c.args.saved.now q c.args.moment seen s c.in-Flush.is
-    (is ∙ c.sight.ensures ∙ ap (λ (t : Tables). seen_first (local_of t.local q) (seen_by (shows_over x.cells s c.args.moment q))) c.tables.ensures)
+    (is ∙ c.question_sight.ensures ∙ ap (λ (t : Tables). seen_first (local_of t.local q) (seen_by (shows_over x.cells s c.args.moment q))) c.tables.ensures)
     (c.over_law.ensures c.args.moment q))
     c.to_seen.ensures

@@ -7,12 +7,12 @@ use Rattle.store.proofs.world.FlushChangeChange.again.Goals as goal
 
 pub returns-clause-row : goal.returns-clause-row
 returns-clause-row c = rw (← c.world.view_is) (λ earlier ticket later first.
-    row_turned Undone Done (shelved c.world.inside.shelf) (shelved c.unhide.new.self) earlier ticket c.args.saved.now later c.world.invariant.ascending first.kept c.unhide.ensures.kept c.unhide.ensures.faces)
+    row_turned Undone Done (shelved c.world.inside.shelf) (shelved c.unhide.new.self) earlier ticket c.args.saved.now later c.world.invariant.ascending first.kept c.unhide.ensures.turns.kept c.unhide.ensures.turns.faces)
 
 pub returns-clause-counts : goal.returns-clause-counts
 returns-clause-counts c = rw (← c.world.view_is) ((
-  omega (arith, c.unhide.ensures.top),
-  omega (arith, c.unhide.ensures.stored),
-  c.unhide.ensures.limit,
-  same_owners c.world.inside.shelf c.unhide.new.self c.unhide.ensures.owners,
+  omega (arith, c.unhide.ensures.turns.top),
+  omega (arith, c.unhide.ensures.turns.stored),
+  c.unhide.ensures.turns.limit,
+  same_owners c.world.inside.shelf c.unhide.new.self c.unhide.ensures.turns.owners,
 ))

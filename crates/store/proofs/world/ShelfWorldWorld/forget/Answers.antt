@@ -7,14 +7,14 @@ use Rattle.store.proofs.world.ShelfWorldWorld.forget.Goals as goal
 
 pub returns-clause-row : goal.returns-clause-row
 returns-clause-row c = rw (← c.self.view_is) (λ kept h.
-    row_forgot (shelved c.self.inside.shelf) (shelved c.forget.new.self) kept c.args.owner.now h c.forget.ensures.flushes.0 c.forget.ensures.faces)
+    row_forgot (shelved c.self.inside.shelf) (shelved c.forget.new.self) kept c.args.owner.now h c.forget.ensures.loses.flushes.0 c.forget.ensures.faces)
 
 pub returns-clause-counts : goal.returns-clause-counts
 returns-clause-counts c = rw (← c.self.view_is) ((
-  omega (arith, c.forget.ensures.flushes.1),
-  c.forget.ensures.stored,
-  c.forget.ensures.flushes.2,
-  λ pair has. c.forget.ensures.pairs pair has,
+  omega (arith, c.forget.ensures.loses.flushes.1),
+  c.forget.ensures.loses.stored,
+  c.forget.ensures.loses.flushes.2,
+  λ pair has. c.forget.ensures.loses.pairs pair has,
 ))
 
 pub returns-clause-gone : goal.returns-clause-gone

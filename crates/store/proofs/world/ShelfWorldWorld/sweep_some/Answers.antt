@@ -6,14 +6,14 @@ use Rattle.store.proofs.world.ShelfWorldWorld.sweep_some.Goals as goal
 
 pub returns-clause-row : goal.returns-clause-row
 returns-clause-row c = rw (← c.self.view_is) (λ kept h.
-    row_swept (shelved c.self.inside.shelf) (shelved c.sweep_some.new.self) kept c.args.moment h c.sweep_some.ensures.flushes.0 c.sweep_some.ensures.faces)
+    row_swept (shelved c.self.inside.shelf) (shelved c.sweep_some.new.self) kept c.args.moment h c.sweep_some.ensures.loses.flushes.0 c.sweep_some.ensures.faces)
 
 pub returns-clause-counts : goal.returns-clause-counts
 returns-clause-counts c = rw (← c.self.view_is) ((
-  omega (arith, c.sweep_some.ensures.flushes.1),
-  c.sweep_some.ensures.counted.0,
-  c.sweep_some.ensures.flushes.2,
-  λ pair has. c.sweep_some.ensures.counted.1 pair has,
+  omega (arith, c.sweep_some.ensures.loses.flushes.1),
+  c.sweep_some.ensures.loses.stored,
+  c.sweep_some.ensures.loses.flushes.2,
+  λ pair has. c.sweep_some.ensures.loses.pairs pair has,
 ))
 
 pub returns-clause-more : goal.returns-clause-more

@@ -13,6 +13,6 @@ returns c = λ h is.
     let book = c.args.self.now in
     let question = c.args.question.now in
     let moment = c.args.moment in
-    c.sight.ensures
+    c.question_sight.ensures
     ∙ ap (λ (t : Tables). seen_first (local_of t.local question) (seen_by (shows (past_in book.past) question moment))) book.tabled
     ∙ ap (λ (past : Past). seen_first (local_of (tables_of past).local question) (seen_by (shows past question moment))) is

@@ -19,4 +19,4 @@ returns c = λ h is.
     ap (λ (t : Tables). servers_by settings t.stubs (λ question. shows (past_in book.past) question moment) name) book.tabled
     ∙ ap (λ (past : Past). servers_of settings past name moment) is
     in
-    subst (λ (s : Servers). IfOk c.servers.result (λ found. found ≡ s)) same c.servers.ensures
+    subst (λ (s : Servers). IfOk c.closest_servers.result (λ found. found ≡ s)) same c.closest_servers.ensures

@@ -1,5 +1,5 @@
 use Rattle.std.proofs.Common.{◌≤◌, ℕ, arith, refl, subst}
-use Rattle.dns_sockets.specs.Moments.{millis_at}
+use Rattle.clock.specs.Moments.{millis_at}
 use Rattle.flight.specs.Waiting.{EarlyGoOn}
 use Rattle.flight_sockets.proofs.Accounting.{latest_on, time_at}
 use Rattle.flight_sockets.specs.Sockets.{asking_of}

@@ -1,5 +1,5 @@
 use Rattle.std.proofs.Common.{◌∙◌, arith, sym, subst}
-use Rattle.dns_sockets.specs.Moments.{ClockState, millis_at}
+use Rattle.clock.specs.Moments.{ClockState, millis_at}
 use Rattle.flight.specs.Waiting.{EarlyGoOn, IsPatient, IsTimely}
 use Rattle.flight_sockets.proofs.Flowing.{streams_then}
 use Rattle.flight_sockets.proofs.Relieving.{patient_on, timely_on}

@@ -1,0 +1,117 @@
+//! One caller's calls of a book that lies under no lock. A call that finds no memory is made once more.
+
+ghost use Rattle.std.specs.Prelude.{◌≡◌, []};
+ghost use Rattle.history.specs.Event.{lagging_of};
+
+use crate::drawn_calls::draws::shared_event;
+use crate::drawn_calls::texts::{entry_shown, fault_shown, reply_shown};
+use crate::stop::Stop;
+use dns_text::Shared;
+use history::{Book, Event, Reply, StepFault};
+use rand_core::SeedableRng;
+use rand_pcg::Pcg32;
+use shared_book::{Blank, CallLedger, Kept, Pass};
+use std::alloc::Global;
+
+/// How many drawn calls are made, and how many of them a window can have.
+const CALLS: u32 = 80;
+
+pub const RECORDED: u64 = 60;
+
+/// How many of four calls a window can have that moves on.
+pub const MOVING: u64 = 2;
+
+/// Events of every kind, also among those that the window has at the end. Of these an undo and a redo succeed, with a ticket and without.
+pub fn drawn_events(alloc: Global) -> Result<Vec<Shared<Event>>, Stop> {
+    let mut rng = Pcg32::seed_from_u64(4507);
+    let mut events = Vec::new(alloc);
+    for _ in 0..CALLS {
+        let Ok(event) = shared_event(&mut rng, alloc, 0) else {
+            return Err(Stop);
+        };
+        if events.push(event).is_err() {
+            return Err(Stop);
+        }
+    }
+    Ok(events)
+}
+
+/// Prints the numbers after a call, and what the call gave.
+fn show<B: Book, L: CallLedger, R: Print>(
+    rt: &R,
+    alloc: Global,
+    kept: &Kept<B, L>,
+    pass: &Pass<L>,
+    told: &Result<Reply, StepFault>,
+) -> Result<(), Stop> {
+    let text = match told {
+        Ok(reply) => reply_shown(alloc, reply)?,
+        Err(fault) => fault_shown(alloc, fault)?,
+    };
+    let shown = println!(rt;
+        "{} entries, {} calls, {} cells, seen {}, made {}: {text}",
+        kept.window().len(),
+        kept.total(),
+        kept.book().stored(),
+        pass.seen(),
+        pass.made()
+    );
+    match shown {
+        Ok(()) => Ok(()),
+        Err(_) => Err(Stop),
+    }
+}
+
+/// Makes a call and shows it. Whether it found no memory.
+fn step<B: Book, L: CallLedger, R: Print>(
+    rt: &R,
+    alloc: Global,
+    kept: &mut Kept<B, L>,
+    pass: &mut Pass<L>,
+    event: &Shared<Event>,
+) -> Result<bool, Stop> {
+    let Ok(event) = event.share() else {
+        return Err(Stop);
+    };
+    let told = kept.step(pass, event);
+    let shown = show(rt, alloc, kept, pass, &told);
+    let found_none = matches!(&told, Err(StepFault::NoMemory));
+    drop(told);
+    shown?;
+    Ok(found_none)
+}
+
+/// Makes the calls, and shows the window, which can have so many of them.
+pub fn steps<B: Book, L: CallLedger, R: Print>(
+    rt: &R,
+    alloc: Global,
+    blank: Blank,
+    book: B,
+    opening: B,
+    limit: u64,
+    events: Vec<Shared<Event>>,
+) -> Result<(), Stop>
+    requires name { blank.name ≡ L.name }
+    requires parts { blank.parts ≡ L.parts }
+    requires limit { limit ≡ L.limit }
+    requires settings { B.settings book ≡ L.settings }
+    requires lags { B.settings opening ≡ lagging_of L.settings }
+    requires fresh { B.stands_for book [] × B.stands_for opening [] }
+{
+    let made = Kept::<B, L>::new(alloc, blank, book, opening, limit);
+    let Ok((mut kept, mut pass)) = made else {
+        return Err(Stop);
+    };
+    for event in events.iter() {
+        if step(rt, alloc, &mut kept, &mut pass, event)? {
+            step(rt, alloc, &mut kept, &mut pass, event)?;
+        }
+    }
+    for entry in kept.window() {
+        let text = entry_shown(alloc, entry)?;
+        if rt.println(format_args!("{text}")).is_err() {
+            return Err(Stop);
+        }
+    }
+    Ok(())
+}

@@ -1,0 +1,58 @@
+//! New books with journals of so many commands, and with room for so many cells.
+
+ghost use Rattle.std.specs.Prelude.{◌≡◌, [], IfOk};
+ghost use Rattle.history.specs.Event.{lagging_of};
+
+use dns_text::Items;
+use history::{Book, MakeFault, Settings};
+use std::alloc::Global;
+use undo_book::{PlainBook, ShelfBook};
+
+fn settings(alloc: Global, journal: usize, cells: usize) -> Settings {
+    Settings {
+        journal,
+        cells,
+        hints: Items::new(Vec::new(alloc)),
+        server_port: 53,
+    }
+}
+
+/// A book that replays its history.
+pub fn plain_book(alloc: Global, journal: usize, cells: usize) -> Result<PlainBook, MakeFault>
+    ensures { IfOk result (λ b. ⟦<PlainBook as Book>⟧.stands_for b []) }
+{
+    PlainBook::new(alloc, settings(alloc, journal, cells))
+}
+
+/// The same, and an opening book to it.
+pub fn plain_books(
+    alloc: Global,
+    journal: usize,
+    cells: usize,
+) -> Result<(PlainBook, PlainBook), MakeFault>
+    ensures lags { IfOk result (λ b. ⟦<PlainBook as Book>⟧.settings b.1 ≡ lagging_of (⟦<PlainBook as Book>⟧.settings b.0)) }
+    ensures fresh { IfOk result (λ b. ⟦<PlainBook as Book>⟧.stands_for b.0 [] × ⟦<PlainBook as Book>⟧.stands_for b.1 []) }
+{
+    let settings = settings(alloc, journal, cells);
+    let opening = PlainBook::lagging(alloc, &settings)?;
+    Ok((PlainBook::new(alloc, settings)?, opening))
+}
+
+/// A book that keeps no history.
+pub fn shelf_book(alloc: Global, journal: usize, cells: usize) -> Result<ShelfBook, MakeFault> {
+    ShelfBook::new(alloc, settings(alloc, journal, cells))
+}
+
+/// The same, and an opening book to it.
+pub fn shelf_books(
+    alloc: Global,
+    journal: usize,
+    cells: usize,
+) -> Result<(ShelfBook, ShelfBook), MakeFault>
+    ensures lags { IfOk result (λ b. ⟦<ShelfBook as Book>⟧.settings b.1 ≡ lagging_of (⟦<ShelfBook as Book>⟧.settings b.0)) }
+    ensures fresh { IfOk result (λ b. ⟦<ShelfBook as Book>⟧.stands_for b.0 [] × ⟦<ShelfBook as Book>⟧.stands_for b.1 []) }
+{
+    let settings = settings(alloc, journal, cells);
+    let opening = ShelfBook::lagging(alloc, &settings)?;
+    Ok((ShelfBook::new(alloc, settings)?, opening))
+}

@@ -1,8 +1,0 @@
-use Rattle.std.proofs.Common.{◌≡◌, rules}
-use Rattle.course.specs.CourseLaws.{stands_admitted, stands_made, stands_undo, stands_redo, stands_shown}
-use Rattle.course.proofs.undo.Goals as goal
-
-pub returns : goal.returns
-returns g c = λ start now deeds struck st.
-    stands_undo g.C.World.World.has_cells g.C.World.World.table g.C.World.World.keeps g.C.World.World.face start c.args.world.now c.undo.new.world c.args.journal.now c.undo.new.self now deeds struck c.in_ok-ticket.ticket
-    c.in_ok-ticket.ensures.ticket c.in_ok-ticket.ensures.row (λ chosen h. c.in_ok-ticket.ensures.choices chosen tt h) st

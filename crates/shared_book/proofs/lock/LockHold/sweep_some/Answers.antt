@@ -1,0 +1,10 @@
+use Rattle.shared_book.proofs.lock.LockHold.sweep_some.Goals as goal
+
+pub returns : goal.returns
+returns g c = record {
+  before = c.deref_mut.result.now;
+  after = c.sweep_some.new.self;
+  kept = c.sweep_some.ensures.kept;
+  same_settings = c.sweep_some.ensures.made_with;
+  turn = c.sweep_some.ensures.turn;
+}

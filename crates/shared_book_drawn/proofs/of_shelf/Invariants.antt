@@ -1,8 +1,0 @@
-use Rattle.shared_book_drawn.specs.declared.in_threads.TheConstants.{RECORDED_OF_TWO}
-use Rattle.shared_book_drawn.proofs.of_shelf.Given as goal
-
-abbrev pub ghosts-two_threads-L-Ledger : goal.ghosts-two_threads-L-Ledger
-ghosts-two_threads-L-Ledger g a = record { name = a.blank.name; parts = a.blank.parts }
-
-abbrev pub ghosts-two_threads-L-CallLedger : goal.ghosts-two_threads-L-CallLedger
-ghosts-two_threads-L-CallLedger g a = record { limit = RECORDED_OF_TWO; settings = a.book.book.settings }

@@ -1,0 +1,306 @@
+//! The book that keeps no history: the tables and the cache under a journal of their changes.
+
+ghost use Rattle.std.specs.Prelude.{◌≡◌, ◌≤◌, ◌+◌, ◌^◌, ◌↔◌, [], List, length, IfOk, IsErr, IsErrOf};
+ghost use Rattle.history.specs.Event.{AreSettings, lagging_of};
+ghost use Rattle.history.specs.declared.event.Event.{Event};
+ghost use Rattle.store.specs.Sweep.{most_reaching};
+ghost use Rattle.store.specs.ShelfBook.{cells_of, commands_of, names_of, reaching_of, seed_of, versions_of};
+
+use crate::store::{Store, StoreChange};
+use cell_store::NameSeed;
+use dns_name::{Name, NoMemory};
+use dns_text::Question;
+use history::{
+    Ask, Book, Event, Hidden, Look, MakeFault, Reply, Seen, Servers, Settings, StepFault,
+    are_settings,
+};
+use local_zone::ZoneTable;
+use std::alloc::Global;
+use stub_table::StubTable;
+use world_book::WorldBook;
+
+/// A book that keeps what its commands need for their way back, and no history.
+#[derive(Drop)]
+pub struct ShelfBook {
+    book: WorldBook<StoreChange>,
+}
+
+impl ShelfBook {
+    /// A book of no events, whose cache hashes names with the fixed seed. It is for scripts and tests.
+    pub fn new(alloc: Global, settings: Settings) -> Result<ShelfBook, MakeFault>
+        ensures empty { IfOk result (λ b. ⟦<ShelfBook as Book>⟧.stands_for b []) }
+        ensures settings { IfOk result (λ b. ⟦<ShelfBook as Book>⟧.settings b ≡ settings) }
+        ensures refused { IsErrOf result MakeFault.BadSettings ↔ ¬ (AreSettings settings) }
+    {
+        let book = ShelfBook::seeded(alloc, settings, NameSeed::fixed())?;
+        Ok(book)
+    }
+
+    /// The same, but its cache hashes names with a seed that the program drew, since strangers choose the names.
+    pub fn seeded(alloc: Global, settings: Settings, seed: NameSeed) -> Result<ShelfBook, MakeFault>
+        ensures empty { IfOk result (λ b. ⟦<ShelfBook as Book>⟧.stands_for b []) }
+        ensures settings { IfOk result (λ b. ⟦<ShelfBook as Book>⟧.settings b ≡ settings) }
+        ensures refused { IsErrOf result MakeFault.BadSettings ↔ ¬ (AreSettings settings) }
+        ensures seed { IfOk result (λ b. seed_of b ≡ seed) }
+    {
+        if !are_settings(&settings) {
+            return Err(MakeFault::BadSettings);
+        }
+        let book = ShelfBook::with_settings(alloc, settings, seed)?;
+        Ok(book)
+    }
+
+    /// A book of no events, to lag behind one that has these settings. It is never full. Its cache hashes names with the fixed seed.
+    pub fn lagging(alloc: Global, settings: &Settings) -> Result<ShelfBook, MakeFault>
+        ensures empty { IfOk result (λ b. ⟦<ShelfBook as Book>⟧.stands_for b []) }
+        ensures settings { IfOk result (λ b. ⟦<ShelfBook as Book>⟧.settings b ≡ lagging_of settings.now) }
+        ensures refused { IsErrOf result MakeFault.BadSettings ↔ ¬ (AreSettings settings.now) }
+    {
+        let book = ShelfBook::lagging_seeded(alloc, settings, NameSeed::fixed())?;
+        Ok(book)
+    }
+
+    /// The same, but its cache hashes names with a seed that the program drew.
+    pub fn lagging_seeded(
+        alloc: Global,
+        settings: &Settings,
+        seed: NameSeed,
+    ) -> Result<ShelfBook, MakeFault>
+        ensures empty { IfOk result (λ b. ⟦<ShelfBook as Book>⟧.stands_for b []) }
+        ensures settings { IfOk result (λ b. ⟦<ShelfBook as Book>⟧.settings b ≡ lagging_of settings.now) }
+        ensures refused { IsErrOf result MakeFault.BadSettings ↔ ¬ (AreSettings settings.now) }
+        ensures seed { IfOk result (λ b. seed_of b ≡ seed) }
+    {
+        if !are_settings(settings) {
+            return Err(MakeFault::BadSettings);
+        }
+        let Ok(lagging) = settings.lagging(alloc) else {
+            return Err(MakeFault::NoMemory);
+        };
+        let book = ShelfBook::with_settings(alloc, lagging, seed)?;
+        Ok(book)
+    }
+
+    /// How many names its cache has: at most as many as the cells that are stored, whether or not it was swept.
+    pub fn names(&self) -> usize
+        ensures names { result ≡ names_of self.now }
+        ensures few { names_of self.now ≤ ⟦<ShelfBook as Book>⟧.stored self.now }
+    {
+        self.book.world().cells.names()
+    }
+
+    /// How many entries its cache's list of permanent flushes has: the flushes of zones that have names left to reach, and at most one
+    /// more. After a flush has gone, that one ends the names whose moments are in doubt, a few at a time. Each lookup reads the list.
+    pub fn reaching(&self) -> usize
+        ensures reaching { result ≡ reaching_of self.now }
+        ensures few { reaching_of self.now ≤ most_reaching }
+    {
+        self.book.world().cells.reaching()
+    }
+
+    /// How many commands its journal keeps: those that can be undone or redone.
+    pub fn commands(&self) -> usize
+        ensures commands { result ≡ commands_of self.now }
+        ensures few { (h : List Event) → ⟦<ShelfBook as Book>⟧.stands_for self.now h →
+            commands_of self.now ≤ (⟦<ShelfBook as Book>⟧.settings self.now).journal }
+    {
+        self.book.commands()
+    }
+
+    /// How many versions a place of its cache may have: one for each flush of the journal, and one without them.
+    pub fn versions(&self) -> usize
+        ensures versions { result ≡ versions_of self.now }
+        ensures commands { versions_of self.now ≤ commands_of self.now + 1 }
+        ensures few { (h : List Event) → ⟦<ShelfBook as Book>⟧.stands_for self.now h →
+            versions_of self.now ≤ (⟦<ShelfBook as Book>⟧.settings self.now).journal + 1 }
+    {
+        // It is called for its clauses on the journal.
+        let _commands = self.book.commands();
+        self.book.world().versions()
+    }
+
+    /// How many cells its cache keeps for a question: one for each version that differs from the one before.
+    pub fn kept(&self, question: &Question) -> usize
+        ensures value { result ≡ length (cells_of self.now question.now) }
+        ensures few { result ≤ versions_of self.now }
+    {
+        self.book.world().cells.kept(question)
+    }
+
+    fn with_settings(
+        alloc: Global,
+        settings: Settings,
+        seed: NameSeed,
+    ) -> Result<ShelfBook, MakeFault>
+        requires journal { 1 ≤ settings.journal }
+        requires cells { settings.cells ≤ 2 ^ 62 }
+        ensures empty { IfOk result (λ b. ⟦<ShelfBook as Book>⟧.stands_for b []) }
+        ensures settings { IfOk result (λ b. ⟦<ShelfBook as Book>⟧.settings b ≡ settings) }
+        ensures no_memory { IsErr result → IsErrOf result MakeFault.NoMemory }
+        ensures seed { IfOk result (λ b. seed_of b ≡ seed) }
+    {
+        let store = Store::new(alloc, settings.cells as u64, seed);
+        match WorldBook::new(alloc, settings, store) {
+            Ok(book) => Ok(ShelfBook { book }),
+            Err(_) => Err(MakeFault::NoMemory),
+        }
+    }
+}
+
+impl Book for ShelfBook {
+    ghost use Rattle.std.proofs.Common.{◌≡◌, ◌<◌, ◌≤◌, List, sym, ◌∙◌};
+    ghost use Rattle.std.specs.Prelude.{◌⊎◌, ℕ, true, false, OnOk, OnErr, IfErr, IsErrOf};
+    ghost use Rattle.dns_name.specs.Labels.{Labels};
+    ghost use Rattle.ranked.specs.declared.find.Scope.{Scope};
+    ghost use Rattle.history.specs.declared.event.Event.{Event};
+    ghost use Rattle.history.specs.Answers.{Answers, Follows, history_after};
+    ghost use Rattle.history.specs.History.{past_of};
+    ghost use Rattle.store.specs.Sweep.{turn_of_sweep};
+    ghost use Rattle.world_book.specs.Book.{IsByLimit};
+    ghost use Rattle.world_book.specs.Versions.{count_pairs, pairs_left, AreAliveAfter, ForgetsOldest};
+
+    ghost stands_for = { λ book history. ⟦<WorldBook<StoreChange> as Book>⟧.stands_for book.book history };
+
+    ghost settings = { λ book. ⟦<WorldBook<StoreChange> as Book>⟧.settings book.book };
+
+    ghost stored = { λ book. ⟦<WorldBook<StoreChange> as Book>⟧.stored book.book };
+
+    ghost unswept = { λ book. ⟦<WorldBook<StoreChange> as Book>⟧.unswept book.book };
+
+    ghost is_free = { λ book event. ⟦<WorldBook<StoreChange> as Book>⟧.is_free book.book event };
+
+    ghost has_journal = { λ book history is. is.some_commands };
+
+    ghost stores_few = { λ book history is. is.few };
+
+    ghost one_count = { λ book h k is also. sym is.count ∙ also.count };
+
+    fn step(&mut self, event: Event) -> Result<Reply, StepFault>
+        ensures answers { (h : List Event) → ⟦<WorldBook<StoreChange> as Book>⟧.stands_for self.old.book h →
+            Answers (⟦<WorldBook<StoreChange> as Book>⟧.settings self.old.book) h event result }
+        ensures stands { (h : List Event) → ⟦<WorldBook<StoreChange> as Book>⟧.stands_for self.old.book h →
+            ⟦<WorldBook<StoreChange> as Book>⟧.stands_for self.new.book (history_after h event result) }
+        ensures full { (n : ℕ) → IsErrOf result (StepFault.Full n) → ⟦<WorldBook<StoreChange> as Book>⟧.stored self.old.book ≡ n }
+        ensures same_store { OnErr result (⟦<WorldBook<StoreChange> as Book>⟧.stored self.new.book
+            ≡ ⟦<WorldBook<StoreChange> as Book>⟧.stored self.old.book) }
+        ensures settings { ⟦<WorldBook<StoreChange> as Book>⟧.settings self.new.book
+            ≡ ⟦<WorldBook<StoreChange> as Book>⟧.settings self.old.book }
+
+        // It is full only if as many finds as there may be cells differ in owner or scope. If it stores as many cells as there may be, it
+        // refuses no admission for want of memory.
+        ensures by_limit { IfErr result (λ fault. IsByLimit (⟦<WorldBook<StoreChange> as Book>⟧.stands_for self.old.book)
+            (⟦<WorldBook<StoreChange> as Book>⟧.stored self.old.book)
+            (⟦<WorldBook<StoreChange> as Book>⟧.settings self.old.book).cells event fault) }
+
+        // A sweep, a forget, an undo or a redo that reaches a flush, an undo of a command that removed nothing, and an admission whose
+        // pair is alive in some version need no memory.
+        ensures free { ⟦<WorldBook<StoreChange> as Book>⟧.is_free self.old.book event →
+            IfErr result (λ fault. (fault ≡ StepFault.BadMoment) ⊎ (fault ≡ StepFault.CountEnded)) }
+
+        // A forget of the name to forget first at its moment makes room: fewer cells are stored after it.
+        ensures room { OnOk result ((h : List Event) → ⟦<WorldBook<StoreChange> as Book>⟧.stands_for self.old.book h →
+            ForgetsOldest (past_of (⟦<WorldBook<StoreChange> as Book>⟧.settings self.old.book).journal h) event →
+            ⟦<WorldBook<StoreChange> as Book>⟧.stored self.new.book < ⟦<WorldBook<StoreChange> as Book>⟧.stored self.old.book) }
+    {
+        match self.book.step(event) {
+            Ok(reply) => Ok(reply),
+            Err(fault) => Err(fault),
+        }
+    }
+
+    fn follow(&mut self, event: Event) -> Result<(), StepFault>
+        ensures answers { (h : List Event) → ⟦<WorldBook<StoreChange> as Book>⟧.stands_for self.old.book h →
+            Follows (⟦<WorldBook<StoreChange> as Book>⟧.settings self.old.book) h event result }
+        ensures stands { (h : List Event) → ⟦<WorldBook<StoreChange> as Book>⟧.stands_for self.old.book h →
+            ⟦<WorldBook<StoreChange> as Book>⟧.stands_for self.new.book (history_after h event result) }
+        ensures full { (n : ℕ) → IsErrOf result (StepFault.Full n) → ⟦<WorldBook<StoreChange> as Book>⟧.stored self.old.book ≡ n }
+        ensures same_store { OnErr result (⟦<WorldBook<StoreChange> as Book>⟧.stored self.new.book
+            ≡ ⟦<WorldBook<StoreChange> as Book>⟧.stored self.old.book) }
+        ensures settings { ⟦<WorldBook<StoreChange> as Book>⟧.settings self.new.book
+            ≡ ⟦<WorldBook<StoreChange> as Book>⟧.settings self.old.book }
+
+        // A sweep, a forget, an undo or a redo that reaches a flush, an undo of a command that removed nothing, and an admission whose
+        // pair is alive in some version need no memory.
+        ensures free { ⟦<WorldBook<StoreChange> as Book>⟧.is_free self.old.book event →
+            IfErr result (λ fault. (fault ≡ StepFault.BadMoment) ⊎ (fault ≡ StepFault.CountEnded)) }
+
+        // A fault comes from the limit of cells as in `step`.
+        ensures by_limit { IfErr result (λ fault. IsByLimit (⟦<WorldBook<StoreChange> as Book>⟧.stands_for self.old.book)
+            (⟦<WorldBook<StoreChange> as Book>⟧.stored self.old.book)
+            (⟦<WorldBook<StoreChange> as Book>⟧.settings self.old.book).cells event fault) }
+
+        // A sweep is one turn, so it is short, however much has expired.
+        ensures short { (moment : ℕ) → event ≡ Event.Sweep moment → ⟦<WorldBook<StoreChange> as Book>⟧.unswept self.old.book
+            ≤ ⟦<WorldBook<StoreChange> as Book>⟧.unswept self.new.book + turn_of_sweep }
+    {
+        match self.book.follow(event) {
+            Ok(()) => Ok(()),
+            Err(fault) => Err(fault),
+        }
+    }
+
+    fn sweep_some(&mut self) -> bool
+        ensures stands { (h : List Event) → ⟦<WorldBook<StoreChange> as Book>⟧.stands_for self.old.book h →
+            ⟦<WorldBook<StoreChange> as Book>⟧.stands_for self.new.book h }
+        ensures stored { ⟦<WorldBook<StoreChange> as Book>⟧.stored self.new.book
+            ≤ ⟦<WorldBook<StoreChange> as Book>⟧.stored self.old.book }
+        ensures settings { ⟦<WorldBook<StoreChange> as Book>⟧.settings self.new.book
+            ≡ ⟦<WorldBook<StoreChange> as Book>⟧.settings self.old.book }
+        ensures more { result ≡ true →
+            ⟦<WorldBook<StoreChange> as Book>⟧.unswept self.new.book < ⟦<WorldBook<StoreChange> as Book>⟧.unswept self.old.book }
+        ensures none { result ≡ false → ⟦<WorldBook<StoreChange> as Book>⟧.unswept self.new.book ≡ 0 }
+
+        // It is one turn, so it is short, however much has expired.
+        ensures short { ⟦<WorldBook<StoreChange> as Book>⟧.unswept self.old.book
+            ≤ ⟦<WorldBook<StoreChange> as Book>⟧.unswept self.new.book + turn_of_sweep }
+    {
+        self.book.sweep_some()
+    }
+
+    fn seen(&self, ask: &Ask, moment: u64) -> Result<Seen, NoMemory> {
+        let seen = self.book.seen(ask, moment)?;
+        Ok(seen)
+    }
+
+    fn look<'a>(&'a self, question: &'a Question, moment: u64) -> Look<'a> {
+        self.book.look(question, moment)
+    }
+
+    fn zones(&self) -> &ZoneTable {
+        self.book.zones()
+    }
+
+    fn stubs(&self) -> &StubTable {
+        self.book.stubs()
+    }
+
+    fn servers(&self, name: &Name, moment: u64) -> Result<Servers, NoMemory> {
+        let servers = self.book.servers(name, moment)?;
+        Ok(servers)
+    }
+
+    fn hidden_some(&self, ticket: u64, from: u64, moment: u64) -> Hidden {
+        self.book.hidden_some(ticket, from, moment)
+    }
+
+    fn stored(&self) -> usize
+        ensures stored { result ≡ ⟦<WorldBook<StoreChange> as Book>⟧.stored self.now.book }
+        ensures within { (h : List Event) → ⟦<WorldBook<StoreChange> as Book>⟧.stands_for self.now.book h →
+            result ≤ (⟦<WorldBook<StoreChange> as Book>⟧.settings self.now.book).cells }
+
+        // No more than the different pairs of owner and scope that were admitted, and whose owner was not forgotten since.
+        ensures most { (h : List Event) → ⟦<WorldBook<StoreChange> as Book>⟧.stands_for self.now.book h →
+            result ≤ count_pairs (pairs_left h) }
+
+        // No fewer than the different pairs of the finds that are alive now in some version.
+        ensures least { (h : List Event) → ⟦<WorldBook<StoreChange> as Book>⟧.stands_for self.now.book h →
+            (pairs : List (Labels × Scope)) →
+            AreAliveAfter (⟦<WorldBook<StoreChange> as Book>⟧.settings self.now.book).journal h pairs → count_pairs pairs ≤ result }
+    {
+        self.book.stored()
+    }
+
+    fn limit(&self) -> usize {
+        self.book.limit()
+    }
+}
