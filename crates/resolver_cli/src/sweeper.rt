@@ -1,7 +1,7 @@
 //! The sweeper: it removes expired data from the cache, so that the cache takes memory only for live data.
 
 use crate::worker::Lent;
-use clock::{Clock, MonotonicClock};
+use clock::{Clock, Elapsing, MonotonicClock};
 use history::{Desk, Event};
 use log::{Log, info, warn};
 use operators::{BookFigures, read_figure};
@@ -21,8 +21,8 @@ const LEAST_MILLISECONDS: u64 = 1_000;
 /// most, first for a permanent flush, then to remove what it has emptied.
 const MOST_TURNS: u32 = 16_384;
 
-/// The time between two turns, in microseconds. Whoever waits for the lock gets it then.
-const BETWEEN_TURNS: u64 = 50;
+/// The least time between two turns, in microseconds. Whoever waits for the lock is woken within it.
+const LEAST_BETWEEN_TURNS: u64 = 50;
 
 /// The next sweep waits for so many times as long as the last one took, its turns and the pauses between them. So sweeps take at most one
 /// part in 20 of the time, however full the cache is.
@@ -59,10 +59,22 @@ pub(crate) fn sweep_often<L: CallLedger, R: Wait + std::rt::Clock + Log>(
 /// lock. The sweep before it is a turn too: it moves the clock.
 fn sweep_by_turns<L: CallLedger, R: Wait + std::rt::Clock>(rt: &R, lent: &Lent<'_, L>) {
     for _ in 0..MOST_TURNS {
+        let began = rt.since(lent.terms.start);
         if lent.stop.load(Ordering::SeqCst) || !lent.book.sweep_some(rt) {
             return;
         }
-        thread::sleep(rt, Duration::from_micros(BETWEEN_TURNS));
+        thread::sleep(rt, pause_after(began, rt.since(lent.terms.start)));
+    }
+}
+
+/// The pause after a turn that began and ended then: as long as the turn. So workers have the lock for half of the time at least, and a
+/// question that takes it often waits for few turns. `stop` waits for a pause as for a look at its flag.
+fn pause_after(began: Option<Duration>, ended: Option<Duration>) -> Duration {
+    let least = Duration::from_micros(LEAST_BETWEEN_TURNS);
+    let most = Duration::from_millis(GLANCE_MILLISECONDS);
+    match (began, ended) {
+        (Some(began), Some(ended)) => ended.saturating_sub(began).max(least).min(most),
+        _ => least,
     }
 }
 

@@ -26,6 +26,10 @@ use std::thread::yield_now;
 /// each name changes meanwhile.
 pub(crate) const MOST_TURNS: u32 = 16_384;
 
+/// How often the processor is yielded between two turns of a whole sweep. Whoever waits for the lock needs some time to wake, and gets it
+/// then, since the next turn does not take it at once.
+const YIELDS: u32 = 64;
+
 /// Whether it is asked for the name to forget first.
 fn is_oldest(ask: &Ask) -> bool
     ensures { result ≡ is_oldest ask.now }
@@ -40,6 +44,13 @@ pub(crate) fn asks_oldest(event: &Event) -> bool
     match event {
         Event::Look { ask, .. } => is_oldest(ask),
         _ => false,
+    }
+}
+
+/// Lets others run, so that whoever was woken has the lock before the next turn.
+fn let_others() {
+    for _ in 0..YIELDS {
+        yield_now();
     }
 }
 
@@ -150,7 +161,9 @@ impl<B: Book, L: CallLedger> SharedBook<B, L> {
             if !self.kept.hold(rt).turn(whole) {
                 return;
             }
-            yield_now();
+            if whole {
+                let_others();
+            }
         }
     }
 
