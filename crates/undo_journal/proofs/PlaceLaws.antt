@@ -1,14 +1,18 @@
 -- The change at one place of the ring is undone, or in effect again.
-use Rattle.std.proofs.Common.{◌≡◌, ℕ, suc, ◌+◌, ◌<◌, ◌≤◌, Bool, Option, Some, List, [], ◌∷◌, ◌++◌, length, take, drop, refl, sym, ap, subst, ◌∙◌, arith}
-use Rattle.std.specs.Prelude.{slice_get, slice_set}
+use Rattle.std.proofs.Common.{◌≡◌, ◌≢◌, ℕ, suc, ◌+◌, ◌<◌, ◌≤◌, Bool, Option, Some, List, [], ◌∷◌, ◌++◌, length, take, drop, refl, sym, ap, subst, ◌∙◌, arith}
+use Rattle.std.specs.Prelude.{slice_get, slice_set, option_map}
 use Rattle.change_law.specs.declared.kept.KeptChange.{KeptChange}
 use Rattle.change_law.specs.declared.kept.Standing.{Standing}
-use Rattle.change_law.specs.declared.kept.Standing.TheVariants.{Done, Undone}
+use Rattle.change_law.specs.declared.kept.Standing.TheVariants.{Done, Undone, Cleared}
+use Rattle.change_law.specs.declared.world.World.{Ghosts}
 use Rattle.change_law.specs.Choice.{IsFounded, IsUncovered, is_done}
 use Rattle.change_law.specs.Face.{Face}
-use Rattle.change_law.specs.Row.{IsFirst, IsLast, IsRowAfter, kept_as}
+use Rattle.change_law.specs.Row.{CanGoAgain, CanGoBack, GoesAgain, GoesBack, IsFirst, IsLast, IsRefused, IsRowAfter, IsSameKind, IsTurned, any, kept_as, same_face}
 use Rattle.undo_journal.specs.Journal.{AreChanges, CanBeRedone, CanBeUndone, Changes, IsPutBack, IsTakenBack, without}
-use Rattle.undo_journal.proofs.RingLaws.{IsAt, drop_past, kept_is, row_of, take_there}
+use Rattle.undo_journal.specs.Moving.{ChangesNothing, MovesStandings}
+use Rattle.undo_journal.specs.Needs.{needs_of}
+use Rattle.undo_journal.proofs.AppliedLaws.{choices_at, needs_again_at, needs_back_at, told_at}
+use Rattle.undo_journal.proofs.RingLaws.{Done≢Cleared, IsAt, Undone≢Cleared, at_place, drop_past, kept_is, row_of, take_there}
 use Rattle.undo_journal.proofs.MoveLaws.{back_are, back_is, out_less, struck_are, struck_is}
 
 abbrev pub changes_at : {S : Type 0} → List (KeptChange S) → List ℕ → ℕ → ℕ → Changes S
@@ -99,3 +103,98 @@ module _ {S : Type 0} (table : S → Option ℕ) (kept : List (KeptChange S)) (p
         (subst (λ (l : List (KeptChange S)). IsPutBack (changes_at (at.earlier ++ k ∷ at.later) undone tickets limit) k.ticket (changes_at l undone' tickets limit)) (sym (at.written (kept_as Done k.ticket saved)))
         (subst (λ (l : List ℕ). IsPutBack (changes_at (at.earlier ++ k ∷ at.later) undone tickets limit) k.ticket (changes_at (at.earlier ++ kept_as Done k.ticket saved ∷ at.later) l tickets limit)) (sym e)
         (back_is table k (kept_as Done k.ticket saved) refl same at.earlier at.later undone tickets limit (here_undone can).0 refl there_are)))
+
+-- ---- an undo or a redo at a place, by what the journal is before it
+
+module _ {W T S D : Type 0} (by : Ghosts W T S D) (kept : List (KeptChange S)) (undone : List ℕ) (tickets limit : ℕ) (now : Changes S) (is : changes_at kept undone tickets limit ≡ now)
+    (place : ℕ) (k : KeptChange S) (there : slice_get kept place ≡ Some k) where
+  abbrev at : IsAt kept place k
+  at = at_place kept place k there
+
+  undoable : CanBeUndone by.table now.kept place → CanBeUndone by.table kept place
+  undoable can = subst (λ (x : Changes S). CanBeUndone by.table x.kept place) (sym is) can
+
+  redoable : CanBeRedone by.table now.kept place → CanBeRedone by.table kept place
+  redoable can = subst (λ (x : Changes S). CanBeRedone by.table x.kept place) (sym is) can
+
+  last_now : (world : W) → by.keeps world now.kept → CanBeUndone by.table now.kept place → IsLast by.table by.keeps world at.earlier k.ticket k.saved at.later
+  last_now world held can = last_here by.table kept place k there at by.keeps world (subst (λ (x : Changes S). by.keeps world x.kept) (sym is) held) (undoable can)
+
+  first_now : (world : W) → by.keeps world now.kept → CanBeRedone by.table now.kept place → IsFirst by.table by.keeps world at.earlier k.ticket k.saved at.later
+  first_now world held can = first_here by.table kept place k there at by.keeps world (subst (λ (x : Changes S). by.keeps world x.kept) (sym is) held) (redoable can)
+
+  pub can_go_back : (world : W) → by.keeps world now.kept → CanBeUndone by.table now.kept place → CanGoBack by.table by.keeps world k.saved
+  can_go_back world held can = (at.earlier, (k.ticket, (at.later, last_now world held can)))
+
+  pub can_go_again : (world : W) → by.keeps world now.kept → CanBeRedone by.table now.kept place → CanGoAgain by.table by.keeps world k.saved
+  can_go_again world held can = (at.earlier, (k.ticket, (at.later, first_now world held can)))
+
+  -- A refused call leaves the journal as it was.
+  pub refused_here : (before after : W) (saved : S) → IsRefused by.table by.keeps by.face by.newest by.stored by.counts before after × (saved ≡ k.saved) →
+      ChangesNothing by before now after (changes_at (slice_set kept place (record { ticket = k.ticket; standing = k.standing; saved = saved })) undone tickets limit)
+  refused_here before after saved refused = (refused.0, same_here by.table kept place k there at undone tickets limit saved refused.1 ∙ is)
+
+  pub refused_are : (saved : S) → saved ≡ k.saved → AreChanges by.table (changes_at kept undone tickets limit) →
+      AreChanges by.table (changes_at (slice_set kept place (record { ticket = k.ticket; standing = k.standing; saved = saved })) undone tickets limit)
+  refused_are saved e are = subst (λ (x : Changes S). AreChanges by.table x) (sym (same_here by.table kept place k there at undone tickets limit saved e)) are
+
+  its_ticket : option_map (λ (x : KeptChange S). x.ticket) (slice_get now.kept place) ≡ Some k.ticket
+  its_ticket = ap (λ (x : Changes S). option_map (λ (y : KeptChange S). y.ticket) (slice_get x.kept place)) (sym is) ∙ ap (λ (o : Option (KeptChange S)). option_map (λ (y : KeptChange S). y.ticket) o) there
+
+  module _ (undone' : List ℕ) (saved : S) where
+    -- The standing of the change at the place moves from one to another.
+    moved_here : (s s' : Standing) (before after : W) → k.standing ≡ s → s ≢ Cleared → s' ≢ Cleared → IsSameKind by.table by.told k.saved saved →
+        needs_of by.needs_memory by.needs_memory_after (slice_set kept place (kept_as s' k.ticket saved)) ≡ needs_of by.needs_memory by.needs_memory_after kept →
+        IsRowAfter by.table by.keeps by.face same_face any before (at.earlier ++ kept_as s k.ticket k.saved ∷ at.later) after (at.earlier ++ kept_as s' k.ticket saved ∷ at.later) →
+        MovesStandings by before now after (changes_at (slice_set kept place (kept_as s' k.ticket saved)) undone' tickets limit)
+    moved_here s s' before after was n n' kind needs row =
+        let new : KeptChange S = kept_as s' k.ticket saved in
+        subst (λ (x : Changes S). MovesStandings by before x after (changes_at (slice_set kept place (kept_as s' k.ticket saved)) undone' tickets limit)) is
+        (record {
+          row = row_here by.table kept place k there at by.keeps by.face same_face any s s' before after saved was row;
+          choices = λ chosen p h. choices_at by.table kept place k new at refl kind.0 (λ cleared. n (sym was ∙ cleared)) n' chosen h;
+          told = told_at by.told kept place k new at refl kind.1;
+          tables = told_at by.table kept place k new at refl kind.0;
+          needs = needs;
+        })
+
+    -- The change at the place was undone.
+    pub moved_back : (before after : W) → by.keeps before now.kept → CanBeUndone by.table now.kept place → IsSameKind by.table by.told k.saved saved →
+        IsTurned by.needs_memory by.needs_memory_after k.saved saved → GoesBack by.table by.keeps by.face before k.saved after saved →
+        MovesStandings by before now after (changes_at (slice_set kept place (kept_as Undone k.ticket saved)) undone' tickets limit)
+    moved_back before after held can kind turned goes =
+        let was : k.standing ≡ Done = (here_done by.table kept place k there at (undoable can)).0 in
+        moved_here Done Undone before after was Done≢Cleared Undone≢Cleared kind
+        (needs_back_at by.needs_memory by.needs_memory_after kept place k saved at was turned) (goes at.earlier k.ticket at.later (last_now before held can))
+
+    -- The change at the place was redone.
+    pub moved_again : (before after : W) → by.keeps before now.kept → CanBeRedone by.table now.kept place → IsSameKind by.table by.told k.saved saved →
+        IsTurned by.needs_memory by.needs_memory_after k.saved saved → GoesAgain by.table by.keeps by.face before k.saved after saved →
+        MovesStandings by before now after (changes_at (slice_set kept place (kept_as Done k.ticket saved)) undone' tickets limit)
+    moved_again before after held can kind turned goes =
+        let was : k.standing ≡ Undone = (here_undone by.table kept place k there at (redoable can)).0 in
+        moved_here Undone Done before after was Undone≢Cleared Done≢Cleared kind
+        (needs_again_at by.needs_memory by.needs_memory_after kept place k saved at was turned) (goes at.earlier k.ticket at.later (first_now before held can))
+
+    module _ (same : by.table saved ≡ by.table k.saved) (are : AreChanges by.table (changes_at kept undone tickets limit)) where
+      pub back_sound : CanBeUndone by.table now.kept place → undone' ≡ undone ++ k.ticket ∷ [] → AreChanges by.table (changes_at (slice_set kept place (kept_as Undone k.ticket saved)) undone' tickets limit)
+      back_sound can e = taken_are by.table kept place k there at undone undone' tickets limit saved same are (undoable can) e
+
+      pub again_sound : CanBeRedone by.table now.kept place → undone' ≡ without k.ticket undone → AreChanges by.table (changes_at (slice_set kept place (kept_as Done k.ticket saved)) undone' tickets limit)
+      again_sound can e = put_are by.table kept place k there at undone undone' tickets limit saved same are (redoable can) e
+
+      pub back_at : CanBeUndone by.table now.kept place → undone' ≡ undone ++ k.ticket ∷ [] →
+          IsTakenBack now k.ticket (changes_at (slice_set kept place (kept_as Undone k.ticket saved)) undone' tickets limit) × (option_map (λ (x : KeptChange S). x.ticket) (slice_get now.kept place) ≡ Some k.ticket)
+      back_at can e = (
+        subst (λ (x : Changes S). IsTakenBack x k.ticket (changes_at (slice_set kept place (kept_as Undone k.ticket saved)) undone' tickets limit)) is
+            (taken_is by.table kept place k there at undone undone' tickets limit saved same are (undoable can) e),
+        its_ticket,
+      )
+
+      pub again_at : CanBeRedone by.table now.kept place → undone' ≡ without k.ticket undone →
+          IsPutBack now k.ticket (changes_at (slice_set kept place (kept_as Done k.ticket saved)) undone' tickets limit) × (option_map (λ (x : KeptChange S). x.ticket) (slice_get now.kept place) ≡ Some k.ticket)
+      again_at can e = (
+        subst (λ (x : Changes S). IsPutBack x k.ticket (changes_at (slice_set kept place (kept_as Done k.ticket saved)) undone' tickets limit)) is
+            (put_is by.table kept place k there at undone undone' tickets limit saved same are (redoable can) e),
+        its_ticket,
+      )

@@ -6,7 +6,7 @@ ghost use Rattle.change_law.specs.declared.kept.Standing.TheVariants.{Done};
 ghost use Rattle.change_law.specs.Choice.{IsPresent, cleared, is_done};
 ghost use Rattle.change_law.specs.Effect.{effect, IsFaultFor};
 ghost use Rattle.change_law.specs.Pairs.{AddsPairs};
-ghost use Rattle.change_law.specs.Row.{IsRowAfter, any, same_face, where_chosen, kept_as, IsNoMore, IsRefused};
+ghost use Rattle.change_law.specs.Row.{IsRowAfter, same_face, where_chosen, kept_as, IsNoMore};
 
 use crate::outcome::{Outcome, TicketReach};
 use crate::reach::{is_done, leave_out, lies_on, lies_under};
@@ -46,8 +46,9 @@ impl<C: Change> Model for Journal<C> {
 
 impl<C: Change> Journal<C> {
     ghost use Rattle.undo_journal.specs.Journal.{AreChanges, AreChoicesBefore, CanBeRedone, CanBeUndone, IsChange, IsForgotten, IsPlaceOf, IsPutBack, IsReach, IsRedo, IsRedoOf, IsTakenBack, IsToldAfter, IsUndo, IsUndoOf, NeedsNone};
-    ghost use Rattle.undo_journal.specs.Journal.{done_of, first_of, in_effect, is_among, last_of, lies_on, lies_under, out_of_effect, settled_by, tickets_of, told_of};
-    ghost use Rattle.undo_journal.specs.Needs.{HaveNeeds, IsNeededAfter, UndoNeedsNone};
+    ghost use Rattle.undo_journal.specs.Journal.{done_of, first_of, in_effect, is_among, last_of, lies_on, lies_under, out_of_effect, settled_by, tickets_of};
+    ghost use Rattle.undo_journal.specs.Moving.{ChangesNothing, MovesStandings};
+    ghost use Rattle.undo_journal.specs.Needs.{IsNeededAfter, UndoNeedsNone};
 
     /// An empty journal, which keeps at most `limit` changes. It takes all its memory here.
     pub fn new(alloc: Global, limit: usize) -> Result<Journal<C>, NoMemory>
@@ -67,14 +68,8 @@ impl<C: Change> Journal<C> {
         ensures ticket { IfOk result (λ ticket. IsUndo self.old ticket self.new) }
         ensures free { (ticket : ℕ) → last_of (done_of self.old) ≡ Some ticket →
             UndoNeedsNone C.World.needs_memory self.old.kept ticket → IsOk result }
-        ensures row { OnOk result (IsRowAfter C.World.table C.World.keeps C.World.face same_face any
-            world.old self.old.kept world.new self.new.kept) }
-        ensures choices { OnOk result (AreChoicesBefore C.World.table any self.old self.new) }
-        ensures told { OnOk result (told_of C.World.told self.new.kept ≡ told_of C.World.told self.old.kept) }
-        ensures tables { OnOk result ((told_of C.World.table self.new.kept ≡ told_of C.World.table self.old.kept)
-            × HaveNeeds C.World.needs_memory C.World.needs_memory_after self.old self.new) }
-        ensures err { OnErr result (IsRefused C.World.table C.World.keeps C.World.face C.World.newest C.World.stored C.World.counts
-            world.old world.new × (self.new ≡ self.old)) }
+        ensures moved { OnOk result (MovesStandings C.World.World world.old self.old world.new self.new) }
+        ensures err { OnErr result (ChangesNothing C.World.World world.old self.old world.new self.new) }
         ensures counts { IsNoMore C.World.newest C.World.stored C.World.limit C.World.counts world.old world.new }
     {
         match self.last_done() {
@@ -92,14 +87,8 @@ impl<C: Change> Journal<C> {
         ensures ticket { IfOk result (λ ticket. IsRedo self.old ticket self.new) }
         ensures free { (ticket : ℕ) → last_of self.old.undone ≡ Some ticket →
             NeedsNone C.World.needs_memory self.old.kept ticket → IsOk result }
-        ensures row { OnOk result (IsRowAfter C.World.table C.World.keeps C.World.face same_face any
-            world.old self.old.kept world.new self.new.kept) }
-        ensures choices { OnOk result (AreChoicesBefore C.World.table any self.old self.new) }
-        ensures told { OnOk result (told_of C.World.told self.new.kept ≡ told_of C.World.told self.old.kept) }
-        ensures tables { OnOk result ((told_of C.World.table self.new.kept ≡ told_of C.World.table self.old.kept)
-            × HaveNeeds C.World.needs_memory C.World.needs_memory_after self.old self.new) }
-        ensures err { OnErr result (IsRefused C.World.table C.World.keeps C.World.face C.World.newest C.World.stored C.World.counts
-            world.old world.new × (self.new ≡ self.old)) }
+        ensures moved { OnOk result (MovesStandings C.World.World world.old self.old world.new self.new) }
+        ensures err { OnErr result (ChangesNothing C.World.World world.old self.old world.new self.new) }
         ensures counts { IsNoMore C.World.newest C.World.stored C.World.limit C.World.counts world.old world.new }
     {
         match self.last_undone() {
@@ -116,14 +105,8 @@ impl<C: Change> Journal<C> {
         requires { C.World.keeps world.old self.old.kept }
         ensures outcome { IfOk result (λ outcome. IsUndoOf C.World.table self.old ticket outcome self.new) }
         ensures free { UndoNeedsNone C.World.needs_memory self.old.kept ticket → IsOk result }
-        ensures row { OnOk result (IsRowAfter C.World.table C.World.keeps C.World.face same_face any
-            world.old self.old.kept world.new self.new.kept) }
-        ensures choices { OnOk result (AreChoicesBefore C.World.table any self.old self.new) }
-        ensures told { OnOk result (told_of C.World.told self.new.kept ≡ told_of C.World.told self.old.kept) }
-        ensures tables { OnOk result ((told_of C.World.table self.new.kept ≡ told_of C.World.table self.old.kept)
-            × HaveNeeds C.World.needs_memory C.World.needs_memory_after self.old self.new) }
-        ensures err { OnErr result (IsRefused C.World.table C.World.keeps C.World.face C.World.newest C.World.stored C.World.counts
-            world.old world.new × (self.new ≡ self.old)) }
+        ensures moved { OnOk result (MovesStandings C.World.World world.old self.old world.new self.new) }
+        ensures err { OnErr result (ChangesNothing C.World.World world.old self.old world.new self.new) }
         ensures counts { IsNoMore C.World.newest C.World.stored C.World.limit C.World.counts world.old world.new }
     {
         match self.reach(ticket) {
@@ -141,14 +124,8 @@ impl<C: Change> Journal<C> {
         requires { C.World.keeps world.old self.old.kept }
         ensures outcome { IfOk result (λ outcome. IsRedoOf C.World.table self.old ticket outcome self.new) }
         ensures free { NeedsNone C.World.needs_memory self.old.kept ticket → IsOk result }
-        ensures row { OnOk result (IsRowAfter C.World.table C.World.keeps C.World.face same_face any
-            world.old self.old.kept world.new self.new.kept) }
-        ensures choices { OnOk result (AreChoicesBefore C.World.table any self.old self.new) }
-        ensures told { OnOk result (told_of C.World.told self.new.kept ≡ told_of C.World.told self.old.kept) }
-        ensures tables { OnOk result ((told_of C.World.table self.new.kept ≡ told_of C.World.table self.old.kept)
-            × HaveNeeds C.World.needs_memory C.World.needs_memory_after self.old self.new) }
-        ensures err { OnErr result (IsRefused C.World.table C.World.keeps C.World.face C.World.newest C.World.stored C.World.counts
-            world.old world.new × (self.new ≡ self.old)) }
+        ensures moved { OnOk result (MovesStandings C.World.World world.old self.old world.new self.new) }
+        ensures err { OnErr result (ChangesNothing C.World.World world.old self.old world.new self.new) }
         ensures counts { IsNoMore C.World.newest C.World.stored C.World.limit C.World.counts world.old world.new }
     {
         match self.place_of(ticket) {
@@ -186,8 +163,7 @@ impl<C: Change> Journal<C> {
             world.old self.old.kept world.new self.new.kept
             × AreChoicesBefore C.World.table (IsPresent (settled_by self.old)) self.old self.new) }
         ensures err { IfErr result (λ fault. IsFaultFor (C.reason change (C.World.shown world.old).tables) fault) }
-        ensures same { OnErr result (IsRefused C.World.table C.World.keeps C.World.face C.World.newest C.World.stored C.World.counts
-            world.old world.new × (self.new ≡ self.old)) }
+        ensures same { OnErr result (ChangesNothing C.World.World world.old self.old world.new self.new) }
         ensures counts { (C.World.newest world.new ≤ self.new.tickets) × (C.World.stored world.new ≤ C.World.stored world.old)
             × (C.World.limit world.new ≡ C.World.limit world.old) × AddsPairs C.World.counts [] world.old world.new }
     {
@@ -246,13 +222,8 @@ impl<C: Change> Journal<C> {
         ensures ticket { IfOk result (λ ticket. IsTakenBack self.old ticket self.new
             × (option_map (λ k. k.ticket) (slice_get self.old.kept place) ≡ Some ticket)) }
         ensures free { IfSome (slice_get self.old.kept place) (λ k. C.World.needs_memory k.saved ≡ false) → IsOk result }
-        ensures row { OnOk result (IsRowAfter C.World.table C.World.keeps C.World.face same_face any
-            world.old self.old.kept world.new self.new.kept × AreChoicesBefore C.World.table any self.old self.new) }
-        ensures told { OnOk result ((told_of C.World.told self.new.kept ≡ told_of C.World.told self.old.kept)
-            × (told_of C.World.table self.new.kept ≡ told_of C.World.table self.old.kept)
-            × HaveNeeds C.World.needs_memory C.World.needs_memory_after self.old self.new) }
-        ensures err { OnErr result (IsRefused C.World.table C.World.keeps C.World.face C.World.newest C.World.stored C.World.counts
-            world.old world.new × (self.new ≡ self.old)) }
+        ensures moved { OnOk result (MovesStandings C.World.World world.old self.old world.new self.new) }
+        ensures err { OnErr result (ChangesNothing C.World.World world.old self.old world.new self.new) }
         ensures counts { IsNoMore C.World.newest C.World.stored C.World.limit C.World.counts world.old world.new }
     {
         match self.ring.get_mut(place) {
@@ -274,13 +245,8 @@ impl<C: Change> Journal<C> {
         ensures ticket { IfOk result (λ ticket. IsPutBack self.old ticket self.new
             × (option_map (λ k. k.ticket) (slice_get self.old.kept place) ≡ Some ticket)) }
         ensures free { IfSome (slice_get self.old.kept place) (λ k. C.World.needs_memory k.saved ≡ false) → IsOk result }
-        ensures row { OnOk result (IsRowAfter C.World.table C.World.keeps C.World.face same_face any
-            world.old self.old.kept world.new self.new.kept × AreChoicesBefore C.World.table any self.old self.new) }
-        ensures told { OnOk result ((told_of C.World.told self.new.kept ≡ told_of C.World.told self.old.kept)
-            × (told_of C.World.table self.new.kept ≡ told_of C.World.table self.old.kept)
-            × HaveNeeds C.World.needs_memory C.World.needs_memory_after self.old self.new) }
-        ensures err { OnErr result (IsRefused C.World.table C.World.keeps C.World.face C.World.newest C.World.stored C.World.counts
-            world.old world.new × (self.new ≡ self.old)) }
+        ensures moved { OnOk result (MovesStandings C.World.World world.old self.old world.new self.new) }
+        ensures err { OnErr result (ChangesNothing C.World.World world.old self.old world.new self.new) }
         ensures counts { IsNoMore C.World.newest C.World.stored C.World.limit C.World.counts world.old world.new }
     {
         match self.ring.get_mut(place) {

@@ -18,6 +18,7 @@ use Rattle.change_law.specs.Row.{IsRowAfter, IsRowFrom, IsSameRow, any, same_fac
 use Rattle.undo_journal.specs.declared.outcome.Outcome.{Outcome}
 use Rattle.undo_journal.specs.declared.outcome.Outcome.TheVariants.{Moved, NotKept, Buried}
 use Rattle.undo_journal.specs.Journal.{Changes, AreChanges, IsChange, IsPutBack, IsRedo, IsRedoOf, IsTakenBack, IsUndo, IsUndoOf, done_of, in_effect, told_of, newest, settled_by}
+use Rattle.undo_journal.specs.Moving.{MovesStandings}
 use Rattle.world_book.specs.Course.{Deed, Came, Forgot, Made, AreAscending, Stands, face_by, moved_by}
 use Rattle.world_book.proofs.CourseLaws.{all_back, all_filter, all_images, asc_push, drop_map, map_length, same_at, same_at_later, same_at_then, stands_admitted, stands_swept, stands_forgot, stands_made, stands_put_back, stands_shown, stands_still, stands_taken_back}
 use Rattle.history.specs.declared.event.Ask.{Ask}
@@ -163,130 +164,120 @@ module _ {W S : Type 0} (by : Ghosts W Tables S Command) where
 
   -- an entry that does nothing, and nothing moved
   unmoved : (w w' : W) (before after : Changes S) (bound now : ℕ) (past : Past) (e : Entry) → past.now ≤ now → deed_of e.event e.moment e.ticket ≡ None → given_of e.event e.ticket ≡ None →
-      after ≡ before → IsRowAfter by.table by.keeps by.face same_face any w before.kept w' after.kept → told_of by.told after.kept ≡ told_of by.told before.kept → told_of by.table after.kept ≡ told_of by.table before.kept →
+      after ≡ before → MovesStandings by w before w' after →
       Tied w before bound past → Tied w' after bound (record { now = now; marks = past.marks; log = past.log ++ e ∷ [] })
-  unmoved w w' before after bound now past e less no_deed no_command is row same tabs tied =
+  unmoved w w' before after bound now past e less no_deed no_command is still tied =
       moved w w' before after bound now past past.marks e no_deed no_command
-      (later w' after past.now now (deeds_of past.log) (is_struck past.marks) less (stands_still by.has_cells by.table by.keeps by.face empty_face w w' before after past.now (deeds_of past.log) (is_struck past.marks) is row tied.stands))
-      (ap done_of is ∙ tied.done) (ap (λ (x : Changes S). x.undone) is ∙ tied.undone) (ap (λ (x : Changes S). x.tickets) is) (ap (λ (x : Changes S). x.limit) is) refl same tabs tied
+      (later w' after past.now now (deeds_of past.log) (is_struck past.marks) less (stands_still by.has_cells by.table by.keeps by.face empty_face w w' before after past.now (deeds_of past.log) (is_struck past.marks) is still.row tied.stands))
+      (ap done_of is ∙ tied.done) (ap (λ (x : Changes S). x.undone) is ∙ tied.undone) (ap (λ (x : Changes S). x.tickets) is) (ap (λ (x : Changes S). x.limit) is) refl still.told still.tables tied
 
   -- ---- undo
 
   taken_back_now : (w w' : W) (before after : Changes S) (bound now : ℕ) (past : Past) (e : Entry) (t : ℕ) → past.now ≤ now →
       deed_of e.event e.moment e.ticket ≡ None → given_of e.event e.ticket ≡ None →
-      IsTakenBack before t after → IsRowAfter by.table by.keeps by.face same_face any w before.kept w' after.kept →
-      ((chosen : ℕ → Bool) → IsChoice by.table after.kept chosen → IsChoice by.table before.kept chosen) → told_of by.told after.kept ≡ told_of by.told before.kept → told_of by.table after.kept ≡ told_of by.table before.kept →
+      IsTakenBack before t after → MovesStandings by w before w' after →
       Tied w before bound past → Tied w' after bound (record { now = now; marks = strike past.marks t; log = past.log ++ e ∷ [] })
-  taken_back_now w w' before after bound now past e t less no_deed no_command is row choices same tabs tied =
+  taken_back_now w w' before after bound now past e t less no_deed no_command is still tied =
       moved w w' before after bound now past (strike past.marks t) e no_deed no_command
       (later w' after past.now now (deeds_of past.log) (is_struck (strike past.marks t)) less
       (subst (λ (struck : ℕ → Bool). StandsAt w' after past.now (deeds_of past.log) struck) (sym (struck_after_strike past.marks t))
-      (stands_taken_back by.has_cells by.table by.keeps by.face empty_face w w' before after past.now (deeds_of past.log) (is_struck past.marks) t is row choices tied.stands)))
+      (stands_taken_back by.has_cells by.table by.keeps by.face empty_face w w' before after past.now (deeds_of past.log) (is_struck past.marks) t is still.row (λ chosen choice. still.choices chosen tt choice) tied.stands)))
       (done_taken_back before after t is ∙ ap (λ (l : List ℕ). without t l) tied.done)
       (is.undone ∙ ap (λ (l : List ℕ). l ++ t ∷ []) tied.undone)
-      is.tickets is.limit refl same tabs tied
+      is.tickets is.limit refl still.told still.tables tied
 
   undone_now : (w w' : W) (before after : Changes S) (bound now : ℕ) (past : Past) (e : Entry) (ticket : Option ℕ) → past.now ≤ now →
       deed_of e.event e.moment e.ticket ≡ None → given_of e.event e.ticket ≡ None →
-      IsUndo before ticket after → IsRowAfter by.table by.keeps by.face same_face any w before.kept w' after.kept →
-      ((chosen : ℕ → Bool) → IsChoice by.table after.kept chosen → IsChoice by.table before.kept chosen) → told_of by.told after.kept ≡ told_of by.told before.kept → told_of by.table after.kept ≡ told_of by.table before.kept →
+      IsUndo before ticket after → MovesStandings by w before w' after →
       Tied w before bound past → Tied w' after bound (record { now = now; marks = option_map_or (strike past.marks) ticket past.marks; log = past.log ++ e ∷ [] })
-  undone_now w w' before after bound now past e None less no_deed no_command is row choices same tabs tied = unmoved w w' before after bound now past e less no_deed no_command is.1 row same tabs tied
-  undone_now w w' before after bound now past e (Some t) less no_deed no_command is row choices same tabs tied =
-      taken_back_now w w' before after bound now past e t less no_deed no_command is.1 row choices same tabs tied
+  undone_now w w' before after bound now past e None less no_deed no_command is still tied = unmoved w w' before after bound now past e less no_deed no_command is.1 still tied
+  undone_now w w' before after bound now past e (Some t) less no_deed no_command is still tied =
+      taken_back_now w w' before after bound now past e t less no_deed no_command is.1 still tied
 
   pub tied_undo : (w w' : W) (before after : Changes S) (bound moment : ℕ) (past : Past) (ticket : Option ℕ) →
-      IsUndo before ticket after → IsRowAfter by.table by.keeps by.face same_face any w before.kept w' after.kept →
-      ((chosen : ℕ → Bool) → IsChoice by.table after.kept chosen → IsChoice by.table before.kept chosen) → told_of by.told after.kept ≡ told_of by.told before.kept → told_of by.table after.kept ≡ told_of by.table before.kept →
+      IsUndo before ticket after → MovesStandings by w before w' after →
       Tied w before bound past → Tied w' after bound (followed_by bound past (Undo moment))
-  tied_undo w w' before after bound moment past ticket is row choices same tabs tied =
+  tied_undo w w' before after bound moment past ticket is still tied =
       let now = max past.now moment in
       let e : Entry = record { event = Undo moment; moment = now; ticket = None } in
       subst (λ (o : Option ℕ). Tied w' after bound (record { now = now; marks = option_map_or (strike past.marks) o past.marks; log = past.log ++ e ∷ [] }))
       (sym (undo_reaches w before after bound past ticket tied is))
-      (undone_now w w' before after bound now past e ticket (omega arith) refl refl is row choices same tabs tied)
+      (undone_now w w' before after bound now past e ticket (omega arith) refl refl is still tied)
 
   undone_of_now : (w w' : W) (before after : Changes S) (bound now : ℕ) (past : Past) (e : Entry) (t : ℕ) (outcome : Outcome) → past.now ≤ now →
       deed_of e.event e.moment e.ticket ≡ None → given_of e.event e.ticket ≡ None →
-      IsUndoOf by.table before t outcome after → IsRowAfter by.table by.keeps by.face same_face any w before.kept w' after.kept →
-      ((chosen : ℕ → Bool) → IsChoice by.table after.kept chosen → IsChoice by.table before.kept chosen) → told_of by.told after.kept ≡ told_of by.told before.kept → told_of by.table after.kept ≡ told_of by.table before.kept →
+      IsUndoOf by.table before t outcome after → MovesStandings by w before w' after →
       Tied w before bound past → Tied w' after bound (record { now = now; marks = option_map_or (strike past.marks) (moved_by outcome t) past.marks; log = past.log ++ e ∷ [] })
-  undone_of_now w w' before after bound now past e t Moved less no_deed no_command is row choices same tabs tied =
-      taken_back_now w w' before after bound now past e t less no_deed no_command is.1 row choices same tabs tied
-  undone_of_now w w' before after bound now past e t NotKept less no_deed no_command is row choices same tabs tied =
-      unmoved w w' before after bound now past e less no_deed no_command is.1 row same tabs tied
-  undone_of_now w w' before after bound now past e t (Buried other) less no_deed no_command is row choices same tabs tied =
-      unmoved w w' before after bound now past e less no_deed no_command is.2 row same tabs tied
+  undone_of_now w w' before after bound now past e t Moved less no_deed no_command is still tied =
+      taken_back_now w w' before after bound now past e t less no_deed no_command is.1 still tied
+  undone_of_now w w' before after bound now past e t NotKept less no_deed no_command is still tied =
+      unmoved w w' before after bound now past e less no_deed no_command is.1 still tied
+  undone_of_now w w' before after bound now past e t (Buried other) less no_deed no_command is still tied =
+      unmoved w w' before after bound now past e less no_deed no_command is.2 still tied
 
   pub tied_undo_of : (w w' : W) (before after : Changes S) (bound moment : ℕ) (past : Past) (t : ℕ) (outcome : Outcome) → AreChanges by.table before →
-      IsUndoOf by.table before t outcome after → IsRowAfter by.table by.keeps by.face same_face any w before.kept w' after.kept →
-      ((chosen : ℕ → Bool) → IsChoice by.table after.kept chosen → IsChoice by.table before.kept chosen) → told_of by.told after.kept ≡ told_of by.told before.kept → told_of by.table after.kept ≡ told_of by.table before.kept →
+      IsUndoOf by.table before t outcome after → MovesStandings by w before w' after →
       Tied w before bound past → Tied w' after bound (followed_by bound past (UndoOf moment t))
-  tied_undo_of w w' before after bound moment past t outcome are is row choices same tabs tied =
+  tied_undo_of w w' before after bound moment past t outcome are is still tied =
       let now = max past.now moment in
       let e : Entry = record { event = UndoOf moment t; moment = now; ticket = None } in
       subst (λ (o : Option ℕ). Tied w' after bound (record { now = now; marks = option_map_or (strike past.marks) o past.marks; log = past.log ++ e ∷ [] }))
       (undo_of_moves by.table by.told before after past t outcome are tied.done tied.undone tied.given tied.tables is)
-      (undone_of_now w w' before after bound now past e t outcome (omega arith) refl refl is row choices same tabs tied)
+      (undone_of_now w w' before after bound now past e t outcome (omega arith) refl refl is still tied)
 
   -- ---- redo
 
   put_back_now : (w w' : W) (before after : Changes S) (bound now : ℕ) (past : Past) (e : Entry) (t : ℕ) → past.now ≤ now →
       deed_of e.event e.moment e.ticket ≡ None → given_of e.event e.ticket ≡ None → AreChanges by.table before →
-      IsPutBack before t after → IsRowAfter by.table by.keeps by.face same_face any w before.kept w' after.kept →
-      ((chosen : ℕ → Bool) → IsChoice by.table after.kept chosen → IsChoice by.table before.kept chosen) → told_of by.told after.kept ≡ told_of by.told before.kept → told_of by.table after.kept ≡ told_of by.table before.kept →
+      IsPutBack before t after → MovesStandings by w before w' after →
       Tied w before bound past → Tied w' after bound (record { now = now; marks = restore past.marks t; log = past.log ++ e ∷ [] })
-  put_back_now w w' before after bound now past e t less no_deed no_command are is row choices same tabs tied =
+  put_back_now w w' before after bound now past e t less no_deed no_command are is still tied =
       moved w w' before after bound now past (restore past.marks t) e no_deed no_command
       (later w' after past.now now (deeds_of past.log) (is_struck (restore past.marks t)) less
       (subst (λ (struck : ℕ → Bool). StandsAt w' after past.now (deeds_of past.log) struck) (sym (struck_after_restore past.marks t))
-      (stands_put_back by.has_cells by.table by.keeps by.face empty_face w w' before after past.now (deeds_of past.log) (is_struck past.marks) t are is row choices tied.stands)))
+      (stands_put_back by.has_cells by.table by.keeps by.face empty_face w w' before after past.now (deeds_of past.log) (is_struck past.marks) t are is still.row (λ chosen choice. still.choices chosen tt choice) tied.stands)))
       (done_put_back by.table before after t are is ∙ ap (λ (l : List ℕ). in_place t l) tied.done)
       (is.undone ∙ ap (λ (l : List ℕ). without t l) tied.undone)
-      is.tickets is.limit refl same tabs tied
+      is.tickets is.limit refl still.told still.tables tied
 
   redone_now : (w w' : W) (before after : Changes S) (bound now : ℕ) (past : Past) (e : Entry) (ticket : Option ℕ) → past.now ≤ now →
       deed_of e.event e.moment e.ticket ≡ None → given_of e.event e.ticket ≡ None → AreChanges by.table before →
-      IsRedo before ticket after → IsRowAfter by.table by.keeps by.face same_face any w before.kept w' after.kept →
-      ((chosen : ℕ → Bool) → IsChoice by.table after.kept chosen → IsChoice by.table before.kept chosen) → told_of by.told after.kept ≡ told_of by.told before.kept → told_of by.table after.kept ≡ told_of by.table before.kept →
+      IsRedo before ticket after → MovesStandings by w before w' after →
       Tied w before bound past → Tied w' after bound (record { now = now; marks = option_map_or (restore past.marks) ticket past.marks; log = past.log ++ e ∷ [] })
-  redone_now w w' before after bound now past e None less no_deed no_command are is row choices same tabs tied = unmoved w w' before after bound now past e less no_deed no_command is.1 row same tabs tied
-  redone_now w w' before after bound now past e (Some t) less no_deed no_command are is row choices same tabs tied =
-      put_back_now w w' before after bound now past e t less no_deed no_command are is.1 row choices same tabs tied
+  redone_now w w' before after bound now past e None less no_deed no_command are is still tied = unmoved w w' before after bound now past e less no_deed no_command is.1 still tied
+  redone_now w w' before after bound now past e (Some t) less no_deed no_command are is still tied =
+      put_back_now w w' before after bound now past e t less no_deed no_command are is.1 still tied
 
   pub tied_redo : (w w' : W) (before after : Changes S) (bound moment : ℕ) (past : Past) (ticket : Option ℕ) → AreChanges by.table before →
-      IsRedo before ticket after → IsRowAfter by.table by.keeps by.face same_face any w before.kept w' after.kept →
-      ((chosen : ℕ → Bool) → IsChoice by.table after.kept chosen → IsChoice by.table before.kept chosen) → told_of by.told after.kept ≡ told_of by.told before.kept → told_of by.table after.kept ≡ told_of by.table before.kept →
+      IsRedo before ticket after → MovesStandings by w before w' after →
       Tied w before bound past → Tied w' after bound (followed_by bound past (Redo moment))
-  tied_redo w w' before after bound moment past ticket are is row choices same tabs tied =
+  tied_redo w w' before after bound moment past ticket are is still tied =
       let now = max past.now moment in
       let e : Entry = record { event = Redo moment; moment = now; ticket = None } in
       subst (λ (o : Option ℕ). Tied w' after bound (record { now = now; marks = option_map_or (restore past.marks) o past.marks; log = past.log ++ e ∷ [] }))
       (sym (redo_reaches w before after bound past ticket tied is))
-      (redone_now w w' before after bound now past e ticket (omega arith) refl refl are is row choices same tabs tied)
+      (redone_now w w' before after bound now past e ticket (omega arith) refl refl are is still tied)
 
   redone_of_now : (w w' : W) (before after : Changes S) (bound now : ℕ) (past : Past) (e : Entry) (t : ℕ) (outcome : Outcome) → past.now ≤ now →
       deed_of e.event e.moment e.ticket ≡ None → given_of e.event e.ticket ≡ None → AreChanges by.table before →
-      IsRedoOf by.table before t outcome after → IsRowAfter by.table by.keeps by.face same_face any w before.kept w' after.kept →
-      ((chosen : ℕ → Bool) → IsChoice by.table after.kept chosen → IsChoice by.table before.kept chosen) → told_of by.told after.kept ≡ told_of by.told before.kept → told_of by.table after.kept ≡ told_of by.table before.kept →
+      IsRedoOf by.table before t outcome after → MovesStandings by w before w' after →
       Tied w before bound past → Tied w' after bound (record { now = now; marks = option_map_or (restore past.marks) (moved_by outcome t) past.marks; log = past.log ++ e ∷ [] })
-  redone_of_now w w' before after bound now past e t Moved less no_deed no_command are is row choices same tabs tied =
-      put_back_now w w' before after bound now past e t less no_deed no_command are is.1 row choices same tabs tied
-  redone_of_now w w' before after bound now past e t NotKept less no_deed no_command are is row choices same tabs tied =
-      unmoved w w' before after bound now past e less no_deed no_command is.1 row same tabs tied
-  redone_of_now w w' before after bound now past e t (Buried other) less no_deed no_command are is row choices same tabs tied =
-      unmoved w w' before after bound now past e less no_deed no_command is.2 row same tabs tied
+  redone_of_now w w' before after bound now past e t Moved less no_deed no_command are is still tied =
+      put_back_now w w' before after bound now past e t less no_deed no_command are is.1 still tied
+  redone_of_now w w' before after bound now past e t NotKept less no_deed no_command are is still tied =
+      unmoved w w' before after bound now past e less no_deed no_command is.1 still tied
+  redone_of_now w w' before after bound now past e t (Buried other) less no_deed no_command are is still tied =
+      unmoved w w' before after bound now past e less no_deed no_command is.2 still tied
 
   pub tied_redo_of : (w w' : W) (before after : Changes S) (bound moment : ℕ) (past : Past) (t : ℕ) (outcome : Outcome) → AreChanges by.table before →
-      IsRedoOf by.table before t outcome after → IsRowAfter by.table by.keeps by.face same_face any w before.kept w' after.kept →
-      ((chosen : ℕ → Bool) → IsChoice by.table after.kept chosen → IsChoice by.table before.kept chosen) → told_of by.told after.kept ≡ told_of by.told before.kept → told_of by.table after.kept ≡ told_of by.table before.kept →
+      IsRedoOf by.table before t outcome after → MovesStandings by w before w' after →
       Tied w before bound past → Tied w' after bound (followed_by bound past (RedoOf moment t))
-  tied_redo_of w w' before after bound moment past t outcome are is row choices same tabs tied =
+  tied_redo_of w w' before after bound moment past t outcome are is still tied =
       let now = max past.now moment in
       let e : Entry = record { event = RedoOf moment t; moment = now; ticket = None } in
       subst (λ (o : Option ℕ). Tied w' after bound (record { now = now; marks = option_map_or (restore past.marks) o past.marks; log = past.log ++ e ∷ [] }))
       (redo_of_moves by.table by.told before after past t outcome are tied.done tied.undone tied.given tied.tables is)
-      (redone_of_now w w' before after bound now past e t outcome (omega arith) refl refl are is row choices same tabs tied)
+      (redone_of_now w w' before after bound now past e t outcome (omega arith) refl refl are is still tied)
 
   -- ---- what changes no command
 

@@ -12,4 +12,4 @@ pub returns-clause-tied : goal.returns-clause-tied
 returns-clause-tied g c = λ clock moment bound past is tied.
     tied_redo g.C.World.World
     c.args.world.now c.redo.new.world c.args.journal.now c.redo.new.self bound moment past c.in_ok-ticket.ticket
-    c.undone-undone.ensures.sound c.in_ok-ticket.ensures.ticket c.in_ok-ticket.ensures.row (λ chosen choice. c.in_ok-ticket.ensures.choices chosen tt choice) c.in_ok-ticket.ensures.told c.in_ok-ticket.ensures.tables.0 tied
+    c.undone-undone.ensures.sound c.in_ok-ticket.ensures.ticket c.in_ok-ticket.ensures.moved tied

@@ -12,4 +12,4 @@ pub returns-clause-tied : goal.returns-clause-tied
 returns-clause-tied g c = λ clock moment bound past is tied.
     tied_undo g.C.World.World
     c.args.world.now c.undo.new.world c.args.journal.now c.undo.new.self bound moment past c.in_ok-ticket.ticket
-    c.in_ok-ticket.ensures.ticket c.in_ok-ticket.ensures.row (λ chosen choice. c.in_ok-ticket.ensures.choices chosen tt choice) c.in_ok-ticket.ensures.told c.in_ok-ticket.ensures.tables.0 tied
+    c.in_ok-ticket.ensures.ticket c.in_ok-ticket.ensures.moved tied

@@ -12,4 +12,4 @@ pub returns-clause-tied : goal.returns-clause-tied
 returns-clause-tied g c = λ clock moment bound past is tied.
     tied_undo_of g.C.World.World
     c.args.world.now c.undo_of.new.world c.args.journal.now c.undo_of.new.self bound moment past c.args.ticket c.in_ok-outcome.outcome
-    c.undone-undone.ensures.sound c.in_ok-outcome.ensures.outcome c.in_ok-outcome.ensures.row (λ chosen choice. c.in_ok-outcome.ensures.choices chosen tt choice) c.in_ok-outcome.ensures.told c.in_ok-outcome.ensures.tables.0 tied
+    c.undone-undone.ensures.sound c.in_ok-outcome.ensures.outcome c.in_ok-outcome.ensures.moved tied
