@@ -32,3 +32,10 @@ pub record TakesBack (saved : SavedTables) (left before : Tables) : Type 0 where
   pub sound : AreTables before
   pub brings : brings_back saved.records ≡ true → IsRemoval before left
   pub takes : takes_away saved.records ≡ true → IsRemoval left before
+
+-- A change is on its other side: the lists are those of the other side, and the saved value leads back. The next step and the one after it need what they did, the other way round.
+pub record TurnsOver (saved : SavedTables) (old : Tables) (saved' : SavedTables) (new : Tables) : Type 0 where
+  pub other : new ≡ before_of saved old
+  pub again : TakesBack saved' new old
+  pub need : needs_memory saved' ≡ needs_memory_after saved
+  pub need_after : needs_memory_after saved' ≡ needs_memory saved

@@ -60,7 +60,7 @@ impl ZoneTable {
     ghost use Rattle.local_zone.specs.Answer.{carries_record, local_now, local_of};
     ghost use Rattle.local_zone.specs.Change.{after_set, after_drop, after_add, after_drop_name, has_zone};
     ghost use Rattle.local_zone.specs.Reason.{reason_of_set, reason_of_add, IsFaultFor};
-    ghost use Rattle.local_zone.specs.Saved.{before_of, needs_memory, needs_memory_after, TakesBack};
+    ghost use Rattle.local_zone.specs.Saved.{before_of, needs_memory, TakesBack, TurnsOver};
     ghost use Rattle.named_list.specs.Turn.{puts_in};
 
     /// A table of no zones and no records. It takes no memory.
@@ -205,10 +205,7 @@ impl ZoneTable {
     fn turn_in(&mut self, saved: &mut SavedTables) -> Result<(), NoMemory>
         requires takes { (other : Tables) × TakesBack saved.old self.old other }
         requires puts { puts_in saved.old.zones ≡ true }
-        ensures ok { OnOk result (self.new ≡ before_of saved.old self.old) }
-        ensures again { OnOk result (TakesBack saved.new self.new self.old) }
-        ensures turned { OnOk result ((needs_memory saved.new ≡ needs_memory_after saved.old)
-            × (needs_memory_after saved.new ≡ needs_memory saved.old)) }
+        ensures turns { OnOk result (TurnsOver saved.old self.old saved.new self.new) }
         ensures err { OnErr result ((self.new ≡ self.old) × (saved.new ≡ saved.old)) }
     {
         put_zone_in(
@@ -242,10 +239,7 @@ impl ZoneTable {
     fn turn_out(&mut self, saved: &mut SavedTables) -> Result<(), NoMemory>
         requires takes { (other : Tables) × TakesBack saved.old self.old other }
         requires puts { puts_in saved.old.zones ≡ false }
-        ensures ok { OnOk result (self.new ≡ before_of saved.old self.old) }
-        ensures again { OnOk result (TakesBack saved.new self.new self.old) }
-        ensures turned { OnOk result ((needs_memory saved.new ≡ needs_memory_after saved.old)
-            × (needs_memory_after saved.new ≡ needs_memory saved.old)) }
+        ensures turns { OnOk result (TurnsOver saved.old self.old saved.new self.new) }
         ensures err { OnErr result ((self.new ≡ self.old) × (saved.new ≡ saved.old)) }
         ensures free { needs_memory saved.old ≡ false → IsOk result }
     {
@@ -268,10 +262,7 @@ impl ZoneTable {
     // Goes to the other side of a change, and leaves the way back.
     fn turn_over(&mut self, saved: &mut SavedTables) -> Result<(), NoMemory>
         requires { (other : Tables) × TakesBack saved.old self.old other }
-        ensures ok { OnOk result (self.new ≡ before_of saved.old self.old) }
-        ensures again { OnOk result (TakesBack saved.new self.new self.old) }
-        ensures turned { OnOk result ((needs_memory saved.new ≡ needs_memory_after saved.old)
-            × (needs_memory_after saved.new ≡ needs_memory saved.old)) }
+        ensures turns { OnOk result (TurnsOver saved.old self.old saved.new self.new) }
         ensures err { OnErr result ((self.new ≡ self.old) × (saved.new ≡ saved.old)) }
         ensures free { needs_memory saved.old ≡ false → IsOk result }
     {
@@ -286,10 +277,7 @@ impl ZoneTable {
     /// the change removed nothing, no memory is needed.
     pub fn back(&mut self, saved: &mut SavedTables) -> Result<(), NoMemory>
         requires { (before : Tables) × TakesBack saved.old self.old before }
-        ensures ok { OnOk result (self.new ≡ before_of saved.old self.old) }
-        ensures again { OnOk result (TakesBack saved.new self.new self.old) }
-        ensures turned { OnOk result ((needs_memory saved.new ≡ needs_memory_after saved.old)
-            × (needs_memory_after saved.new ≡ needs_memory saved.old)) }
+        ensures turns { OnOk result (TurnsOver saved.old self.old saved.new self.new) }
         ensures err { OnErr result ((self.new ≡ self.old) × (saved.new ≡ saved.old)) }
         ensures free { needs_memory saved.old ≡ false → IsOk result }
     {
@@ -299,10 +287,7 @@ impl ZoneTable {
     /// Makes a change again that `back` took back. The saved value then serves `back`. If memory is refused, nothing has changed.
     pub fn again(&mut self, saved: &mut SavedTables) -> Result<(), NoMemory>
         requires { (left : Tables) × TakesBack saved.old self.old left }
-        ensures ok { OnOk result (self.new ≡ before_of saved.old self.old) }
-        ensures back { OnOk result (TakesBack saved.new self.new self.old) }
-        ensures turned { OnOk result ((needs_memory saved.new ≡ needs_memory_after saved.old)
-            × (needs_memory_after saved.new ≡ needs_memory saved.old)) }
+        ensures turns { OnOk result (TurnsOver saved.old self.old saved.new self.new) }
         ensures err { OnErr result ((self.new ≡ self.old) × (saved.new ≡ saved.old)) }
         ensures free { needs_memory saved.old ≡ false → IsOk result }
     {

@@ -43,29 +43,29 @@ returns-in-Err-clause-err c =
     ((λ i. record { zones = same i; records = c.in-Err.ensures.err.0 i }) ∙ c.self.view_is, λ i. record { zones = back i; records = c.in-Err.ensures.err.1 i })
 
 -- a zone that is put in needs memory, and none when it is taken out again
-pub returns-in-Ok-clause-turned : goal.returns-in-Ok-clause-turned
-returns-in-Ok-clause-turned c =
-    let way = c.in_ok-put_zone_in.ensures.without in
-    let was : c.args.saved.now.zones ≡ With way.0 way.1.0 = way.1.1.0 in
-    let now : c.put_zone_in.new.turn ≡ Without way.0 = way.1.1.1 in
-    let first = c.args.saved.now.records in
-    let then' = c.turn_over.new.turn in (
-      ap (λ (t : Turn Zone). puts_in t || records_need then') now ∙ c.in-Ok.ensures.turned.need ∙ sym (ap (λ (t : Turn Zone). takes_out t || records_need_after first) was),
-      ap (λ (t : Turn Zone). takes_out t || records_need_after then') now ∙ sym (ap (λ (t : Turn Zone). puts_in t || records_need first) was),
-    )
-
-pub returns-in-Ok-clause-again : goal.returns-in-Ok-clause-again
-returns-in-Ok-clause-again c =
+pub returns-in-Ok-clause-turns : goal.returns-in-Ok-clause-turns
+returns-in-Ok-clause-turns c =
     let way = c.requires.takes.1 in
     let turned = c.in-Ok.ensures.turned in
     let now : Tables = record { zones = c.put_zone_in.new.zones; records = c.turn_over.new.records } in
-    let is : now ≡ c.requires.takes.0
-    = (λ i. record { zones = c.in_ok-put_zone_in.ensures.ok i; records = c.in-Ok.ensures.ok i }) ∙ ap (λ (t : Tables). before_of c.args.saved.now t) c.self.view_is ∙ way.gives in
+    let other : now ≡ before_of c.args.saved.now c.args.self.now
+    = (λ i. record { zones = c.in_ok-put_zone_in.ensures.ok i; records = c.in-Ok.ensures.ok i }) ∙ ap (λ (t : Tables). before_of c.args.saved.now t) c.self.view_is in
+    let is : now ≡ c.requires.takes.0 = other ∙ way.gives in
+    let without = c.in_ok-put_zone_in.ensures.without in
+    let was : c.args.saved.now.zones ≡ With without.0 without.1.0 = without.1.1.0 in
+    let gone : c.put_zone_in.new.turn ≡ Without without.0 = without.1.1.1 in
+    let first = c.args.saved.now.records in
+    let then' = c.turn_over.new.turn in
     record {
-      gives = search rules;
-      fits = search rules;
-      goes = search rules;
-      sound = search rules;
-      brings = λ back. subst (λ (t : Tables). IsRemoval c.args.self.now t) (sym is) (way.takes (sym turned.brings ∙ back));
-      takes = λ away. subst (λ (t : Tables). IsRemoval t c.args.self.now) (sym is) (way.brings (sym turned.takes ∙ away));
+      other = other;
+      again = record {
+        gives = search rules;
+        fits = search rules;
+        goes = search rules;
+        sound = search rules;
+        brings = λ back. subst (λ (t : Tables). IsRemoval c.args.self.now t) (sym is) (way.takes (sym turned.brings ∙ back));
+        takes = λ away. subst (λ (t : Tables). IsRemoval t c.args.self.now) (sym is) (way.brings (sym turned.takes ∙ away));
+      };
+      need = ap (λ (t : Turn Zone). puts_in t || records_need then') gone ∙ turned.need ∙ sym (ap (λ (t : Turn Zone). takes_out t || records_need_after first) was);
+      need_after = ap (λ (t : Turn Zone). takes_out t || records_need_after then') gone ∙ sym (ap (λ (t : Turn Zone). puts_in t || records_need first) was);
     }

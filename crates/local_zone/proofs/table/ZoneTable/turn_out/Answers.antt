@@ -9,35 +9,36 @@ use Rattle.local_zone.specs.Tables.{Tables}
 use Rattle.local_zone.proofs.FreeLaws.{second_fails}
 use Rattle.local_zone.proofs.table.ZoneTable.turn_out.Goals as goal
 
--- what the zones put in or take out, and what the records do
-pub returns-clause-turned : goal.returns-clause-turned
-returns-clause-turned c =
-    let zones : List Zone = c.self.inside.zones in
-    let first = c.args.saved.now.zones in
-    let then' = c.turn_zone_out.new.turn in
-    let fits = subst (λ (t : Tables). HasPlace (λ (z : Zone). z.name) first t.zones) (sym c.self.view_is) c.requires.takes.1.fits in
-    let there = subst (λ (zs : List Zone). IsWayBack (λ (z : Zone). z.name) then' zs zones) c.turn_zone_out.ensures.list c.turn_zone_out.ensures.again in
-    let puts = puts_taken (λ (z : Zone). z.name) first then' zones (other_of first zones) (fits, refl) there in
-    let takes = takes_put (λ (z : Zone). z.name) first then' zones (other_of first zones) (fits, refl) there in
-    let records = c.in_ok-turn_over.ensures.turned in
-    (λ i. puts i || records.need i, λ i. takes i || records.need_after i)
-
 pub returns-in_err-turn_over-clause-free : goal.returns-in_err-turn_over-clause-free
 returns-in_err-turn_over-clause-free c none =
     absurd (false≢true (c.in_err-turn_over.ensures.free (second_fails (puts_in c.args.saved.now.zones) (records_need c.args.saved.now.records) none)))
 
-pub returns-clause-again : goal.returns-clause-again
-returns-clause-again c =
+-- what the zones put in or take out, and what the records do
+pub returns-clause-turns : goal.returns-clause-turns
+returns-clause-turns c =
     let way = c.requires.takes.1 in
+    let zones : List Zone = c.self.inside.zones in
+    let first = c.args.saved.now.zones in
+    let then' = c.turn_zone_out.new.turn in
+    let fits = subst (λ (t : Tables). HasPlace (λ (z : Zone). z.name) first t.zones) (sym c.self.view_is) way.fits in
+    let there = subst (λ (zs : List Zone). IsWayBack (λ (z : Zone). z.name) then' zs zones) c.turn_zone_out.ensures.list c.turn_zone_out.ensures.again in
+    let puts = puts_taken (λ (z : Zone). z.name) first then' zones (other_of first zones) (fits, refl) there in
+    let takes = takes_put (λ (z : Zone). z.name) first then' zones (other_of first zones) (fits, refl) there in
     let turned = c.in_ok-turn_over.ensures.turned in
     let now : Tables = record { zones = c.turn_zone_out.new.zones; records = c.turn_over.new.records } in
-    let is : now ≡ c.requires.takes.0
-    = (λ i. record { zones = c.turn_zone_out.ensures.list i; records = c.in_ok-turn_over.ensures.ok i }) ∙ ap (λ (t : Tables). before_of c.args.saved.now t) c.self.view_is ∙ way.gives in
+    let other : now ≡ before_of c.args.saved.now c.args.self.now
+    = (λ i. record { zones = c.turn_zone_out.ensures.list i; records = c.in_ok-turn_over.ensures.ok i }) ∙ ap (λ (t : Tables). before_of c.args.saved.now t) c.self.view_is in
+    let is : now ≡ c.requires.takes.0 = other ∙ way.gives in
     record {
-      gives = search rules;
-      fits = search rules;
-      goes = search rules;
-      sound = search rules;
-      brings = λ back. subst (λ (t : Tables). IsRemoval c.args.self.now t) (sym is) (way.takes (sym turned.brings ∙ back));
-      takes = λ away. subst (λ (t : Tables). IsRemoval t c.args.self.now) (sym is) (way.brings (sym turned.takes ∙ away));
+      other = other;
+      again = record {
+        gives = search rules;
+        fits = search rules;
+        goes = search rules;
+        sound = search rules;
+        brings = λ back. subst (λ (t : Tables). IsRemoval c.args.self.now t) (sym is) (way.takes (sym turned.brings ∙ back));
+        takes = λ away. subst (λ (t : Tables). IsRemoval t c.args.self.now) (sym is) (way.brings (sym turned.takes ∙ away));
+      };
+      need = λ i. puts i || turned.need i;
+      need_after = λ i. takes i || turned.need_after i;
     }

@@ -21,7 +21,7 @@ pub returns-in_ok-again-in-Zones-clause-row : goal.returns-in_ok-again-in-Zones-
 returns-in_ok-again-in-Zones-clause-row c = λ earlier ticket later at.
     both_again zones_tab stubs_tab zones_with_stubs of_zones of_stubs zone.before_of zone.TakesBack stub.before_of stub.TakesBack saved_table 1 2 zones_numbered stubs_numbered zones_apart KeepsBoth zones_split zones_join
     c.args.world.now (record { tables = record { local = c.again.new.self; stubs = c.args.world.now.tables.stubs } }) earlier ticket c.args.saved.now (saved.Zones c.again.new.saved) later c.in-Zones.saved c.again.new.saved (ap of_zones c.in-Zones.is) refl
-    (sym c.in_ok-again-in-Zones.ensures.ok) c.in_ok-again-in-Zones.ensures.back.gives c.in_ok-again-in-Zones.ensures.back refl at
+    (sym c.in_ok-again-in-Zones.ensures.turns.other) c.in_ok-again-in-Zones.ensures.turns.again.gives c.in_ok-again-in-Zones.ensures.turns.again refl at
 
 pub again-requires-in-Stubs : goal.again-requires-in-Stubs
 again-requires-in-Stubs c =
@@ -39,8 +39,8 @@ returns-in_ok-again-in-Stubs-clause-row c = λ earlier ticket later at.
 
 pub returns-in_ok-again-in-Zones-clause-turned : goal.returns-in_ok-again-in-Zones-clause-turned
 returns-in_ok-again-in-Zones-clause-turned c =
-    let turned = c.in_ok-again-in-Zones.ensures.turned in
-    (turned.0 ∙ sym (ap saved_needs_after c.in-Zones.is), turned.1 ∙ sym (ap saved_needs c.in-Zones.is))
+    let turned = c.in_ok-again-in-Zones.ensures.turns in
+    (turned.need ∙ sym (ap saved_needs_after c.in-Zones.is), turned.need_after ∙ sym (ap saved_needs c.in-Zones.is))
 
 pub returns-in_err-again-in-Zones-clause-free : goal.returns-in_err-again-in-Zones-clause-free
 returns-in_err-again-in-Zones-clause-free c none = absurd (false≢true (c.in_err-again-in-Zones.ensures.free (sym (ap saved_needs c.in-Zones.is) ∙ none)))
