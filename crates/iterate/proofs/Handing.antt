@@ -1,6 +1,5 @@
 -- How a find is handed to a book, which may be full.
 use Rattle.std.proofs.Common.{◌≡◌, ℕ, ◌+◌, ◌<◌, ◌≤◌, List, [], ◌∷◌, ◌++◌, length, map, min, take, get_or, Bool, true, false, Some, None, Result, Ok, Err, IfOk, sym, ap, ◌∙◌, subst, refl, arith}
-use Rattle.std.specs.Global.{Box}
 use Rattle.std.specs.List.{Contains}
 use Rattle.std.proofs.lemmas.Bool.{false≢true}
 use Rattle.std.proofs.lemmas.List.{length-map, length-take, length-drop, get_or-map, get_or-drop, get_or-take, take-map}
@@ -25,6 +24,7 @@ use Rattle.iterate.specs.declared.path.Path.{Path}
 use Rattle.iterate.specs.declared.phase.Advance.{Advance}
 use Rattle.iterate.specs.declared.phase.Attempt.{Attempt}
 use Rattle.iterate.specs.declared.phase.Attempt.TheVariants as attempt
+use Rattle.iterate.specs.declared.phase.Handing.{Handing}
 use Rattle.iterate.specs.declared.phase.Phase.TheVariants.{Admitting, Ended}
 use Rattle.iterate.specs.declared.search.Search.{Search}
 use Rattle.iterate.specs.declared.want.AskFault.TheVariants.{Desk}
@@ -170,10 +170,10 @@ pub heard_on : {port : ℕ} {question : Question} {log : List Exchange} {searchi
     → IsHearing port question log searching heard allowed
 heard_on t = hearing_more t.hearing t.adds (handing_unsent t.handing)
 
-asking : (port : ℕ) (question : Question) (log : List Exchange) (moment : ℕ) (id : Stream) (left : ℕ) (searching : Box Search) (heard : Box Heard) (allowed next : ℕ) (tried : Attempt) (find : Find) (event : Event)
-    → IsHearing port question log searching.value heard.value allowed → IsHanded heard.value.harvest.chosen allowed next find → IsTrying tried find log (Book event) → MayCall port question log moment event
-    → left_of_finds searching.value.path next tried < left → Goes port question log moment (idle id) left (Admitting searching heard allowed next tried) (Book event)
-asking port question log moment id left searching heard allowed next tried find event h handed trying may less = record {
+asking : (port : ℕ) (question : Question) (log : List Exchange) (moment : ℕ) (id : Stream) (left : ℕ) (place : Handing) (tried : Attempt) (find : Find) (event : Event)
+    → IsHearing port question log place.search.value place.heard.value place.allowed → IsHanded place.heard.value.harvest.chosen place.allowed place.next find → IsTrying tried find log (Book event) → MayCall port question log moment event
+    → left_of_finds place.search.value.path place.next tried < left → Goes port question log moment (idle id) left (Admitting place tried) (Book event)
+asking port question log moment id left place tried find event h handed trying may less = record {
   wants = may;
   drawn = refl;
   fits = (h, record { find = find; handed = handed; trying = trying });
@@ -197,11 +197,11 @@ trying_hand attempt.Oldest find log moment by = absurd by
 trying_hand attempt.Forget find log moment by = absurd by
 
 -- A find is handed over.
-pub handing : (port : ℕ) (question : Question) (log : List Exchange) (moment : ℕ) (id : Stream) (left : ℕ) (searching : Box Search) (heard : Box Heard) (allowed next : ℕ) (tried : Attempt) (find : Find)
-    → IsHearing port question log searching.value heard.value allowed → IsHanded heard.value.harvest.chosen allowed next find → IsHandedBy tried find log
-    → left_of_finds searching.value.path next tried < left → Goes port question log moment (idle id) left (Admitting searching heard allowed next tried) (Book (Admit moment find))
-handing port question log moment id left searching heard allowed next tried find h handed by less =
-    asking port question log moment id left searching heard allowed next tried find (Admit moment find) h handed (trying_hand tried find log moment by) (refl, harvested h next find handed, may_hand tried find log by) less
+pub handing : (port : ℕ) (question : Question) (log : List Exchange) (moment : ℕ) (id : Stream) (left : ℕ) (place : Handing) (tried : Attempt) (find : Find)
+    → IsHearing port question log place.search.value place.heard.value place.allowed → IsHanded place.heard.value.harvest.chosen place.allowed place.next find → IsHandedBy tried find log
+    → left_of_finds place.search.value.path place.next tried < left → Goes port question log moment (idle id) left (Admitting place tried) (Book (Admit moment find))
+handing port question log moment id left place tried find h handed by less =
+    asking port question log moment id left place tried find (Admit moment find) h handed (trying_hand tried find log moment by) (refl, harvested h place.next find handed, may_hand tried find log by) less
 
 -- ---- a book that is full
 
@@ -215,14 +215,14 @@ found_full before log find want input asked says adds =
     record { moment = asked.moment; stored = came.0; refused = came_as adds asked.wanted came.1 }
 
 -- It is swept.
-pub sweeping : (port : ℕ) (question : Question) (log : List Exchange) (moment : ℕ) (id : Stream) (searching : Box Search) (heard : Box Heard) (allowed next : ℕ) (input : Input)
-    → IsTold port question log searching.value heard.value allowed next attempt.Admit input → SaysFull input
-    → Goes port question log moment (idle id) (left_of_finds searching.value.path next attempt.Admit) (Admitting searching heard allowed next attempt.Sweep) (Book (Sweep moment))
-sweeping port question log moment id searching heard allowed next input t says =
+pub sweeping : (port : ℕ) (question : Question) (log : List Exchange) (moment : ℕ) (id : Stream) (place : Handing) (input : Input)
+    → IsTold port question log place.search.value place.heard.value place.allowed place.next attempt.Admit input → SaysFull input
+    → Goes port question log moment (idle id) (left_of_finds place.search.value.path place.next attempt.Admit) (Admitting place attempt.Sweep) (Book (Sweep moment))
+sweeping port question log moment id place input t says =
     let find = t.handing.find in
     let full : IsFull find log = record { before = t.before; anew = t.handing.trying.0; full = found_full t.before log find t.want input t.handing.trying.1 says t.adds } in
-    asking port question log moment id _ searching heard allowed next attempt.Sweep find (Sweep moment) (heard_on t) t.handing.handed (full, record { moment = moment; wanted = refl }) (refl, (find, full))
-    (attempt_less searching.value.path next attempt.Admit attempt.Sweep (omega arith) (omega arith))
+    asking port question log moment id _ place attempt.Sweep find (Sweep moment) (heard_on t) t.handing.handed (full, record { moment = moment; wanted = refl }) (refl, (find, full))
+    (attempt_less place.search.value.path place.next attempt.Admit attempt.Sweep (omega arith) (omega arith))
 
 -- Then the find is handed over again.
 pub swept_hands : (port : ℕ) (question : Question) (log : List Exchange) (searching : Search) (heard : Heard) (allowed next : ℕ) (input : Input) → IsTold port question log searching heard allowed next attempt.Sweep input → input ≡ Reply Swept
@@ -232,24 +232,24 @@ swept_hands port question log searching heard allowed next input t is find hande
     (record { before = t.before; full = t.handing.trying.0; moment = t.handing.trying.1.moment; swept = came_as t.adds t.handing.trying.1.wanted is })
 
 -- It is asked for the name to forget first.
-pub asking_oldest : (port : ℕ) (question : Question) (log : List Exchange) (moment : ℕ) (id : Stream) (searching : Box Search) (heard : Box Heard) (allowed next : ℕ) (input : Input)
-    → IsTold port question log searching.value heard.value allowed next attempt.Again input → SaysFull input
-    → Goes port question log moment (idle id) (left_of_finds searching.value.path next attempt.Again) (Admitting searching heard allowed next attempt.Oldest) (Book (Look 0 Oldest))
-asking_oldest port question log moment id searching heard allowed next input t says =
+pub asking_oldest : (port : ℕ) (question : Question) (log : List Exchange) (moment : ℕ) (id : Stream) (place : Handing) (input : Input)
+    → IsTold port question log place.search.value place.heard.value place.allowed place.next attempt.Again input → SaysFull input
+    → Goes port question log moment (idle id) (left_of_finds place.search.value.path place.next attempt.Again) (Admitting place attempt.Oldest) (Book (Look 0 Oldest))
+asking_oldest port question log moment id place input t says =
     let find = t.handing.find in
     let full : IsFullAgain find log = record { before = t.before; swept = t.handing.trying.0; full = found_full t.before log find t.want input t.handing.trying.1 says t.adds } in
-    asking port question log moment id _ searching heard allowed next attempt.Oldest find (Look 0 Oldest) (heard_on t) t.handing.handed (full, record { moment = 0; wanted = refl }) (refl, (find, full))
-    (attempt_less searching.value.path next attempt.Again attempt.Oldest (omega arith) (omega arith))
+    asking port question log moment id _ place attempt.Oldest find (Look 0 Oldest) (heard_on t) t.handing.handed (full, record { moment = 0; wanted = refl }) (refl, (find, full))
+    (attempt_less place.search.value.path place.next attempt.Again attempt.Oldest (omega arith) (omega arith))
 
 -- That name is forgotten.
-pub forgetting : (port : ℕ) (question : Question) (log : List Exchange) (moment : ℕ) (id : Stream) (searching : Box Search) (heard : Box Heard) (allowed next : ℕ) (input : Input) (owner : Labels)
-    → IsTold port question log searching.value heard.value allowed next attempt.Oldest input → input ≡ Reply (Seen (SeenOldest (Some owner)))
-    → Goes port question log moment (idle id) (left_of_finds searching.value.path next attempt.Oldest) (Admitting searching heard allowed next attempt.Forget) (Book (Forget moment owner))
-forgetting port question log moment id searching heard allowed next input owner t is =
+pub forgetting : (port : ℕ) (question : Question) (log : List Exchange) (moment : ℕ) (id : Stream) (place : Handing) (input : Input) (owner : Labels)
+    → IsTold port question log place.search.value place.heard.value place.allowed place.next attempt.Oldest input → input ≡ Reply (Seen (SeenOldest (Some owner)))
+    → Goes port question log moment (idle id) (left_of_finds place.search.value.path place.next attempt.Oldest) (Admitting place attempt.Forget) (Book (Forget moment owner))
+forgetting port question log moment id place input owner t is =
     let find = t.handing.find in
     let named : IsNamed find owner log = record { before = t.before; full = t.handing.trying.0; moment = t.handing.trying.1.moment; named = came_as t.adds t.handing.trying.1.wanted is } in
-    asking port question log moment id _ searching heard allowed next attempt.Forget find (Forget moment owner) (heard_on t) t.handing.handed (owner, named, record { moment = moment; wanted = refl }) (refl, (find, named))
-    (attempt_less searching.value.path next attempt.Oldest attempt.Forget (omega arith) (omega arith))
+    asking port question log moment id _ place attempt.Forget find (Forget moment owner) (heard_on t) t.handing.handed (owner, named, record { moment = moment; wanted = refl }) (refl, (find, named))
+    (attempt_less place.search.value.path place.next attempt.Oldest attempt.Forget (omega arith) (omega arith))
 
 -- Then the find is handed over a last time.
 pub forgotten_hands : (port : ℕ) (question : Question) (log : List Exchange) (searching : Search) (heard : Heard) (allowed next : ℕ) (input : Input) → IsTold port question log searching heard allowed next attempt.Forget input → input ≡ Reply Forgotten

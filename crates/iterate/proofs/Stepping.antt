@@ -97,7 +97,7 @@ few_open port question log want (Following path harvest) f = none_open log want 
 few_open port question log want (Listing path) f = none_open log want (ap sends f.1.wanted) (path_few f.0.is_path)
 few_open port question log want (Seeking hunting target stage) f = none_open log want (ap sends f.1.wanted) (path_few f.0.is_search.path)
 few_open port question log want (Sent hunting server id over) f = one_open log want (ap sends f.wanted) (omega (arith, f.is_search.path.counted, f.some))
-few_open port question log want (Admitting hunting heard allowed next tried) f = none_open log want (handing_unsent f.1) (path_few f.0.is_search.path)
+few_open port question log want (Admitting handing tried) f = none_open log want (handing_unsent f.1) (path_few f.0.is_search.path)
 few_open port question log want Ended f = none_open log want (ap sends f.1) f.2
 
 -- ---- a step
@@ -114,7 +114,7 @@ task_of port question (Following path harvest) s f = record { log = _; want = _;
 task_of port question (Listing path) s f = record { log = _; want = _; stands = s; fits = f }
 task_of port question (Seeking hunting target stage) s f = record { log = _; want = _; stands = s; fits = f }
 task_of port question (Sent hunting server id over) s f = record { log = _; want = _; stands = s; fits = f }
-task_of port question (Admitting hunting heard allowed next tried) s f = record { log = _; want = _; stands = s; fits = f }
+task_of port question (Admitting handing tried) s f = record { log = _; want = _; stands = s; fits = f }
 task_of port question Ended s f = record { log = _; want = _; stands = s; fits = f }
 
 -- A step is well made.
@@ -163,7 +163,7 @@ stepping port question steps moment id input (Following path harvest) after want
 stepping port question steps moment id input (Listing path) after want t due goes fresh broken = step_next t.stands (goes t.log _ t.want t.fits (stands_due t.stands input due) (record { adds = refl }))
 stepping port question steps moment id input (Seeking hunting target stage) after want t due goes fresh broken = step_next t.stands (goes t.log _ t.want t.fits (stands_due t.stands input due) (record { adds = refl }))
 stepping port question steps moment id input (Sent hunting server i over) after want t due goes fresh broken = step_next t.stands (goes t.log _ t.want t.fits (stands_due t.stands input due) (record { adds = refl }))
-stepping port question steps moment id input (Admitting hunting heard allowed next tried) after want t due goes fresh broken = step_next t.stands (goes t.log _ t.want t.fits (stands_due t.stands input due) (record { adds = refl }))
+stepping port question steps moment id input (Admitting handing tried) after want t due goes fresh broken = step_next t.stands (goes t.log _ t.want t.fits (stands_due t.stands input due) (record { adds = refl }))
 stepping port question steps moment id input Ended after want t due goes fresh broken = step_next t.stands (goes t.log _ t.want t.fits (stands_due t.stands input due) (record { adds = refl }))
 
 -- An answer that may be wanted can be written.

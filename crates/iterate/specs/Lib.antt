@@ -15,6 +15,7 @@ pub mod Judged
 pub mod Searching
 pub mod Measure
 pub mod Phase
+pub mod Admitting
 pub mod Joining
 pub mod Hunting
 pub mod Task

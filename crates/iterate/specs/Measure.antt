@@ -76,7 +76,7 @@ digits_in (Aliasing path) = digits_of_path path 0 0 top 2
 digits_in (Listing path) = digits_of_path path 0 0 top 1
 digits_in (Seeking search target stage) = digits_of_seek search.value stage
 digits_in (Sent search server id over) = digits_of_path search.value.path 1 2 0 0
-digits_in (Admitting search heard allowed next tried) = digits_of_path search.value.path 0 1 0 (attempts_left next tried)
+digits_in (Admitting handing tried) = digits_of_path handing.search.value.path 0 1 0 (attempts_left handing.next tried)
 digits_in Ended = 0 ∷ 0 ∷ 0 ∷ 0 ∷ 0 ∷ 0 ∷ []
 digits_in Broken = 0 ∷ 0 ∷ 0 ∷ 0 ∷ 0 ∷ 0 ∷ []
 

@@ -147,7 +147,8 @@ Remembers port question log want (Following path harvest) = IsBehind port questi
 Remembers port question log want (Listing path) = IsAskable port question log path × IsLook want (ServersFor (served_name path.last))
 Remembers port question log want (Seeking search target stage) = IsSeeking port question log search.value target stage × IsLook want (ask_at stage target)
 Remembers port question log want (Sent search server id over) = IsWaiting port question log want search.value server id over
-Remembers port question log want (Admitting search heard allowed next tried) = IsHearing port question log search.value heard.value allowed × IsHanding heard.value.harvest.chosen allowed next tried log want
+Remembers port question log want (Admitting handing tried) =
+    IsHearing port question log handing.search.value handing.heard.value handing.allowed × IsHanding handing.heard.value.harvest.chosen handing.allowed handing.next tried log want
 Remembers port question log want Ended = (answer : Answer) × (want ≡ Finish answer) × (count_sends log ≤ MOST_SENDS)
 Remembers port question log want Broken = ⊥
 

@@ -209,6 +209,6 @@ pub record LeadsOn (path : Path) (input : Input) (to : Labels) : Type 0 where
 
 -- What a task in this phase wants next: all finds of a response are handed over before it is acted on, and an alias is followed to the question about its target.
 abbrev pub AsksOn : Phase → ℕ → Input → Want → Type 0
-AsksOn (Admitting search heard allowed next tried) moment input want = HandsOn heard.value.harvest.chosen allowed next tried moment input want
+AsksOn (Admitting handing tried) moment input want = HandsOn handing.heard.value.harvest.chosen handing.allowed handing.next tried moment input want
 AsksOn (Aliasing path) moment input want = (to : Labels) → LeadsOn path input to → want ≡ Book (Look moment (Asked (record { owner = to; kind = path.last.kind })))
 AsksOn phase moment input want = Unit {0}

@@ -11,17 +11,18 @@ ghost use Rattle.history.specs.declared.event.Reply.TheVariants.{Seen as SeenRep
 ghost use Rattle.history.specs.declared.event.Seen.TheVariants.{Oldest as SeenOldest};
 ghost use Rattle.iterate.specs.declared.want.Input.TheVariants.{Reply as Replied};
 ghost use Rattle.iterate.specs.declared.want.Want.TheVariants.{Book};
+ghost use Rattle.iterate.specs.Admitting.{ContinuesAfter};
 ghost use Rattle.iterate.specs.Exchanges.{Exchange};
 ghost use Rattle.iterate.specs.Measure.{left_of_finds, left_of_hearing};
-ghost use Rattle.iterate.specs.Phase.{Advances, IsHearing, IsTold, Suits, drawing};
+ghost use Rattle.iterate.specs.Phase.{Advances, IsHearing, Suits, drawing};
 ghost use Rattle.iterate.specs.Resolved.{Fails};
-ghost use Rattle.iterate.specs.Room.{AsksNext, IsHanded, IsHandedBy, IsHandedNext, IsNoneOldest, MadeRoom, SaysFull};
+ghost use Rattle.iterate.specs.Room.{IsHanded, IsHandedBy, IsNoneOldest, MadeRoom, SaysFull};
 ghost use Rattle.iterate.specs.Shown.{IsMisanswered};
 
 use crate::concluding::conclude;
 use crate::finishing::failed;
 use crate::limits::MOST_FINDS;
-use crate::phase::{Advance, Attempt, Phase};
+use crate::phase::{Advance, Attempt, Handing, Phase};
 use crate::search::Search;
 use crate::want::{AskFault, Input, Want};
 use dns_name::{Name, NoMemory};
@@ -44,25 +45,12 @@ fn find_at(heard: &Heard, allowed: usize, next: usize) -> Result<Option<SharedFi
 }
 
 /// Asks the book for this on behalf of the find at this place.
-fn ask_book(
-    search: Box<Search>,
-    heard: Box<Heard>,
-    allowed: usize,
-    next: usize,
-    attempt: Attempt,
-    event: Event,
-) -> Advance
-    ensures phase { result.phase ≡ Phase.Admitting search heard allowed next attempt }
+fn ask_book(handing: Handing, attempt: Attempt, event: Event) -> Advance
+    ensures phase { result.phase ≡ Phase.Admitting handing attempt }
     ensures want { result.want ≡ Book event }
 {
     Advance {
-        phase: Phase::Admitting {
-            search,
-            heard,
-            allowed,
-            next,
-            attempt,
-        },
+        phase: Phase::Admitting { handing, attempt },
         want: Want::Book(event),
     }
 }
@@ -73,29 +61,22 @@ fn hand<R: Rng>(
     port: u16,
     moment: u64,
     ids: &mut R,
-    search: Box<Search>,
-    heard: Box<Heard>,
-    allowed: usize,
-    next: usize,
+    handing: Handing,
     attempt: Attempt,
 ) -> Result<Advance, NoMemory>
-    ensures hands { (find : Find) → IsHanded heard.value.harvest.chosen allowed next find
+    ensures hands { (find : Find) → IsHanded handing.heard.value.harvest.chosen handing.allowed handing.next find
         → IfOk result (λ told. told.want ≡ Book (Admit moment find)) }
-    ensures goes { (question : Question) (log : List Exchange) (left : ℕ) → IsHearing port question log search.value heard.value allowed
-        → ((find : Find) → IsHanded heard.value.harvest.chosen allowed next find → IsHandedBy attempt find log)
-        → left_of_hearing search.value.path 1 ≤ left → (next < MOST_FINDS → left_of_finds search.value.path next attempt < left)
+    ensures goes { (question : Question) (log : List Exchange) (left : ℕ)
+        → IsHearing port question log handing.search.value handing.heard.value handing.allowed
+        → ((find : Find) → IsHanded handing.heard.value.harvest.chosen handing.allowed handing.next find → IsHandedBy attempt find log)
+        → left_of_hearing handing.search.value.path 1 ≤ left
+        → (handing.next < MOST_FINDS → left_of_finds handing.search.value.path handing.next attempt < left)
         → IfOk result (Advances port question log moment (drawing (R.stream ids.old) (R.stream ids.new)) left) }
 {
-    match find_at(&heard, allowed, next)? {
-        Some(find) => Ok(ask_book(
-            search,
-            heard,
-            allowed,
-            next,
-            attempt,
-            Event::Admit { moment, find },
-        )),
+    match find_at(&handing.heard, handing.allowed, handing.next)? {
+        Some(find) => Ok(ask_book(handing, attempt, Event::Admit { moment, find })),
         None => {
+            let Handing { search, heard, .. } = handing;
             let search = Box::into_inner(search);
             conclude(alloc, port, moment, ids, search, Box::into_inner(heard))
         }
@@ -119,17 +100,13 @@ pub(crate) fn admit<R: Rng>(
         → left_of_hearing search.value.path 1 ≤ left → left_of_finds search.value.path 0 Attempt.Admit < left
         → IfOk result (Advances port question log moment (drawing (R.stream ids.old) (R.stream ids.new)) left) }
 {
-    hand(
-        alloc,
-        port,
-        moment,
-        ids,
+    let handing = Handing {
         search,
         heard,
         allowed,
-        0,
-        Attempt::Admit,
-    )
+        next: 0,
+    };
+    hand(alloc, port, moment, ids, handing, Attempt::Admit)
 }
 
 /// Continues with the next find, if the book may reply so; else fails the question.
@@ -138,35 +115,35 @@ fn pass<R: Rng>(
     port: u16,
     moment: u64,
     ids: &mut R,
-    search: Box<Search>,
-    heard: Box<Heard>,
-    allowed: usize,
-    next: usize,
+    handing: Handing,
     lawful: bool,
 ) -> Result<Advance, NoMemory>
-    ensures hands { (find : Find) → lawful ≡ true → IsHanded heard.value.harvest.chosen allowed (next + 1) find
+    ensures hands { (find : Find) → lawful ≡ true → IsHanded handing.heard.value.harvest.chosen handing.allowed (handing.next + 1) find
         → IfOk result (λ told. told.want ≡ Book (Admit moment find)) }
     ensures goes { (question : Question) (log : List Exchange) (attempt : Attempt)
-        → IsHearing port question log search.value heard.value allowed → next < MOST_FINDS → ¬ (MadeRoom log)
-        → (lawful ≡ false → Fails port log search.value.path.last (length search.value.path.sets.items))
+        → IsHearing port question log handing.search.value handing.heard.value handing.allowed → handing.next < MOST_FINDS
+        → ¬ (MadeRoom log)
+        → (lawful ≡ false → Fails port log handing.search.value.path.last (length handing.search.value.path.sets.items))
         → IfOk result (Advances port question log moment (drawing (R.stream ids.old) (R.stream ids.new))
-        (left_of_finds search.value.path next attempt)) }
+        (left_of_finds handing.search.value.path handing.next attempt)) }
 {
     if !lawful {
         return Ok(failed(alloc));
     }
-    let after = next.saturating_add(1);
-    hand(
-        alloc,
-        port,
-        moment,
-        ids,
+    let Handing {
         search,
         heard,
         allowed,
-        after,
-        Attempt::Admit,
-    )
+        next,
+    } = handing;
+    let after = next.saturating_add(1);
+    let handing = Handing {
+        search,
+        heard,
+        allowed,
+        next: after,
+    };
+    hand(alloc, port, moment, ids, handing, Attempt::Admit)
 }
 
 // ---- replies
@@ -251,35 +228,16 @@ fn handed<R: Rng>(
     port: u16,
     moment: u64,
     ids: &mut R,
-    search: Box<Search>,
-    heard: Box<Heard>,
-    allowed: usize,
-    next: usize,
+    handing: Handing,
     input: &Input,
 ) -> Result<Advance, NoMemory>
-    ensures asks { (find : Find) → IsHanded heard.value.harvest.chosen allowed next find
-        → IfOk result (λ told. AsksNext Attempt.Admit find moment input.now told.want) }
-    ensures further { (find : Find) → IsHandedNext heard.value.harvest.chosen allowed next Attempt.Admit input.now find
-        → IfOk result (λ told. told.want ≡ Book (Admit moment find)) }
-    ensures goes { (question : Question) (log : List Exchange)
-        → IsTold port question log search.value heard.value allowed next Attempt.Admit input.now
-        → IfOk result (Advances port question log moment (drawing (R.stream ids.old) (R.stream ids.new))
-        (left_of_finds search.value.path next Attempt.Admit)) }
+    ensures { ContinuesAfter Attempt.Admit handing port moment input.now (drawing (R.stream ids.old) (R.stream ids.new)) result }
 {
     if is_full(input) {
-        return Ok(ask_book(
-            search,
-            heard,
-            allowed,
-            next,
-            Attempt::Sweep,
-            Event::Sweep { moment },
-        ));
+        return Ok(ask_book(handing, Attempt::Sweep, Event::Sweep { moment }));
     }
     let lawful = is_passed(input);
-    pass(
-        alloc, port, moment, ids, search, heard, allowed, next, lawful,
-    )
+    pass(alloc, port, moment, ids, handing, lawful)
 }
 
 /// Continues with the reply to a sweep: hands the find over again.
@@ -288,38 +246,16 @@ fn swept<R: Rng>(
     port: u16,
     moment: u64,
     ids: &mut R,
-    search: Box<Search>,
-    heard: Box<Heard>,
-    allowed: usize,
-    next: usize,
+    handing: Handing,
     input: &Input,
 ) -> Result<Advance, NoMemory>
-    ensures asks { (find : Find) → IsHanded heard.value.harvest.chosen allowed next find
-        → IfOk result (λ told. AsksNext Attempt.Sweep find moment input.now told.want) }
-    ensures further { (find : Find) → IsHandedNext heard.value.harvest.chosen allowed next Attempt.Sweep input.now find
-        → IfOk result (λ told. told.want ≡ Book (Admit moment find)) }
-    ensures goes { (question : Question) (log : List Exchange)
-        → IsTold port question log search.value heard.value allowed next Attempt.Sweep input.now
-        → IfOk result (Advances port question log moment (drawing (R.stream ids.old) (R.stream ids.new))
-        (left_of_finds search.value.path next Attempt.Sweep)) }
+    ensures { ContinuesAfter Attempt.Sweep handing port moment input.now (drawing (R.stream ids.old) (R.stream ids.new)) result }
 {
     if is_swept(input) {
-        return hand(
-            alloc,
-            port,
-            moment,
-            ids,
-            search,
-            heard,
-            allowed,
-            next,
-            Attempt::Again,
-        );
+        return hand(alloc, port, moment, ids, handing, Attempt::Again);
     }
     let lawful = is_sweep_passed(input);
-    pass(
-        alloc, port, moment, ids, search, heard, allowed, next, lawful,
-    )
+    pass(alloc, port, moment, ids, handing, lawful)
 }
 
 /// Continues with the reply to the admission behind a sweep. If the book was full again, it is asked for the name to forget first.
@@ -328,38 +264,19 @@ fn handed_again<R: Rng>(
     port: u16,
     moment: u64,
     ids: &mut R,
-    search: Box<Search>,
-    heard: Box<Heard>,
-    allowed: usize,
-    next: usize,
+    handing: Handing,
     input: &Input,
 ) -> Result<Advance, NoMemory>
-    ensures asks { (find : Find) → IsHanded heard.value.harvest.chosen allowed next find
-        → IfOk result (λ told. AsksNext Attempt.Again find moment input.now told.want) }
-    ensures further { (find : Find) → IsHandedNext heard.value.harvest.chosen allowed next Attempt.Again input.now find
-        → IfOk result (λ told. told.want ≡ Book (Admit moment find)) }
-    ensures goes { (question : Question) (log : List Exchange)
-        → IsTold port question log search.value heard.value allowed next Attempt.Again input.now
-        → IfOk result (Advances port question log moment (drawing (R.stream ids.old) (R.stream ids.new))
-        (left_of_finds search.value.path next Attempt.Again)) }
+    ensures { ContinuesAfter Attempt.Again handing port moment input.now (drawing (R.stream ids.old) (R.stream ids.new)) result }
 {
     if is_full(input) {
         // At the clock of the book, to which it was swept: by a later second more names may have ended.
         let moment = 0;
         let ask = Ask::Oldest;
-        return Ok(ask_book(
-            search,
-            heard,
-            allowed,
-            next,
-            Attempt::Oldest,
-            Event::Look { moment, ask },
-        ));
+        return Ok(ask_book(handing, Attempt::Oldest, Event::Look { moment, ask }));
     }
     let lawful = is_passed(input);
-    pass(
-        alloc, port, moment, ids, search, heard, allowed, next, lawful,
-    )
+    pass(alloc, port, moment, ids, handing, lawful)
 }
 
 /// Continues with the name to forget first: it is forgotten. If there is none, the find is passed over.
@@ -368,43 +285,17 @@ fn oldest_came<R: Rng>(
     port: u16,
     moment: u64,
     ids: &mut R,
-    search: Box<Search>,
-    heard: Box<Heard>,
-    allowed: usize,
-    next: usize,
+    handing: Handing,
     input: &Input,
 ) -> Result<Advance, NoMemory>
-    ensures asks { (find : Find) → IfOk result (λ told. AsksNext Attempt.Oldest find moment input.now told.want) }
-    ensures further { (find : Find) → IsHandedNext heard.value.harvest.chosen allowed next Attempt.Oldest input.now find
-        → IfOk result (λ told. told.want ≡ Book (Admit moment find)) }
-    ensures goes { (question : Question) (log : List Exchange)
-        → IsTold port question log search.value heard.value allowed next Attempt.Oldest input.now
-        → IfOk result (Advances port question log moment (drawing (R.stream ids.old) (R.stream ids.new))
-        (left_of_finds search.value.path next Attempt.Oldest)) }
+    ensures { ContinuesAfter Attempt.Oldest handing port moment input.now (drawing (R.stream ids.old) (R.stream ids.new)) result }
 {
     match oldest_in(input) {
         Some(name) => {
             let owner = name.clone()?;
-            Ok(ask_book(
-                search,
-                heard,
-                allowed,
-                next,
-                Attempt::Forget,
-                Event::Forget { moment, owner },
-            ))
+            Ok(ask_book(handing, Attempt::Forget, Event::Forget { moment, owner }))
         }
-        None => pass(
-            alloc,
-            port,
-            moment,
-            ids,
-            search,
-            heard,
-            allowed,
-            next,
-            is_look_passed(input),
-        ),
+        None => pass(alloc, port, moment, ids, handing, is_look_passed(input)),
     }
 }
 
@@ -414,38 +305,16 @@ fn forgotten<R: Rng>(
     port: u16,
     moment: u64,
     ids: &mut R,
-    search: Box<Search>,
-    heard: Box<Heard>,
-    allowed: usize,
-    next: usize,
+    handing: Handing,
     input: &Input,
 ) -> Result<Advance, NoMemory>
-    ensures asks { (find : Find) → IsHanded heard.value.harvest.chosen allowed next find
-        → IfOk result (λ told. AsksNext Attempt.Forget find moment input.now told.want) }
-    ensures further { (find : Find) → IsHandedNext heard.value.harvest.chosen allowed next Attempt.Forget input.now find
-        → IfOk result (λ told. told.want ≡ Book (Admit moment find)) }
-    ensures goes { (question : Question) (log : List Exchange)
-        → IsTold port question log search.value heard.value allowed next Attempt.Forget input.now
-        → IfOk result (Advances port question log moment (drawing (R.stream ids.old) (R.stream ids.new))
-        (left_of_finds search.value.path next Attempt.Forget)) }
+    ensures { ContinuesAfter Attempt.Forget handing port moment input.now (drawing (R.stream ids.old) (R.stream ids.new)) result }
 {
     if is_forgotten(input) {
-        return hand(
-            alloc,
-            port,
-            moment,
-            ids,
-            search,
-            heard,
-            allowed,
-            next,
-            Attempt::Last,
-        );
+        return hand(alloc, port, moment, ids, handing, Attempt::Last);
     }
     let lawful = is_forget_passed(input);
-    pass(
-        alloc, port, moment, ids, search, heard, allowed, next, lawful,
-    )
+    pass(alloc, port, moment, ids, handing, lawful)
 }
 
 /// Continues with the reply to the last admission of a find.
@@ -454,23 +323,13 @@ fn handed_last<R: Rng>(
     port: u16,
     moment: u64,
     ids: &mut R,
-    search: Box<Search>,
-    heard: Box<Heard>,
-    allowed: usize,
-    next: usize,
+    handing: Handing,
     input: &Input,
 ) -> Result<Advance, NoMemory>
-    ensures further { (find : Find) → IsHandedNext heard.value.harvest.chosen allowed next Attempt.Last input.now find
-        → IfOk result (λ told. told.want ≡ Book (Admit moment find)) }
-    ensures goes { (question : Question) (log : List Exchange)
-        → IsTold port question log search.value heard.value allowed next Attempt.Last input.now
-        → IfOk result (Advances port question log moment (drawing (R.stream ids.old) (R.stream ids.new))
-        (left_of_finds search.value.path next Attempt.Last)) }
+    ensures { ContinuesAfter Attempt.Last handing port moment input.now (drawing (R.stream ids.old) (R.stream ids.new)) result }
 {
     let lawful = is_passed(input);
-    pass(
-        alloc, port, moment, ids, search, heard, allowed, next, lawful,
-    )
+    pass(alloc, port, moment, ids, handing, lawful)
 }
 
 /// Continues with the book's reply to what it was asked for the find at this place.
@@ -479,40 +338,18 @@ pub(crate) fn admitted<R: Rng>(
     port: u16,
     moment: u64,
     ids: &mut R,
-    search: Box<Search>,
-    heard: Box<Heard>,
-    allowed: usize,
-    next: usize,
+    handing: Handing,
     attempt: Attempt,
     input: &Input,
 ) -> Result<Advance, NoMemory>
-    ensures asks { (find : Find) → IsHanded heard.value.harvest.chosen allowed next find
-        → IfOk result (λ told. AsksNext attempt find moment input.now told.want) }
-    ensures further { (find : Find) → IsHandedNext heard.value.harvest.chosen allowed next attempt input.now find
-        → IfOk result (λ told. told.want ≡ Book (Admit moment find)) }
-    ensures goes { (question : Question) (log : List Exchange)
-        → IsTold port question log search.value heard.value allowed next attempt input.now
-        → IfOk result (Advances port question log moment (drawing (R.stream ids.old) (R.stream ids.new))
-        (left_of_finds search.value.path next attempt)) }
+    ensures { ContinuesAfter attempt handing port moment input.now (drawing (R.stream ids.old) (R.stream ids.new)) result }
 {
     match attempt {
-        Attempt::Admit => handed(
-            alloc, port, moment, ids, search, heard, allowed, next, input,
-        ),
-        Attempt::Sweep => swept(
-            alloc, port, moment, ids, search, heard, allowed, next, input,
-        ),
-        Attempt::Again => handed_again(
-            alloc, port, moment, ids, search, heard, allowed, next, input,
-        ),
-        Attempt::Oldest => oldest_came(
-            alloc, port, moment, ids, search, heard, allowed, next, input,
-        ),
-        Attempt::Forget => forgotten(
-            alloc, port, moment, ids, search, heard, allowed, next, input,
-        ),
-        Attempt::Last => handed_last(
-            alloc, port, moment, ids, search, heard, allowed, next, input,
-        ),
+        Attempt::Admit => handed(alloc, port, moment, ids, handing, input),
+        Attempt::Sweep => swept(alloc, port, moment, ids, handing, input),
+        Attempt::Again => handed_again(alloc, port, moment, ids, handing, input),
+        Attempt::Oldest => oldest_came(alloc, port, moment, ids, handing, input),
+        Attempt::Forget => forgotten(alloc, port, moment, ids, handing, input),
+        Attempt::Last => handed_last(alloc, port, moment, ids, handing, input),
     }
 }

@@ -51,6 +51,19 @@ pub enum Attempt {
     Last,
 }
 
+/// A place among the finds of a response.
+#[derive(Drop)]
+pub struct Handing {
+    /// The search that the response came to.
+    pub search: Box<Search>,
+    /// What the response says.
+    pub heard: Box<Heard>,
+    /// How many of its finds may be handed to the book.
+    pub allowed: usize,
+    /// The place, counted from the first find.
+    pub next: usize,
+}
+
 /// The phase of a task. The parts that only a search needs are boxed, so the other steps move little.
 #[derive(Drop)]
 pub enum Phase {
@@ -88,12 +101,9 @@ pub enum Phase {
         id: u16,
         over: Over,
     },
-    /// It hands so many finds of a response to the book, now the one at this place, in this attempt.
+    /// It hands finds of a response to the book, now the one at this place, in this attempt.
     Admitting {
-        search: Box<Search>,
-        heard: Box<Heard>,
-        allowed: usize,
-        next: usize,
+        handing: Handing,
         attempt: Attempt,
     },
     /// It has answered.
@@ -150,15 +160,9 @@ pub(crate) fn step_on<R: Rng>(
             let search = Box::into_inner(search);
             came(alloc, port, moment, ids, search, server, id, over, input)
         }
-        Phase::Admitting {
-            search,
-            heard,
-            allowed,
-            next,
-            attempt,
-        } => admitted(
-            alloc, port, moment, ids, search, heard, allowed, next, attempt, input,
-        ),
+        Phase::Admitting { handing, attempt } => {
+            admitted(alloc, port, moment, ids, handing, attempt, input)
+        }
         Phase::Ended => Err(AllocError),
         Phase::Broken => Err(AllocError),
     }

@@ -64,7 +64,7 @@ returns-in-Admitting-clause-goes g c = rw c.in-Admitting.is (λ before log want 
     c.admitted.ensures.goes c.args.question.now log (record { before = before; want = want; hearing = f.0; handing = f.1; suits = suits; adds = adds }))
 
 pub returns-in-Admitting-clause-asks : goal.returns-in-Admitting-clause-asks
-returns-in-Admitting-clause-asks g c = rw c.in-Admitting.is (hands_on c.in-Admitting.heard.value.harvest.chosen c.in-Admitting.allowed c.in-Admitting.next c.in-Admitting.attempt c.args.moment c.args.input.now c.admitted.result
+returns-in-Admitting-clause-asks g c = rw c.in-Admitting.is (hands_on c.in-Admitting.handing.heard.value.harvest.chosen c.in-Admitting.handing.allowed c.in-Admitting.handing.next c.in-Admitting.attempt c.args.moment c.args.input.now c.admitted.result
     (λ find handed. c.admitted.ensures.asks find handed) (λ find n. c.admitted.ensures.further find n))
 
 pub returns-in-Fresh-clause-asks : goal.returns-in-Fresh-clause-asks
