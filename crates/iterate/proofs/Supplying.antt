@@ -1,7 +1,7 @@
 -- Servers are reached, and servers without an address are done with.
 use Rattle.std.proofs.Common.{◌≡◌, ℕ, ◌+◌, ◌-◌, ◌^◌, ◌<◌, ◌≤◌, ◌⊎◌, List, [], ◌∷◌, ◌++◌, length, take, drop, get_or, sym, ap, ◌∙◌, subst, refl, inl, inr, arith}
 use Rattle.std.specs.List.{Contains}
-use Rattle.std.proofs.lemmas.List.{length-take}
+use Rattle.std.proofs.lemmas.List.{length-take, take_all}
 use Rattle.std.proofs.lemmas.List.Elements.{Contains-append_left, Contains-push, Contains-push_cases}
 use Rattle.dns_name.specs.Labels.{Labels, IsAtOrBelow}
 use Rattle.dns_text.specs.declared.addr.Addr.{Addr}
@@ -15,11 +15,12 @@ use Rattle.iterate.specs.declared.search.Nested.{Nested}
 use Rattle.iterate.specs.declared.search.Hunt.{Hunt}
 use Rattle.iterate.specs.declared.search.Search.{Search}
 use Rattle.iterate.specs.Exchanges.{Exchange}
+use Rattle.iterate.specs.Joining.{Joins}
 use Rattle.iterate.specs.Hunting.{AllServe, AreReferred, IsReached, IsFresh, IsSupplied, AreSupplied, IsTried, IsSmaller}
 use Rattle.iterate.specs.Known.{Known, Listed, Serves, WasUnknown}
 use Rattle.iterate.specs.Measure.{top, missing_left, frames_left, hunts_left, left_of_path, left_of_search, left_of_seek, left_of_hearing}
 use Rattle.iterate.specs.Resolved.{IsOneOf, ReachedFor, Struck, MaySeek, Sought}
-use Rattle.iterate.specs.Searching.{IsPath, IsAskable, IsHunt, IsNext, IsBase, IsFrame, AreFrames, IsSearch, IsOrderly, IsOther, Turn, AsksOnce, AllAskOnce, hunt_behind, hunt_of, question_behind, question_of}
+use Rattle.iterate.specs.Searching.{AreDistinct, IsPath, IsAskable, IsHunt, IsNext, IsBase, IsFrame, AreFrames, IsSearch, IsOrderly, IsOther, Turn, AsksOnce, AllAskOnce, hunt_behind, hunt_of, question_behind, question_of}
 use Rattle.iterate.proofs.Falling.{coming_falls, servers_fall}
 use Rattle.iterate.proofs.Finding.{was_sought}
 use Rattle.iterate.proofs.Growing.{sought_as}
@@ -40,25 +41,30 @@ pub removed_first : (fs : List Nested) (g : Nested) (gs : List Nested) (f : Nest
 removed_first fs g gs f are is = is ∙ ap (λ (xs : List Nested). get_or xs 0 f) are
 
 -- one address more is joined
-pub join_more : (known before after others : List Addr) (i : ℕ) (addr : Addr) → take (i + 1) others ≡ take i others ++ addr ∷ [] → take (length known) before ≡ known
-    → ((a : Addr) → Contains (take i others) a → Contains before a) → ((a : Addr) → Contains before a → Contains known a ⊎ Contains (take i others) a)
-    → take (length before) after ≡ before → Contains after addr → ((a : Addr) → Contains after a → Contains before a ⊎ (addr ≡ a))
-    → (take (length known) after ≡ known) × ((a : Addr) → Contains (take (i + 1) others) a → Contains after a) × ((a : Addr) → Contains after a → Contains known a ⊎ Contains (take (i + 1) others) a)
-join_more known before after others i addr next first all only kept has either =
-    let short : length known ≤ length before = omega (arith, ap (λ (xs : List Addr). length xs) first, length-take (length known) before) in (
-      take_first (length known) (length before) after before kept short short ∙ first,
-      λ a is. elim (Contains-push_cases (take i others) addr a (subst (λ (xs : List Addr). Contains xs a) next is)) [
-        | inl earlier ↦ contains_first (length before) after before a kept (all a earlier)
+pub join_more : (known before after others : List Addr) (i : ℕ) (addr : Addr) → take (i + 1) others ≡ take i others ++ addr ∷ [] → Joins known (take i others) before
+    → take (length before) after ≡ before → Contains after addr → ((a : Addr) → Contains after a → Contains before a ⊎ (addr ≡ a)) → (AreDistinct before → AreDistinct after)
+    → Joins known (take (i + 1) others) after
+join_more known before after others i addr next so_far kept has either distinct =
+    let short : length known ≤ length before = omega (arith, ap (λ (xs : List Addr). length xs) so_far.first, length-take (length known) before) in
+    record {
+      first = take_first (length known) (length before) after before kept short short ∙ so_far.first;
+      all = λ a is. elim (Contains-push_cases (take i others) addr a (subst (λ (xs : List Addr). Contains xs a) next is)) [
+        | inl earlier ↦ contains_first (length before) after before a kept (so_far.all a earlier)
         | inr this ↦ subst (λ (x : Addr). Contains after x) this has
-      ],
-      λ a is. elim (either a is) [
-        | inl earlier ↦ elim (only a earlier) [
+      ];
+      only = λ a is. elim (either a is) [
+        | inl earlier ↦ elim (so_far.only a earlier) [
           | inl old ↦ inl old
           | inr new ↦ inr (subst (λ (xs : List Addr). Contains xs a) (sym next) (Contains-append_left (take i others) (addr ∷ []) a new))
         ]
         | inr this ↦ inr (subst (λ (xs : List Addr). Contains xs a) (sym next) (subst (λ (x : Addr). Contains (take i others ++ addr ∷ []) x) this (Contains-push (take i others) addr)))
-      ],
-    )
+      ];
+      distinct = λ d. distinct (so_far.distinct d);
+    }
+
+-- Once all are gone through, they are joined.
+pub joined_all : (known others joined : List Addr) (i : ℕ) → length others ≤ i → Joins known (take i others) joined → Joins known others joined
+joined_all known others joined i past so_far = subst (λ (xs : List Addr). Joins known xs joined) (take_all i others past) so_far
 
 -- ---- servers are reached
 

@@ -1,5 +1,5 @@
 -- A set of addresses beside a list of them. (Of the code.)
-use Rattle.std.specs.Prelude.{◌≡◌, ◌↔◌, ◌⊎◌, ℕ, Bool, true, List}
+use Rattle.std.specs.Prelude.{◌≡◌, ◌↔◌, ◌⊎◌, ℕ, Bool, true, List, length, take}
 use Rattle.std.specs.BTreeSet.{contains}
 use Rattle.std.specs.Cmp.Lexicographic.{slice_cmp}
 use Rattle.std.specs.List.{Contains}
@@ -9,6 +9,7 @@ use Rattle.dns_text.specs.declared.addr.Addr.{Addr}
 use Rattle.dns_text.specs.declared.addr.Ip.{Ip}
 use Rattle.dns_text.specs.declared.addr.Ip.TheVariants.{V4, V6}
 use Rattle.iterate.specs.declared.joining.AddrSet.{AddrSet}
+use Rattle.iterate.specs.Searching.{AreDistinct}
 
 -- the order of ports with octets
 abbrev pub port_cmp : ℕ × List ℕ → ℕ × List ℕ → Ordering
@@ -30,3 +31,10 @@ AreAmong seen addrs = (addr : Addr) → (has_addr seen addr ≡ true) ↔ Contai
 -- The set has this address, and else what it had.
 abbrev pub Notes : AddrSet → AddrSet → Addr → Type 0
 Notes old new addr = (other : Addr) → (has_addr new other ≡ true) ↔ ((has_addr old other ≡ true) ⊎ (addr ≡ other))
+
+-- The known addresses come first, in their order, and then those of the others that are new. Each is there once if each known one was.
+pub record Joins (known others joined : List Addr) : Type 0 where
+  pub first : take (length known) joined ≡ known
+  pub all : (addr : Addr) → Contains others addr → Contains joined addr
+  pub only : (addr : Addr) → Contains joined addr → Contains known addr ⊎ Contains others addr
+  pub distinct : AreDistinct known → AreDistinct joined

@@ -3,7 +3,7 @@
 ghost use Rattle.std.specs.Prelude.{◌≡◌, ◌⊎◌, ◌↔◌, not, IsTrue, IfOk, OnOk, length, take};
 ghost use Rattle.std.specs.List.{Contains};
 ghost use Rattle.dns_text.specs.declared.addr.Addr.{Addr};
-ghost use Rattle.iterate.specs.Joining.{has_addr, AreAmong, Notes};
+ghost use Rattle.iterate.specs.Joining.{has_addr, AreAmong, Joins, Notes};
 ghost use Rattle.iterate.specs.Searching.{AreDistinct};
 
 use dns_name::NoMemory;
@@ -50,10 +50,7 @@ fn with_addr(addrs: Vec<Addr>, addr: &Addr) -> Result<Vec<Addr>, NoMemory>
 
 /// These addresses, then the few others that are new.
 fn join_few(known: Vec<Addr>, others: &[Addr]) -> Result<Vec<Addr>, NoMemory>
-    ensures first { IfOk result (λ v. take (length known.items) v.items ≡ known.items) }
-    ensures all { IfOk result (λ v. (addr : Addr) → Contains others.now addr → Contains v.items addr) }
-    ensures only { IfOk result (λ v. (addr : Addr) → Contains v.items addr → Contains known.items addr ⊎ Contains others.now addr) }
-    ensures distinct { AreDistinct known.items → IfOk result (λ v. AreDistinct v.items) }
+    ensures { IfOk result (λ v. Joins known.items others.now v.items) }
 {
     let mut addrs = known;
     for addr in others {
@@ -116,10 +113,7 @@ fn with_noted(addrs: Vec<Addr>, seen: &mut AddrSet, addr: &Addr) -> Result<Vec<A
 
 /// These addresses, then the many others that are new.
 fn join_many(alloc: Global, known: Vec<Addr>, others: &[Addr]) -> Result<Vec<Addr>, NoMemory>
-    ensures first { IfOk result (λ v. take (length known.items) v.items ≡ known.items) }
-    ensures all { IfOk result (λ v. (addr : Addr) → Contains others.now addr → Contains v.items addr) }
-    ensures only { IfOk result (λ v. (addr : Addr) → Contains v.items addr → Contains known.items addr ⊎ Contains others.now addr) }
-    ensures distinct { AreDistinct known.items → IfOk result (λ v. AreDistinct v.items) }
+    ensures { IfOk result (λ v. Joins known.items others.now v.items) }
 {
     let mut seen = set_of(alloc, &known)?;
     let mut addrs = known;
@@ -135,10 +129,7 @@ pub(crate) fn join_addrs(
     known: Vec<Addr>,
     others: &[Addr],
 ) -> Result<Vec<Addr>, NoMemory>
-    ensures first { IfOk result (λ v. take (length known.items) v.items ≡ known.items) }
-    ensures all { IfOk result (λ v. (addr : Addr) → Contains others.now addr → Contains v.items addr) }
-    ensures only { IfOk result (λ v. (addr : Addr) → Contains v.items addr → Contains known.items addr ⊎ Contains others.now addr) }
-    ensures distinct { AreDistinct known.items → IfOk result (λ v. AreDistinct v.items) }
+    ensures { IfOk result (λ v. Joins known.items others.now v.items) }
 {
     if others.len() <= MOST_COMPARED {
         join_few(known, others)

@@ -1,4 +1,5 @@
 use Rattle.std.proofs.Common.{◌≡◌, Some, sym, ap, ◌∙◌, subst, refl}
+use Rattle.std.proofs.lemmas.Result.{IfOk-from_err}
 use Rattle.dns_name.specs.Labels.{Labels}
 use Rattle.history.specs.declared.event.Ask.TheVariants.{Oldest}
 use Rattle.history.specs.declared.event.Event.TheVariants.{Forget, Look}
@@ -37,4 +38,10 @@ returns-in-None g c = record {
 }
 
 pub returns-in_err-owner-in-Some : goal.returns-in_err-owner-in-Some
-returns-in_err-owner-in-Some g c = record { asks = λ find handed. tt; further = λ find n. tt; goes = λ question log t. tt }
+returns-in_err-owner-in-Some g c =
+    let failed = c.from_residual.ensures.0 in
+    record {
+      asks = λ find handed. IfOk-from_err c.from_residual.result _ failed;
+      further = λ find n. IfOk-from_err c.from_residual.result _ failed;
+      goes = λ question log t. IfOk-from_err c.from_residual.result _ failed;
+    }
