@@ -8,7 +8,6 @@ use Rattle.dns_name.specs.Labels.{Labels}
 use Rattle.dns_name.specs.Order.{name_eq, name_eq_exact, name_eq_itself}
 use Rattle.dns_text.specs.declared.record.Record.{Record}
 use Rattle.dns_text.specs.Equal.{record_eq}
-use Rattle.dns_text.specs.declared.record.Question.{Question}
 use Rattle.dns_text.specs.EqualLaws.{question_eq_exact, question_eq_itself, record_eq_exact, record_eq_itself}
 use Rattle.ranked.specs.declared.find.Find.{Find}
 use Rattle.ranked.specs.declared.cell.Shown.{Shown}
@@ -16,7 +15,6 @@ use Rattle.ranked.specs.EqualLaws.{rank_eq_exact, rank_eq_itself, find_eq_exact,
 use Rattle.local_zone.specs.declared.local_answer.Local.{Local}
 use Rattle.local_zone.specs.declared.local_answer.Local.TheVariants as local
 use Rattle.local_zone.specs.declared.zone.Zone.{Zone}
-use Rattle.local_zone.specs.declared.zone_type.ZoneType.{ZoneType}
 use Rattle.local_zone.specs.Equal.{zone_eq}
 use Rattle.local_zone.specs.EqualLaws.{zone_type_eq_exact, zone_type_eq_itself, zone_eq_exact, zone_eq_itself}
 use Rattle.stub_table.specs.declared.stub.Stub.{Stub}
@@ -51,6 +49,10 @@ use Rattle.history.specs.Equal.{source_eq, servers_eq, ask_eq, command_eq, journ
 same : (n : ℕ) → eqb n n ≡ true
 same n = eq-eqb n n refl
 
+-- what is made of equal parts
+both_same : {A B C : Type 0} (make : A → B → C) {a a' : A} {b b' : B} → a ≡ a' → b ≡ b' → make a b ≡ make a' b'
+both_same make p q = λ i. make (p i) (q i)
+
 -- ---- what is asked
 
 move_eq_exact : (a b : Move) → move_eq a b ≡ true → a ≡ b
@@ -64,14 +66,6 @@ move_eq_itself move.Undo = refl
 move_eq_itself move.Redo = refl
 move_eq_itself (move.UndoOf t) = same t
 
-after_exact : (q : Question) (s : Move) (b : Ask) → ask_eq (ask.After q s) b ≡ true → ask.After q s ≡ b
-after_exact q s (ask.After r t) e =
-    let parts = and_parts _ _ e in
-    let same_question : q ≡ r = question_eq_exact q r parts.0 in
-    let same_step : s ≡ t = move_eq_exact s t parts.1 in
-    λ i. ask.After (same_question i) (same_step i)
-after_exact q s _ e = absurd (false≢true e)
-
 pub ask_eq_exact : (a b : Ask) → ask_eq a b ≡ true → a ≡ b
 ask_eq_exact (ask.Answer q) (ask.Answer r) e = ap ask.Answer (question_eq_exact q r e)
 ask_eq_exact ask.Zones ask.Zones e = refl
@@ -81,7 +75,7 @@ ask_eq_exact ask.Commands ask.Commands e = refl
 ask_eq_exact ask.Buried ask.Buried e = refl
 ask_eq_exact (ask.Servers name) (ask.Servers other) e = ap ask.Servers (name_eq_exact name other e)
 ask_eq_exact ask.Oldest ask.Oldest e = refl
-ask_eq_exact (ask.After question step) b e = after_exact question step b e
+ask_eq_exact (ask.After question step) (ask.After other next) e = both_same ask.After (question_eq_exact question other (and_parts _ _ e).0) (move_eq_exact step next (and_parts _ _ e).1)
 ask_eq_exact ask.NextUndo ask.NextUndo e = refl
 ask_eq_exact _ _ e = absurd (false≢true e)
 
@@ -99,19 +93,11 @@ ask_eq_itself ask.NextUndo = refl
 
 -- ---- commands
 
-set_zone_exact : (name : Labels) (kind : ZoneType) (b : Command) → command_eq (SetZone name kind) b ≡ true → SetZone name kind ≡ b
-set_zone_exact name kind (SetZone other type) e =
-    let parts = and_parts _ _ e in
-    let same_name : name ≡ other = name_eq_exact name other parts.0 in
-    let same_kind : kind ≡ type = zone_type_eq_exact kind type parts.1 in
-    λ i. SetZone (same_name i) (same_kind i)
-set_zone_exact name kind _ e = absurd (false≢true e)
-
 pub command_eq_exact : (a b : Command) → command_eq a b ≡ true → a ≡ b
 command_eq_exact (FlushType q) (FlushType r) e = ap FlushType (question_eq_exact q r e)
 command_eq_exact (Flush name) (Flush other) e = ap Flush (name_eq_exact name other e)
 command_eq_exact (FlushZone name) (FlushZone other) e = ap FlushZone (name_eq_exact name other e)
-command_eq_exact (SetZone name kind) b e = set_zone_exact name kind b e
+command_eq_exact (SetZone name kind) (SetZone other type) e = both_same SetZone (name_eq_exact name other (and_parts _ _ e).0) (zone_type_eq_exact kind type (and_parts _ _ e).1)
 command_eq_exact (DropZone name) (DropZone other) e = ap DropZone (name_eq_exact name other e)
 command_eq_exact (AddRecord new) (AddRecord other) e = ap AddRecord (record_eq_exact new other e)
 command_eq_exact (DropName name) (DropName other) e = ap DropName (name_eq_exact name other e)
@@ -154,64 +140,16 @@ buried_eq_itself a = both_true (same a.ticket) (same a.by)
 
 -- ---- events
 
-admit_exact : (m : ℕ) (f : Find) (b : Event) → event_eq (Admit m f) b ≡ true → Admit m f ≡ b
-admit_exact m f (Admit n g) e =
-    let parts = and_parts _ _ e in
-    let same_moment : m ≡ n = eqb-true m n parts.0 in
-    let same_find : f ≡ g = find_eq_exact f g parts.1 in
-    λ i. Admit (same_moment i) (same_find i)
-admit_exact m f _ e = absurd (false≢true e)
-
-look_exact : (m : ℕ) (a : Ask) (b : Event) → event_eq (Look m a) b ≡ true → Look m a ≡ b
-look_exact m a (Look n b) e =
-    let parts = and_parts _ _ e in
-    let same_moment : m ≡ n = eqb-true m n parts.0 in
-    let same_ask : a ≡ b = ask_eq_exact a b parts.1 in
-    λ i. Look (same_moment i) (same_ask i)
-look_exact m a _ e = absurd (false≢true e)
-
-forget_exact : (m : ℕ) (name : Labels) (b : Event) → event_eq (Forget m name) b ≡ true → Forget m name ≡ b
-forget_exact m name (Forget n other) e =
-    let parts = and_parts _ _ e in
-    let same_moment : m ≡ n = eqb-true m n parts.0 in
-    let same_name : name ≡ other = name_eq_exact name other parts.1 in
-    λ i. Forget (same_moment i) (same_name i)
-forget_exact m name _ e = absurd (false≢true e)
-
-do_exact : (m : ℕ) (c : Command) (b : Event) → event_eq (Do m c) b ≡ true → Do m c ≡ b
-do_exact m c (Do n d) e =
-    let parts = and_parts _ _ e in
-    let same_moment : m ≡ n = eqb-true m n parts.0 in
-    let same_command : c ≡ d = command_eq_exact c d parts.1 in
-    λ i. Do (same_moment i) (same_command i)
-do_exact m c _ e = absurd (false≢true e)
-
-undo_of_exact : (m t : ℕ) (b : Event) → event_eq (UndoOf m t) b ≡ true → UndoOf m t ≡ b
-undo_of_exact m t (UndoOf n u) e =
-    let parts = and_parts _ _ e in
-    let same_moment : m ≡ n = eqb-true m n parts.0 in
-    let same_ticket : t ≡ u = eqb-true t u parts.1 in
-    λ i. UndoOf (same_moment i) (same_ticket i)
-undo_of_exact m t _ e = absurd (false≢true e)
-
-redo_of_exact : (m t : ℕ) (b : Event) → event_eq (RedoOf m t) b ≡ true → RedoOf m t ≡ b
-redo_of_exact m t (RedoOf n u) e =
-    let parts = and_parts _ _ e in
-    let same_moment : m ≡ n = eqb-true m n parts.0 in
-    let same_ticket : t ≡ u = eqb-true t u parts.1 in
-    λ i. RedoOf (same_moment i) (same_ticket i)
-redo_of_exact m t _ e = absurd (false≢true e)
-
 pub event_eq_exact : (a b : Event) → event_eq a b ≡ true → a ≡ b
-event_eq_exact (Admit m f) b e = admit_exact m f b e
-event_eq_exact (Look m a) b e = look_exact m a b e
+event_eq_exact (Admit m f) (Admit n g) e = both_same Admit (eqb-true m n (and_parts _ _ e).0) (find_eq_exact f g (and_parts _ _ e).1)
+event_eq_exact (Look m a) (Look n b) e = both_same Look (eqb-true m n (and_parts _ _ e).0) (ask_eq_exact a b (and_parts _ _ e).1)
 event_eq_exact (Sweep m) (Sweep n) e = ap Sweep (eqb-true m n e)
-event_eq_exact (Forget m name) b e = forget_exact m name b e
-event_eq_exact (Do m c) b e = do_exact m c b e
+event_eq_exact (Forget m name) (Forget n other) e = both_same Forget (eqb-true m n (and_parts _ _ e).0) (name_eq_exact name other (and_parts _ _ e).1)
+event_eq_exact (Do m c) (Do n d) e = both_same Do (eqb-true m n (and_parts _ _ e).0) (command_eq_exact c d (and_parts _ _ e).1)
 event_eq_exact (Undo m) (Undo n) e = ap Undo (eqb-true m n e)
 event_eq_exact (Redo m) (Redo n) e = ap Redo (eqb-true m n e)
-event_eq_exact (UndoOf m t) b e = undo_of_exact m t b e
-event_eq_exact (RedoOf m t) b e = redo_of_exact m t b e
+event_eq_exact (UndoOf m t) (UndoOf n u) e = both_same UndoOf (eqb-true m n (and_parts _ _ e).0) (eqb-true t u (and_parts _ _ e).1)
+event_eq_exact (RedoOf m t) (RedoOf n u) e = both_same RedoOf (eqb-true m n (and_parts _ _ e).0) (eqb-true t u (and_parts _ _ e).1)
 event_eq_exact _ _ e = absurd (false≢true e)
 
 pub event_eq_itself : (a : Event) → event_eq a a ≡ true
