@@ -18,7 +18,7 @@ use Rattle.history.specs.declared.event.Reason.{Reason}
 use Rattle.history.specs.Marks.{Marks, AreAscending, last_of, without, strike, restore, after_command}
 use Rattle.history.specs.Tickets.{tally, occurs}
 use Rattle.history.specs.History.{Past, past_of, nothing, followed_by, marks_after, ticket_moved, ticket_unless, reason_of}
-use Rattle.history.specs.Journal.{is_among, journalled_of, commands_of, tickets_of}
+use Rattle.history.specs.Journal.{is_among, held_with, journalled_of, commands_of, tickets_of}
 use Rattle.history.specs.TicketLaws.{tally_same, tally_other, occurs_push, occurs_newest, occurs_in_place, last_occurs, not_struck, among_occurs, occurs_among, undo_of_there, redo_of_there}
 use Rattle.history.proofs.OrderLaw.{of_one, above_both, absent_below, ascending_push, done_ascends, orderly}
 
@@ -86,6 +86,32 @@ IsTaken event (Some t) = ⊥
 abbrev AreTaken : List Entry → Type 0
 AreTaken log = AllByRecursion (λ entry. IsTaken entry.event entry.ticket) log
 
+-- What the journal holds of a log, as a list of tickets that each command may prolong: those that pass a test, if each command adds its ticket where the ticket passes.
+module _ (marks : Marks) (image : List Journalled → List ℕ) (among : ℕ → Bool) (alone : (t : ℕ) (c : Command) (js : List Journalled) → image (cons_option (held_with marks t c) js) ≡ cond (among t) (t ∷ image js) (image js)) where
+  one_picked : (e : Event) (ticket : Option ℕ) (js : List Journalled) (ts : List ℕ) → IsTaken e ticket → image js ≡ filter among ts → image (cons_option (journalled_of marks e ticket) js) ≡ filter among (cons_option ticket ts)
+  one_picked (Do m c) (Some t) js ts h is = alone t c js ∙ ap (λ (l : List ℕ). cond (among t) (t ∷ l) l) is
+  one_picked (Do m c) None js ts h is = is
+  one_picked (Admit m f) None js ts h is = is
+  one_picked (Admit m f) (Some t) js ts h is = absurd h
+  one_picked (Look m a) None js ts h is = is
+  one_picked (Look m a) (Some t) js ts h is = absurd h
+  one_picked (Sweep m) None js ts h is = is
+  one_picked (Sweep m) (Some t) js ts h is = absurd h
+  one_picked (Forget m n) None js ts h is = is
+  one_picked (Forget m n) (Some t) js ts h is = absurd h
+  one_picked (Undo m) None js ts h is = is
+  one_picked (Undo m) (Some t) js ts h is = absurd h
+  one_picked (Redo m) None js ts h is = is
+  one_picked (Redo m) (Some t) js ts h is = absurd h
+  one_picked (UndoOf m named) None js ts h is = is
+  one_picked (UndoOf m named) (Some t) js ts h is = absurd h
+  one_picked (RedoOf m named) None js ts h is = is
+  one_picked (RedoOf m named) (Some t) js ts h is = absurd h
+
+  picked : image [] ≡ [] → (log : List Entry) → AreTaken log → image (filter_map (λ entry. journalled_of marks entry.event entry.ticket) log) ≡ filter among (tickets_in log)
+  picked none [] h = none
+  picked none (e ∷ log) h = one_picked e.event e.ticket (filter_map (λ entry. journalled_of marks entry.event entry.ticket) log) (tickets_in log) h.0 (picked none log h.1)
+
 done_alone : (done undone : Bool) (t : ℕ) (c : Command) (js : List Journalled)
     → tickets_of (filter (λ j. j.done) (cons_option (option_map (λ d. record { ticket = t; done = d; command = c }) (cond done (Some true) (cond undone (Some false) None))) js))
     ≡ cond done (t ∷ tickets_of (filter (λ j. j.done) js)) (tickets_of (filter (λ j. j.done) js))
@@ -93,32 +119,10 @@ done_alone true undone t c js = refl
 done_alone false true t c js = refl
 done_alone false false t c js = refl
 
-one_done : (marks : Marks) (e : Event) (ticket : Option ℕ) (js : List Journalled) (ts : List ℕ) → IsTaken e ticket → tickets_of (filter (λ j. j.done) js) ≡ filter (is_among marks.done) ts
-    → tickets_of (filter (λ j. j.done) (cons_option (journalled_of marks e ticket) js)) ≡ filter (is_among marks.done) (cons_option ticket ts)
-one_done marks (Do m c) (Some t) js ts h is =
-    done_alone (is_among marks.done t) (is_among marks.undone t) t c js ∙ ap (λ (l : List ℕ). cond (is_among marks.done t) (t ∷ l) l) is
-one_done marks (Do m c) None js ts h is = is
-one_done marks (Admit m f) None js ts h is = is
-one_done marks (Admit m f) (Some t) js ts h is = absurd h
-one_done marks (Look m a) None js ts h is = is
-one_done marks (Look m a) (Some t) js ts h is = absurd h
-one_done marks (Sweep m) None js ts h is = is
-one_done marks (Sweep m) (Some t) js ts h is = absurd h
-one_done marks (Forget m n) None js ts h is = is
-one_done marks (Forget m n) (Some t) js ts h is = absurd h
-one_done marks (Undo m) None js ts h is = is
-one_done marks (Undo m) (Some t) js ts h is = absurd h
-one_done marks (Redo m) None js ts h is = is
-one_done marks (UndoOf m named) None js ts h is = is
-one_done marks (RedoOf m named) None js ts h is = is
-one_done marks (Redo m) (Some t) js ts h is = absurd h
-one_done marks (UndoOf m named) (Some t) js ts h is = absurd h
-one_done marks (RedoOf m named) (Some t) js ts h is = absurd h
-
 done_picked : (marks : Marks) (log : List Entry) → AreTaken log
     → tickets_of (filter (λ j. j.done) (filter_map (λ entry. journalled_of marks entry.event entry.ticket) log)) ≡ filter (is_among marks.done) (tickets_in log)
-done_picked marks [] h = refl
-done_picked marks (e ∷ log) h = one_done marks e.event e.ticket _ (tickets_in log) h.0 (done_picked marks log h.1)
+done_picked marks log h =
+    picked marks (λ (js : List Journalled). tickets_of (filter (λ j. j.done) js)) (λ t. is_among marks.done t) (λ t c js. done_alone (is_among marks.done t) (is_among marks.undone t) t c js) refl log h
 
 held_alone : (done undone : Bool) (t : ℕ) (c : Command) (js : List Journalled)
     → tickets_of (cons_option (option_map (λ d. record { ticket = t; done = d; command = c }) (cond done (Some true) (cond undone (Some false) None))) js)
@@ -127,32 +131,10 @@ held_alone true undone t c js = refl
 held_alone false true t c js = refl
 held_alone false false t c js = refl
 
-one_held : (marks : Marks) (e : Event) (ticket : Option ℕ) (js : List Journalled) (ts : List ℕ) → IsTaken e ticket → tickets_of js ≡ filter (λ t. is_among marks.done t || is_among marks.undone t) ts
-    → tickets_of (cons_option (journalled_of marks e ticket) js) ≡ filter (λ t. is_among marks.done t || is_among marks.undone t) (cons_option ticket ts)
-one_held marks (Do m c) (Some t) js ts h is =
-    held_alone (is_among marks.done t) (is_among marks.undone t) t c js ∙ ap (λ (l : List ℕ). cond (is_among marks.done t || is_among marks.undone t) (t ∷ l) l) is
-one_held marks (Do m c) None js ts h is = is
-one_held marks (Admit m f) None js ts h is = is
-one_held marks (Admit m f) (Some t) js ts h is = absurd h
-one_held marks (Look m a) None js ts h is = is
-one_held marks (Look m a) (Some t) js ts h is = absurd h
-one_held marks (Sweep m) None js ts h is = is
-one_held marks (Sweep m) (Some t) js ts h is = absurd h
-one_held marks (Forget m n) None js ts h is = is
-one_held marks (Forget m n) (Some t) js ts h is = absurd h
-one_held marks (Undo m) None js ts h is = is
-one_held marks (Undo m) (Some t) js ts h is = absurd h
-one_held marks (Redo m) None js ts h is = is
-one_held marks (UndoOf m named) None js ts h is = is
-one_held marks (RedoOf m named) None js ts h is = is
-one_held marks (Redo m) (Some t) js ts h is = absurd h
-one_held marks (UndoOf m named) (Some t) js ts h is = absurd h
-one_held marks (RedoOf m named) (Some t) js ts h is = absurd h
-
 held_picked : (marks : Marks) (log : List Entry) → AreTaken log
     → tickets_of (filter_map (λ entry. journalled_of marks entry.event entry.ticket) log) ≡ filter (λ t. is_among marks.done t || is_among marks.undone t) (tickets_in log)
-held_picked marks [] h = refl
-held_picked marks (e ∷ log) h = one_held marks e.event e.ticket _ (tickets_in log) h.0 (held_picked marks log h.1)
+held_picked marks log h =
+    picked marks (λ (js : List Journalled). tickets_of js) (λ t. is_among marks.done t || is_among marks.undone t) (λ t c js. held_alone (is_among marks.done t) (is_among marks.undone t) t c js) refl log h
 
 -- ---- the log of a history
 
@@ -273,32 +255,10 @@ undone_alone true undone t c js = refl
 undone_alone false true t c js = refl
 undone_alone false false t c js = refl
 
-one_undone : (marks : Marks) (e : Event) (ticket : Option ℕ) (js : List Journalled) (ts : List ℕ) → IsTaken e ticket → tickets_of (filter (λ j. not j.done) js) ≡ filter (λ t. not (is_among marks.done t) && is_among marks.undone t) ts
-    → tickets_of (filter (λ j. not j.done) (cons_option (journalled_of marks e ticket) js)) ≡ filter (λ t. not (is_among marks.done t) && is_among marks.undone t) (cons_option ticket ts)
-one_undone marks (Do m c) (Some t) js ts h is =
-    undone_alone (is_among marks.done t) (is_among marks.undone t) t c js ∙ ap (λ (l : List ℕ). cond (not (is_among marks.done t) && is_among marks.undone t) (t ∷ l) l) is
-one_undone marks (Do m c) None js ts h is = is
-one_undone marks (Admit m f) None js ts h is = is
-one_undone marks (Admit m f) (Some t) js ts h is = absurd h
-one_undone marks (Look m a) None js ts h is = is
-one_undone marks (Look m a) (Some t) js ts h is = absurd h
-one_undone marks (Sweep m) None js ts h is = is
-one_undone marks (Sweep m) (Some t) js ts h is = absurd h
-one_undone marks (Forget m n) None js ts h is = is
-one_undone marks (Forget m n) (Some t) js ts h is = absurd h
-one_undone marks (Undo m) None js ts h is = is
-one_undone marks (Undo m) (Some t) js ts h is = absurd h
-one_undone marks (Redo m) None js ts h is = is
-one_undone marks (UndoOf m named) None js ts h is = is
-one_undone marks (RedoOf m named) None js ts h is = is
-one_undone marks (Redo m) (Some t) js ts h is = absurd h
-one_undone marks (UndoOf m named) (Some t) js ts h is = absurd h
-one_undone marks (RedoOf m named) (Some t) js ts h is = absurd h
-
 undone_picked : (marks : Marks) (log : List Entry) → AreTaken log
     → tickets_of (filter (λ j. not j.done) (filter_map (λ entry. journalled_of marks entry.event entry.ticket) log)) ≡ filter (λ t. not (is_among marks.done t) && is_among marks.undone t) (tickets_in log)
-undone_picked marks [] h = refl
-undone_picked marks (e ∷ log) h = one_undone marks e.event e.ticket _ (tickets_in log) h.0 (undone_picked marks log h.1)
+undone_picked marks log h =
+    picked marks (λ (js : List Journalled). tickets_of (filter (λ j. not j.done) js)) (λ t. not (is_among marks.done t) && is_among marks.undone t) (λ t c js. undone_alone (is_among marks.done t) (is_among marks.undone t) t c js) refl log h
 
 -- in an ascending list whose tickets pass a test just where they are in another list, which has no more
 among_picked : (p : ℕ → Bool) (t : ℕ) (xs ys : List ℕ) → (is_among ys t ≡ true → (p t ≡ true) × (1 ≤ occurs t xs)) → (is_among ys t ≡ false → p t ≡ false) → is_among (filter p xs) t ≡ is_among ys t
