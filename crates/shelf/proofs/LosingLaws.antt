@@ -1,14 +1,21 @@
 -- Calls that take cells from names: one after the other, and none.
-use Rattle.std.proofs.Common.{◌≡◌, ℕ, ◌∙◌, arith}
+use Rattle.std.proofs.Common.{◌≡◌, ℕ, List, [], refl, sym, subst, ◌∙◌, arith}
+use Rattle.std.specs.List.{AllByRecursion}
+use Rattle.std.specs.Prelude.{vec_capacity}
 use Rattle.indexmap.specs.IndexMap.{IndexMap}
 use Rattle.dns_name.specs.Labels.{Labels}
 use Rattle.cell_store.specs.declared.owner.OwnerCells.{OwnerCells}
 use Rattle.cell_store.specs.Count.{stored_in}
 use Rattle.shelf.specs.declared.ends.Ends.{Ends}
+use Rattle.shelf.specs.declared.settling.Settling.{Settling}
+use Rattle.shelf.specs.declared.shelf.KeptFlush.{KeptFlush}
 use Rattle.shelf.specs.declared.shelf.Shelf.{Shelf}
-use Rattle.shelf.specs.Clean.{HaveEnds}
+use Rattle.shelf.specs.Clean.{AreEnds, HaveEnds}
 use Rattle.shelf.specs.Losing.{IsTallied, LoseCells, LosePlaces}
+use Rattle.shelf.specs.Settling.{IsSettling}
+use Rattle.shelf.specs.Sweep.{AreSwept}
 use Rattle.shelf.specs.Told.{IsShelf, LosesOnly}
+use Rattle.shelf.proofs.FaceLaws.{settles_each}
 use Rattle.shelf.proofs.SweepLaws.{gain_twice}
 
 -- Names as they were have lost nothing.
@@ -57,3 +64,30 @@ loses_twice first middle last before after = record {
   stored = omega (arith, before.stored, after.stored);
   pairs = λ pair has. before.pairs pair (after.pairs pair has);
 }
+
+-- What a sweep loses, once no permanent flush has a name left.
+pub swept_loses : (t : ℕ) (old new : Shelf) (kept : List KeptFlush) → new ≡ record old { owners = new.owners; stored = new.stored; numbers = new.numbers; ends = new.ends } → kept ≡ old.kept.items → old.settlings.items ≡ [] → IsShelf old →
+    AreSwept kept t old.owners old.stored new.owners new.ends new.stored → vec_capacity new.numbers ≡ vec_capacity old.numbers → LosesOnly old new
+swept_loses t old new kept rest is none whole swept room = subst (λ (x : Shelf). LosesOnly old x) (sym rest) (record {
+  whole = record {
+    upto = swept.less.gains.upto old.top whole.upto;
+    about = swept.less.about whole.about;
+    numbers = whole.numbers;
+    ascending = whole.ascending;
+    settles = settles_each old.owners new.owners old.kept.items swept.less.gains.settles whole.settles;
+    counted = swept.counted;
+    few = omega (arith, swept.fewer, whole.few);
+    small = whole.small;
+    room = omega (arith, room, whole.room);
+    ends = subst (λ (l : List KeptFlush). AreEnds l new.owners.entries new.ends) is swept.ends;
+    settling = subst (λ (s : List Settling). AllByRecursion (IsSettling old.top new.owners) s) (sym none) tt;
+    space = whole.space;
+    named = swept.named whole.named;
+    useful = whole.useful;
+    short = whole.short;
+    doubt = omega (arith, swept.sure);
+  };
+  flushes = (refl, refl, refl);
+  stored = swept.fewer;
+  pairs = swept.less.gains.pairs;
+})

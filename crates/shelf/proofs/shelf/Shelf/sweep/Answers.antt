@@ -1,17 +1,15 @@
 use Rattle.std.proofs.Common.{◌≡◌, List, [], true, length, refl, sym, ap, ◌∙◌, subst, arith}
-use Rattle.std.specs.List.{AllByRecursion}
 use Rattle.cell_store.specs.Sweep.{alive_at}
 use Rattle.shelf.specs.declared.settling.Settling.{Settling}
 use Rattle.shelf.specs.declared.shelf.KeptFlush.{KeptFlush}
 use Rattle.shelf.specs.declared.shelf.Shelf.{Shelf}
 use Rattle.shelf.specs.Clean.{AreEnds}
-use Rattle.shelf.specs.Settling.{reached_at_once, settled_cell, IsSettling}
+use Rattle.shelf.specs.Settling.{reached_at_once, settled_cell}
 use Rattle.shelf.specs.Sweep.{AreAlive, AreLessened}
 use Rattle.shelf.specs.Told.{chosen_version, is_version}
-use Rattle.shelf.proofs.FaceLaws.{settles_each}
 use Rattle.shelf.proofs.RoomLaws.{chosen_is_version}
 use Rattle.shelf.proofs.LeftLaws.{fewer_steps}
-use Rattle.shelf.proofs.LosingLaws.{loses_twice}
+use Rattle.shelf.proofs.LosingLaws.{loses_twice, swept_loses}
 use Rattle.shelf.proofs.NeedLaws.{needed}
 use Rattle.shelf.proofs.BoundLaws.{no_doubt}
 use Rattle.shelf.proofs.VisitLaws.{turn_none}
@@ -69,34 +67,10 @@ returns-clause-faces c = λ chosen q.
 pub returns-clause-loses : goal.returns-clause-loses
 returns-clause-loses c =
     let middle = c.loop-self.self in
-    let whole = c.loop-self.invariant.loses.whole in
-    let none : c.loop-self.self.settlings.items ≡ [] = c.is_reaching.ensures.none c.loop-self-test.false in
-    let less = subst (λ (l : List KeptFlush). AreLessened l c.args.moment c.loop-self.self.owners c.sweep_all.new.owners) c.deref.ensures.value c.sweep_all.ensures.swept.less in
     let was = c.loop-self.invariant.loses in
-    let swept = c.sweep_all.ensures.swept in
-    record {
-      whole = record {
-        upto = less.gains.upto middle.top whole.upto;
-        about = less.about whole.about;
-        numbers = whole.numbers;
-        ascending = whole.ascending;
-        settles = settles_each middle.owners c.sweep_all.new.owners middle.kept.items less.gains.settles whole.settles;
-        counted = c.sweep_all.ensures.swept.counted;
-        few = omega (arith, c.sweep_all.ensures.swept.fewer, whole.few);
-        small = whole.small;
-        room = omega (arith, c.sweep_all.ensures.capacity, whole.room);
-        ends = subst (λ (l : List KeptFlush). AreEnds l c.sweep_all.new.owners.entries c.sweep_all.new.ends) c.deref.ensures.value c.sweep_all.ensures.swept.ends;
-        settling = subst (λ (s : List Settling). AllByRecursion (IsSettling middle.top c.sweep_all.new.owners) s) (sym none) tt;
-        space = whole.space;
-        named = c.sweep_all.ensures.swept.named whole.named;
-        useful = whole.useful;
-        short = whole.short;
-        doubt = omega (arith, c.sweep_all.ensures.swept.sure);
-      };
-      flushes = was.flushes;
-      stored = omega (arith, swept.fewer, was.stored);
-      pairs = λ pair has. was.pairs pair (swept.less.gains.pairs pair has);
-    }
+    let swept : Shelf = record middle { owners = c.sweep_all.new.owners; stored = c.sweep_all.new.stored; numbers = c.sweep_all.new.numbers; ends = c.sweep_all.new.ends } in
+    loses_twice c.args.self.now middle swept was
+    (swept_loses c.args.moment middle swept _ refl c.deref.ensures.value (c.is_reaching.ensures.none c.loop-self-test.false) was.whole c.sweep_all.ensures.swept c.sweep_all.ensures.capacity)
 
 pub returns-clause-none : goal.returns-clause-none
 returns-clause-none c =
@@ -108,5 +82,5 @@ returns-clause-alive c =
     let middle = c.loop-self.self in
     let none : c.loop-self.self.settlings.items ≡ [] = c.is_reaching.ensures.none c.loop-self-test.false in
     let alive = subst (λ (l : List KeptFlush). AreAlive l c.args.moment c.sweep_all.new.owners) c.deref.ensures.value c.sweep_all.ensures.alive in
-    let swept : Shelf = record { alloc = middle.alloc; owners = c.sweep_all.new.owners; kept = middle.kept; top = middle.top; stored = c.sweep_all.new.stored; limit = middle.limit; numbers = c.sweep_all.new.numbers; ends = c.sweep_all.new.ends; settlings = middle.settlings } in
+    let swept : Shelf = record middle { owners = c.sweep_all.new.owners; stored = c.sweep_all.new.stored; numbers = c.sweep_all.new.numbers; ends = c.sweep_all.new.ends } in
     (subst (λ (l : List KeptFlush). AreAlive l c.args.moment c.sweep_all.new.owners) c.loop-self.invariant.loses.flushes.0 alive, needed swept c.args.moment none alive)

@@ -1,17 +1,16 @@
 use Rattle.std.proofs.Common.{◌≡◌, ◌<◌, List, [], refl, sym, ap, ◌∙◌, subst, arith}
-use Rattle.std.specs.List.{AllByRecursion}
 use Rattle.cell_store.specs.Ends.{latest}
 use Rattle.cell_store.specs.Sweep.{alive_at}
 use Rattle.shelf.specs.declared.settling.Settling.{Settling}
 use Rattle.shelf.specs.declared.shelf.KeptFlush.{KeptFlush}
 use Rattle.shelf.specs.declared.shelf.Shelf.{Shelf}
 use Rattle.shelf.specs.Clean.{AreEnds}
-use Rattle.shelf.specs.Settling.{reached_at_once, settled_cell, IsSettling}
+use Rattle.shelf.specs.Settling.{reached_at_once, settled_cell}
 use Rattle.shelf.specs.Sweep.{AreAlive, AreLessened}
 use Rattle.shelf.specs.Told.{cell_at, chosen_version}
-use Rattle.shelf.proofs.FaceLaws.{settles_each}
 use Rattle.shelf.proofs.RoomLaws.{chosen_is_version}
 use Rattle.shelf.proofs.LeftLaws.{fewer_steps}
+use Rattle.shelf.proofs.LosingLaws.{swept_loses}
 use Rattle.shelf.proofs.NeedLaws.{needed}
 use Rattle.shelf.proofs.BoundLaws.{no_doubt}
 use Rattle.shelf.proofs.VisitLaws.{reached_short, turn_more, turn_reached, turn_short, turn_small}
@@ -41,33 +40,8 @@ returns-clause-faces c = λ chosen q.
 pub returns-clause-loses : goal.returns-clause-loses
 returns-clause-loses c =
     let self = c.args.self.now in
-    let whole = c.requires.whole in
-    let none : c.args.self.now.settlings.items ≡ [] = c.is_reaching.ensures.none c.if-is_reaching.false in
-    let less = subst (λ (l : List KeptFlush). AreLessened l c.args.moment c.args.self.now.owners c.sweep_few.new.owners) c.deref.ensures.value c.sweep_few.ensures.swept.less in
-    let swept = c.sweep_few.ensures.swept in
-    record {
-      whole = record {
-        upto = less.gains.upto self.top whole.upto;
-        about = less.about whole.about;
-        numbers = whole.numbers;
-        ascending = whole.ascending;
-        settles = settles_each self.owners c.sweep_few.new.owners self.kept.items less.gains.settles whole.settles;
-        counted = c.sweep_few.ensures.swept.counted;
-        few = omega (arith, c.sweep_few.ensures.swept.fewer, whole.few);
-        small = whole.small;
-        room = omega (arith, c.sweep_few.ensures.capacity, whole.room);
-        ends = subst (λ (l : List KeptFlush). AreEnds l c.sweep_few.new.owners.entries c.sweep_few.new.ends) c.deref.ensures.value c.sweep_few.ensures.swept.ends;
-        settling = subst (λ (s : List Settling). AllByRecursion (IsSettling self.top c.sweep_few.new.owners) s) (sym none) tt;
-        space = whole.space;
-        named = c.sweep_few.ensures.swept.named whole.named;
-        useful = whole.useful;
-        short = whole.short;
-        doubt = omega (arith, c.sweep_few.ensures.swept.sure);
-      };
-      flushes = (refl, refl, refl);
-      stored = swept.fewer;
-      pairs = swept.less.gains.pairs;
-    }
+    let swept : Shelf = record self { owners = c.sweep_few.new.owners; stored = c.sweep_few.new.stored; numbers = c.sweep_few.new.numbers; ends = c.sweep_few.new.ends } in
+    swept_loses c.args.moment self swept _ refl c.deref.ensures.value (c.is_reaching.ensures.none c.if-is_reaching.false) c.requires.whole c.sweep_few.ensures.swept c.sweep_few.ensures.capacity
 
 pub returns-then-is_reaching-clause-loses : goal.returns-then-is_reaching-clause-loses
 returns-then-is_reaching-clause-loses c = c.reach_names.ensures.loses
@@ -112,5 +86,5 @@ returns-clause-alive c = λ last.
     let self = c.args.self.now in
     let none : c.args.self.now.settlings.items ≡ [] = c.is_reaching.ensures.none c.if-is_reaching.false in
     let alive = subst (λ (l : List KeptFlush). AreAlive l c.args.moment c.sweep_few.new.owners) c.deref.ensures.value (c.sweep_few.ensures.none last).1 in
-    let swept : Shelf = record { alloc = self.alloc; owners = c.sweep_few.new.owners; kept = self.kept; top = self.top; stored = c.sweep_few.new.stored; limit = self.limit; numbers = c.sweep_few.new.numbers; ends = c.sweep_few.new.ends; settlings = self.settlings } in
+    let swept : Shelf = record self { owners = c.sweep_few.new.owners; stored = c.sweep_few.new.stored; numbers = c.sweep_few.new.numbers; ends = c.sweep_few.new.ends } in
     (alive, needed swept c.args.moment none alive)
