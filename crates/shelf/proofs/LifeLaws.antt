@@ -23,21 +23,11 @@ use Rattle.shelf.specs.Settling.{settled_version}
 use Rattle.shelf.specs.Kept.{is_kept, is_version}
 use Rattle.shelf.specs.Told.{chosen_version, later_chosen, only}
 use Rattle.shelf.specs.First.{cell_at_name, kind_life, later_kind, later_life, name_life}
-
-or_right : (a b : Bool) → b ≡ true → (a || b) ≡ true
-or_right true b is = refl
-or_right false b is = is
-
-either : (a b : Bool) → (a || b) ≡ true → (a ≡ true) ⊎ (b ≡ true)
-either true b is = inl refl
-either false b is = inr is
+use Rattle.shelf.proofs.TestLaws.{both, either, or_right}
 
 parts : (a b : Bool) → (a && b) ≡ true → (a ≡ true) × (b ≡ true)
 parts true b is = (refl, is)
 parts false b is = absurd (false≢true is)
-
-both : (a b : Bool) → a ≡ true → b ≡ true → (a && b) ≡ true
-both a b p q = rw (p, q) refl
 
 -- ---- a type
 

@@ -20,6 +20,7 @@ use Rattle.shelf.specs.declared.room.Room.TheVariants as room
 use Rattle.ranked.specs.Flush.{covers}
 use Rattle.shelf.specs.Room.{takes, taken_by, is_taken, is_wanted, needs_place, room_for, IsFault}
 use Rattle.shelf.specs.Told.{cell_at, is_kept, is_version, later_chosen, chosen_version}
+use Rattle.shelf.proofs.TestLaws.{or_left, or_right}
 
 -- ---- one version
 
@@ -105,13 +106,6 @@ stays cells kept find moment kind scope none q v there = elim (cases_Bool (touch
 ]
 
 -- ---- a choice has a version
-
-or_left : (a b : Bool) → a ≡ true → (a || b) ≡ true
-or_left a b is = rw is refl
-
-or_right : (a b : Bool) → b ≡ true → (a || b) ≡ true
-or_right true b is = refl
-or_right false b is = is
 
 both' : (a b : Bool) → a ≡ true → b ≡ true → (a && b) ≡ true
 both' a b p q = rw (p, q) refl

@@ -26,6 +26,7 @@ use Rattle.ranked.specs.Flush.{covers}
 use Rattle.shelf.specs.Kept.{with_shown}
 use Rattle.shelf.specs.Told.{Told, told_after, cell_by, only, is_kept, is_version, later_shown, shown_version}
 use Rattle.shelf.specs.Told.Told.{flushed}
+use Rattle.shelf.proofs.TestLaws.{and_false, both, either, or_left, or_right}
 
 -- ---- versions that no admission has reached are empty
 
@@ -54,20 +55,6 @@ pub nothing_past : {S : Type 0} (owners : IndexMap Labels OwnerCells S) (top : �
 nothing_past owners top upto question v late = owner_past (get name_eq owners question.owner) top question.kind v (upto question.owner) late
 
 -- ---- versions
-
-either : (a b : Bool) → (a || b) ≡ true → (a ≡ true) ⊎ (b ≡ true)
-either true b is = inl refl
-either false b is = inr is
-
-or_left : (a b : Bool) → a ≡ true → (a || b) ≡ true
-or_left a b is = rw is refl
-
-or_right : (a b : Bool) → b ≡ true → (a || b) ≡ true
-or_right true b is = refl
-or_right false b is = is
-
-both : (a b : Bool) → a ≡ true → b ≡ true → (a && b) ≡ true
-both a b p q = rw (p, q) refl
 
 kept_low : (kept : List KeptFlush) (top : ℕ) (question : Question) (v : ℕ) → AllByRecursion (λ own. own.number ≤ top) kept → is_kept kept question v ≡ true → v ≤ top
 kept_low [] top question v all is = absurd (false≢true is)
@@ -118,10 +105,6 @@ told_more question chosen told more = fold-append (told_after question chosen) N
 
 apart : (a b : ℕ) → a ≢ b → (a == b) ≡ false
 apart a b ne = elim (cases_Bool (a == b)) [ inl same ↦ absurd (ne (eqb-true a b same)) | inr so ↦ so ]
-
-and_false : (a : Bool) → (a && false) ≡ false
-and_false true = refl
-and_false false = refl
 
 assoc : (a b c : Bool) → (a || (b || c)) ≡ true → ((a || b) || c) ≡ true
 assoc true b c h = refl

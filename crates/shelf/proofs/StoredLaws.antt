@@ -22,6 +22,7 @@ use Rattle.cell_store.specs.Column.{Cells, is_counted}
 use Rattle.cell_store.specs.Owner.{column_of, IsUpTo}
 use Rattle.cell_store.specs.Store.{AreUpTo}
 use Rattle.cell_store.specs.Count.{count_entries, count_kinds, count_of, has_pair, has_place, one_if, pair_eq, scope_eq, stored_in}
+use Rattle.shelf.proofs.TestLaws.{and_false, both, either, or_left, or_right}
 
 -- ---- pairs are compared by an equivalence
 
@@ -63,26 +64,6 @@ pair_exact a b is =
 
 pub pair_turned : (a b : Labels × Scope) → pair_eq a b ≡ pair_eq b a
 pair_turned a b = pair_equiv.symm a b
-
--- ---- tests
-
-either : (a b : Bool) → (a || b) ≡ true → (a ≡ true) ⊎ (b ≡ true)
-either true b is = inl refl
-either false b is = inr is
-
-or_left : (a b : Bool) → a ≡ true → (a || b) ≡ true
-or_left a b is = rw is refl
-
-or_right : (a b : Bool) → b ≡ true → (a || b) ≡ true
-or_right true b is = refl
-or_right false b is = is
-
-both : (a b : Bool) → a ≡ true → b ≡ true → (a && b) ≡ true
-both a b p q = rw (p, q) refl
-
-and_false : (a : Bool) → (a && false) ≡ false
-and_false true = refl
-and_false false = refl
 
 -- ---- each key once
 

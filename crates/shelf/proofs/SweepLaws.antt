@@ -30,16 +30,9 @@ use Rattle.shelf.specs.declared.shelf.KeptFlush.{KeptFlush}
 use Rattle.ranked.specs.Flush.{covers}
 use Rattle.shelf.specs.Told.{is_kept, is_version}
 use Rattle.shelf.specs.Sweep.{number_more, numbers_of, AreLessened, IsAlive, IsLessened, IsSwept}
+use Rattle.shelf.proofs.TestLaws.{and_false, and_true}
 
 -- ---- the versions that are asked for are those of the question
-
-and_true : (a : Bool) → (a && true) ≡ a
-and_true true = refl
-and_true false = refl
-
-and_false : (a : Bool) → (a && false) ≡ false
-and_false true = refl
-and_false false = refl
 
 or_assoc : (a b c : Bool) → ((a || b) || c) ≡ (a || (b || c))
 or_assoc true b c = refl
