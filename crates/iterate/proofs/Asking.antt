@@ -40,17 +40,7 @@ use Rattle.iterate.proofs.Once.{first_asked}
 use Rattle.iterate.proofs.Arriving.{yet_since}
 use Rattle.iterate.proofs.Hunts.{search_digits}
 use Rattle.iterate.proofs.Lists.{none_within}
-
--- A turn is what its phase and its want are.
-pub turned : {port : ℕ} {question : Question} {log : List Exchange} {moment : ℕ} {id : Drawing} {left : ℕ} {phase phase' : Phase} {want want' : Want}
-    → phase ≡ phase' → want ≡ want' → Goes port question log moment id left phase' want' → Goes port question log moment id left phase want
-turned {port} {question} {log} {moment} {id} {left} {phase} {phase'} {want} {want'} p w g =
-    subst (λ (f : Phase). Goes port question log moment id left f want) (sym p) (subst (λ (v : Want). Goes port question log moment id left phase' v) (sym w) g)
-
--- More may be left before it.
-pub from_more : {port : ℕ} {question : Question} {log : List Exchange} {moment : ℕ} {id : Drawing} {left more : ℕ} {phase : Phase} {want : Want}
-    → left ≤ more → Goes port question log moment id left phase want → Goes port question log moment id more phase want
-from_more h g = record { wants = g.wants; drawn = g.drawn; fits = g.fits; falls = omega (arith, g.falls) }
+use Rattle.iterate.proofs.PathTurns.{less_left}
 
 pub at_most : (n : ℕ) → n ≤ n
 at_most n = omega arith
@@ -216,7 +206,7 @@ seeking port question log moment id left search target then s less kept is = rec
 
 pub from_more_ok : {E : Type 0} (port : ℕ) (question : Question) (log : List Exchange) (moment : ℕ) {ids id : Drawing} {left more : ℕ} (r : Result Advance E) → ids ≡ id → left ≤ more
     → IfOk r (λ t. Goes port question log moment ids left t.phase t.want) → IfOk r (λ t. Goes port question log moment id more t.phase t.want)
-from_more_ok {E} port question log moment {ids} {id} {left} {more} (Ok t) same h g = subst (λ (d : Drawing). Goes port question log moment d more t.phase t.want) same (from_more h g)
+from_more_ok {E} port question log moment {ids} {id} {left} {more} (Ok t) same h g = subst (λ (d : Drawing). Goes port question log moment d more t.phase t.want) same (less_left h g)
 from_more_ok port question log moment (Err e) same h g = tt
 
 -- one look less is left

@@ -9,7 +9,8 @@ use Rattle.iterate.specs.Exchanges.{exchange, Adds}
 use Rattle.iterate.specs.Hunting.{IsUnnamed, Names}
 use Rattle.iterate.specs.Served.{served_name}
 use Rattle.iterate.proofs.Falling.{few_is}
-use Rattle.iterate.proofs.Asking.{turned, from_more_ok}
+use Rattle.iterate.proofs.Asking.{from_more_ok}
+use Rattle.iterate.proofs.PathTurns.{turned}
 use Rattle.iterate.proofs.Finding.{path_named, named_reached, failing_listing}
 use Rattle.iterate.proofs.listing.listed.Goals as goal
 

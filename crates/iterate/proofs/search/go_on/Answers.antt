@@ -7,7 +7,8 @@ use Rattle.iterate.specs.declared.search.Search.{Search}
 use Rattle.iterate.specs.Searching.{IsNextServer, Turn, hunt_of}
 use Rattle.iterate.specs.Phase.{Goes, drawing}
 use Rattle.rand_core.specs.Stream.{Stream}
-use Rattle.iterate.proofs.Asking.{turned, at_most, from_more, from_more_ok, address_less, smaller_stays, giving_up, asks_same, same_first}
+use Rattle.iterate.proofs.Asking.{at_most, from_more_ok, address_less, smaller_stays, giving_up, asks_same, same_first}
+use Rattle.iterate.proofs.PathTurns.{less_left, turned}
 use Rattle.iterate.proofs.Lists.{next_within}
 use Rattle.iterate.proofs.Opened.{may_be_sought}
 use Rattle.iterate.proofs.Supplying.{hunts_fall, asked_not}
@@ -57,7 +58,7 @@ returns-then-is_outermost-clause-goes g c = λ port question log s o.
     let stream = g.R.Rng.stream c.going.ids in
     let here : stream ≡ g.R.Rng.stream c.args.ids.now = cc in
     subst (λ (s : Stream). Goes port question log c.args.moment (drawing s stream) (left_of_search c.args.search 4) c.failed.result.phase c.failed.result.want) here
-    (turned c.failed.ensures.phase c.failed.ensures.want (from_more at.1 (giving_up port question log c.args.moment stream 4 c.going.current at.0 none next.0 next.1)))
+    (turned c.failed.ensures.phase c.failed.ensures.want (less_left at.1 (giving_up port question log c.args.moment stream 4 c.going.current at.0 none next.0 next.1)))
 
 pub going-preserved : goal.going-preserved
 going-preserved g c =

@@ -6,7 +6,7 @@ use Rattle.iterate.specs.declared.phase.Stage.TheVariants as stage
 use Rattle.iterate.specs.declared.want.Input.{Input}
 use Rattle.iterate.specs.declared.want.Want.TheVariants.{Book}
 use Rattle.iterate.specs.Exchanges.{exchange, Adds}
-use Rattle.iterate.proofs.Asking.{turned}
+use Rattle.iterate.proofs.PathTurns.{turned}
 use Rattle.iterate.proofs.Finding.{failing_seeking}
 use Rattle.iterate.proofs.seeking.address_came.Goals as goal
 

@@ -3,7 +3,8 @@ use Rattle.history.specs.declared.event.Ask.TheVariants.{Answer as Asked}
 use Rattle.dns_query.specs.Query.{alias_question}
 use Rattle.iterate.specs.declared.phase.Stage.TheVariants as stage
 use Rattle.iterate.specs.Measure.{left_of_seek}
-use Rattle.iterate.proofs.Asking.{turned, from_more_ok, servers_less, alias_goes}
+use Rattle.iterate.proofs.Asking.{from_more_ok, servers_less, alias_goes}
+use Rattle.iterate.proofs.PathTurns.{turned}
 use Rattle.history.specs.declared.event.Event.TheVariants.{Look}
 use Rattle.iterate.specs.declared.want.Input.{Input}
 use Rattle.iterate.specs.Looked.{seen_of, IsReplied}

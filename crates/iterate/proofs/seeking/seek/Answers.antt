@@ -2,7 +2,8 @@ use Rattle.std.proofs.Common.{ap, refl}
 use Rattle.history.specs.declared.event.Ask.{Ask}
 use Rattle.history.specs.declared.event.Event.TheVariants.{Look}
 use Rattle.iterate.specs.declared.want.Want.TheVariants.{Book}
-use Rattle.iterate.proofs.Asking.{turned, seeking}
+use Rattle.iterate.proofs.Asking.{seeking}
+use Rattle.iterate.proofs.PathTurns.{turned}
 use Rattle.iterate.proofs.seeking.seek.Goals as goal
 
 pub returns-clause-goes : goal.returns-clause-goes

@@ -12,7 +12,8 @@ use Rattle.iterate.specs.declared.want.Want.TheVariants.{Book}
 use Rattle.iterate.specs.Exchanges.{exchange, Adds}
 use Rattle.iterate.specs.Hunting.{AsksOneOf, Names}
 use Rattle.iterate.specs.Measure.{left_of_seek}
-use Rattle.iterate.proofs.Asking.{turned, from_more_ok, goes_on, asks_fresh}
+use Rattle.iterate.proofs.Asking.{from_more_ok, goes_on, asks_fresh}
+use Rattle.iterate.proofs.PathTurns.{turned}
 use Rattle.dns_query.specs.Query.{address_question}
 use Rattle.iterate.proofs.Finding.{failing_seeking, seeking_more, named_reached, named_same, suited}
 use Rattle.iterate.proofs.seeking.servers_came.Goals as goal

@@ -1,5 +1,6 @@
 use Rattle.std.proofs.Common.{arith}
-use Rattle.iterate.proofs.Asking.{turned, spent, sending_less}
+use Rattle.iterate.proofs.Asking.{spent, sending_less}
+use Rattle.iterate.proofs.PathTurns.{turned}
 use Rattle.iterate.proofs.sending.ask.Goals as goal
 
 pub returns-then-search-ge-MOST_SENDS-clause-query : goal.returns-then-search-ge-MOST_SENDS-clause-query

@@ -3,7 +3,8 @@ use Rattle.dns_text.specs.declared.record.Question.{Question}
 use Rattle.rand_core.specs.Stream.{Stream}
 use Rattle.dns_query.specs.Query.{IsQuery}
 use Rattle.iterate.specs.declared.want.Want.TheVariants.{Send}
-use Rattle.iterate.proofs.Asking.{turned, sending}
+use Rattle.iterate.proofs.Asking.{sending}
+use Rattle.iterate.proofs.PathTurns.{turned}
 use Rattle.iterate.proofs.sending.send.Goals as goal
 
 pub returns-clause-goes : goal.returns-clause-goes
