@@ -10,9 +10,9 @@ import subprocess
 import threading
 import time
 
-from lib.behaviours import EXCHANGE, REPLIED, RIGHT, WRONG, Lies, address, answered, at_once, never, right
+from lib.behaviours import EXCHANGE, REPLIED, RIGHT, WRONG, Lies, address, answered, at_once, count_answered, never, right
 from lib.checks import Checks
-from lib.crowds import Crowd, LateServer, waiting_at
+from lib.crowds import Crowd, LateServer, flooded, waiting_at
 from lib.programs import RESOLVER, library
 from lib.service import CANNOT_LISTEN, HOST, IN_USE, STOPPED, Service, free_port, query, until
 
@@ -399,12 +399,9 @@ def check_mute_zone(checks):
         elif int(re.search(r"\d+", name).group()) % 20 == 0:
             yield 0, right(asked)
 
-    ended = threading.Event()
     with LateServer(does, [HOST, "127.0.0.3"]) as server:
         with Service([server.hint], "--server-port", str(server.port)) as service, Crowd(service) as crowd:
-            flood = threading.Thread(target=floods, args=(service, ended))
-            flood.start()
-            try:
+            with flooded(floods, service):
                 full = until(lambda: service.figures()["total.requestlist.exceeded"] > 100)
                 checks.equal("a mute zone: it has all the exchanges that it may have", full, True)
                 for name in names_of("new", 200):
@@ -412,10 +409,7 @@ def check_mute_zone(checks):
                     crowd.take(0.02)
                 crowd.wait()
                 told = service.figures()
-            finally:
-                ended.set()
-                flood.join()
-            count = sum(words == answered(name) for name, words in zip(crowd.names, crowd.words()))
+            count = count_answered(crowd)
             checks.check("a mute zone: new names elsewhere", None if count >= 190 else f"{count} of 200 are answered")
             checks.check("a mute zone: exchanges", None if told["num.exchange.current"] > 400 else f"{told['num.exchange.current']} at the end")
             checks.equal("a mute zone: it is logged", TOO_MANY in service.log(), True)

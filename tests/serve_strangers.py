@@ -4,12 +4,11 @@ is bounded."""
 
 import itertools
 import socket
-import threading
 import time
 
-from lib.behaviours import answered, right
+from lib.behaviours import answered, count_answered, right
 from lib.checks import Checks
-from lib.crowds import Crowd, LateServer
+from lib.crowds import Crowd, LateServer, flooded
 from lib.long_messages import QUESTION, Response, label, pointer
 from lib.nameserver import Piece, framed
 from lib.replies import reply_in
@@ -112,13 +111,10 @@ def check_crowd(checks, zones):
     """Late names in so many zones below one name, fifty a second, from the client that asks for other new names: of these 95 in 100 are
     answered, and cached names all."""
     name = f"late names in {zones} zones"
-    ended = threading.Event()
     with LateServer(late, [HOST, *LATE]) as server:
         with Service([server.hint], "--server-port", str(server.port)) as service, Crowd(service) as crowd:
             service.obey("local_data held.test. 60 A 192.0.2.1")
-            flooding = threading.Thread(target=flood, args=(service, zones, ended))
-            flooding.start()
-            try:
+            with flooded(flood, service, zones):
                 time.sleep(FILLING_SECONDS)
                 held, began = [], time.monotonic()
                 for place in range(ASKING_SECONDS * 5):
@@ -128,10 +124,7 @@ def check_crowd(checks, zones):
                     time.sleep(max(0, began + place / 5 - time.monotonic()))
                 crowd.wait()
                 told = service.figures()
-            finally:
-                ended.set()
-                flooding.join()
-            count = sum(words == answered(asked) for asked, words in zip(crowd.names, crowd.words()))
+            count = count_answered(crowd)
             print(f"{name}: {count} of {len(crowd.names)}, {told['num.exchange.current']} exchanges")
             checks.check(f"{name}: new names", None if count >= 0.95 * len(crowd.names) else f"{count} of {len(crowd.names)}")
             checks.equal(f"{name}: cached names", set(held), {HELD})
@@ -142,13 +135,12 @@ def check_crowd(checks, zones):
 def check_network(checks):
     """A stranger of another network asks for 500 names a second in 1,000 zones whose servers are silent. Of the new names of others 95
     in 100 are answered."""
-    ended = threading.Event()
 
     def does(asked):
         if ".z" not in asked.question:
             yield 0.02, right(asked)
 
-    def floods(port):
+    def floods(port, ended):
         with socket.socket(socket.AF_INET, socket.SOCK_DGRAM) as sock:
             sock.bind(("127.0.7.1", 0))
             for place in itertools.count():
@@ -157,19 +149,14 @@ def check_network(checks):
                     return
 
     with LateServer(does) as server, Service([server.hint]) as service, Crowd(service) as crowd:
-        flooding = threading.Thread(target=floods, args=(service.port,))
-        flooding.start()
-        try:
+        with flooded(floods, service.port):
             time.sleep(3)
             for place in range(50):
                 crowd.send(f"new{place}.test.")
                 crowd.take(0.2)
             crowd.wait()
             told = service.figures()
-        finally:
-            ended.set()
-            flooding.join()
-        count = sum(told == answered(asked) for asked, told in zip(crowd.names, crowd.words()))
+        count = count_answered(crowd)
         print(f"another network: {count} of {len(crowd.names)}, {told['num.exchange.current']} exchanges")
         checks.check("another network: new names", None if count >= 0.95 * len(crowd.names) else f"{count} of {len(crowd.names)}")
         checks.check("another network: exchanges", None if told["num.exchange.current"] > 450 else f"{told['num.exchange.current']}")
@@ -253,7 +240,7 @@ def check_kept(checks, filling):
                     crowd.take(0.1)
                 crowd.wait()
             more = resident(service, "VmHWM") - before
-            count = sum(told == answered(asked) for asked, told in zip(crowd.names, crowd.words()))
+            count = count_answered(crowd)
             print(f"{filling}: {more / 1e6:.0f} MB more than {before / 1e6:.0f}, {count} of {len(crowd.names)}")
             checks.check(f"{filling}: memory", None if more <= MOST_MORE else f"{more / 1e6:.0f} MB")
             checks.check(f"{filling}: new names", None if count >= 0.95 * len(crowd.names) else f"{count} of {len(crowd.names)}")

@@ -28,6 +28,11 @@ def answered(name):
     return f"- | answer {name} A {address(name)}"
 
 
+def count_answered(crowd):
+    """The number of a crowd's names that got their addresses."""
+    return sum(words == answered(name) for name, words in zip(crowd.names, crowd.words()))
+
+
 def at_once(asked):
     yield 0, right(asked)
 

@@ -1,5 +1,6 @@
 """Very many questions at once: a name server that answers each in its own time, and clients that have many in flight."""
 
+import contextlib
 import heapq
 import itertools
 import os
@@ -226,6 +227,19 @@ class Crowd:
     def words(self):
         """The words of each reply, in the order of the names."""
         return [words_in(self.replies[place][0]) if place in self.replies else None for place in range(len(self.names))]
+
+
+@contextlib.contextmanager
+def flooded(floods, *arguments):
+    """A flood beside a block: `floods` gets its arguments and an event, and returns when that is set, at the block's end."""
+    ended = threading.Event()
+    thread = threading.Thread(target=floods, args=(*arguments, ended))
+    thread.start()
+    try:
+        yield
+    finally:
+        ended.set()
+        thread.join()
 
 
 def words_in(octets):
