@@ -10,14 +10,24 @@ from lib.long_lines import escaped_names, longest_lines, many_data, many_strings
 from lib.programs import RESOLVER, run, run_measured
 
 
+def undone(last, first):
+    """Undoes the commands from a ticket back to an earlier one."""
+    for ticket in range(last, first - 1, -1):
+        yield "undo", f"undone {ticket}"
+
+
+def listed(rows):
+    """The reply to a list."""
+    return "\n".join([*rows, "end"])
+
+
 def flushes_undone():
     """300 flushes. The newest 256 of them are undone, the newest first, and then redone; then every other one by its ticket."""
     for place in range(300):
         yield f"admit 4 n{place}.test. 60 A {address(place)}", "taken"
     for place in range(300):
         yield f"flush_type n{place}.test. A", f"ok {place + 1}"
-    for ticket in range(300, 44, -1):
-        yield "undo", f"undone {ticket}"
+    yield from undone(300, 45)
     for _ in range(44):
         yield "undo", "error nothing_to_undo"
     for place in range(300):
@@ -52,8 +62,7 @@ def admissions():
     for place in range(4_200):
         shown = "unknown" if place % 140 == 0 else f"found 3 60 n{place}.test. A {address(place)}"
         yield f"look n{place}.test. A", shown
-    for ticket in range(30, 0, -1):
-        yield "undo", f"undone {ticket}"
+    yield from undone(30, 1)
     for place in range(0, 4_200, 140):
         yield f"look n{place}.test. A", f"found 3 60 n{place}.test. A {address(place)}"
 
@@ -89,14 +98,12 @@ def full_zones():
     yield "local_data a.z0. A 192.0.2.1", "ok 4097"
     yield "local_zone z7. deny", "ok 4098"
     zones[7] = "z7. deny"
-    yield "list_local_zones", "\n".join(zones + ["end"])
-    yield "undo", "undone 4098"
-    yield "undo", "undone 4097"
-    yield "undo", "undone 4096"
+    yield "list_local_zones", listed(zones)
+    yield from undone(4_098, 4_096)
     zones[7] = "z7. static"
-    yield "list_local_zones", "\n".join(zones[:-1] + ["end"])
+    yield "list_local_zones", listed(zones[:-1])
     yield "redo", "redone 4096"
-    yield "list_local_zones", "\n".join(zones + ["end"])
+    yield "list_local_zones", listed(zones)
     yield "list_local_data", "end"
 
 
@@ -109,17 +116,16 @@ def full_stubs():
     yield "servers more.", "servers . hints"
     yield "stub_add s7. 127.0.0.2 127.0.0.3", "ok 1025"
     stubs[7] = "s7. 127.0.0.2@53 127.0.0.3@53"
-    yield "list_stubs", "\n".join(stubs + ["end"])
-    yield "undo", "undone 1025"
-    yield "undo", "undone 1024"
+    yield "list_stubs", listed(stubs)
+    yield from undone(1_025, 1_024)
     stubs[7] = "s7. 127.0.0.1@53"
     yield "servers a.s1023.", "servers . hints"
-    yield "list_stubs", "\n".join(stubs[:-1] + ["end"])
+    yield "list_stubs", listed(stubs[:-1])
     yield "redo", "redone 1024"
     yield "stub_add more. 127.0.0.1", "error too_many"
     yield "stub_remove s0.", "ok 1026"
     yield "stub_add more. 127.0.0.1", "ok 1027"
-    yield "list_stubs", "\n".join(stubs[1:] + ["more. 127.0.0.1@53", "end"])
+    yield "list_stubs", listed(stubs[1:] + ["more. 127.0.0.1@53"])
 
 
 def full_records():
@@ -133,7 +139,7 @@ def full_records():
     yield "local_zone_remove z.", "ok 65539"
     yield "list_local_data", "end"
     yield "undo", "undone 65539"
-    yield "list_local_data", "\n".join(records + ["end"])
+    yield "list_local_data", listed(records)
 
 
 def records_taken_back():
@@ -145,12 +151,12 @@ def records_taken_back():
     records = [f"n{place}.{'zy'[place % 2]}. 60 A {address(place)}" for place in range(4_096)]
     yield "local_zone_remove z.", "ok 4099"
     yield "list_local_zones", "y. static\nend"
-    yield "list_local_data", "\n".join(records[1::2] + ["end"])
+    yield "list_local_data", listed(records[1::2])
     yield "undo", "undone 4099"
     yield "list_local_zones", "z. static\ny. static\nend"
-    yield "list_local_data", "\n".join(records + ["end"])
+    yield "list_local_data", listed(records)
     yield "undo", "undone 4098"
-    yield "list_local_data", "\n".join(records[:-1] + ["end"])
+    yield "list_local_data", listed(records[:-1])
 
 
 MILLION = 1_000_000
