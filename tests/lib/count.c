@@ -3,10 +3,8 @@
 #define _GNU_SOURCE
 #include <errno.h>
 #include <stddef.h>
-#include <stdio.h>
-#include <stdlib.h>
-#include <sys/syscall.h>
-#include <unistd.h>
+
+#include "told.h"
 
 extern void *__libc_malloc(size_t);
 extern void *__libc_realloc(void *, size_t);
@@ -15,17 +13,9 @@ extern void *__libc_memalign(size_t, size_t);
 
 static long counted;
 
-__attribute__((destructor)) static void end(void) {
-    const char *teller = getenv("TELL");
+static void end(void) {
     char text[64];
-    int len = snprintf(text, sizeof text, "allocations %ld\n", counted);
-    if (teller) syscall(SYS_write, atoi(teller), text, (size_t)len);
-}
-
-/* A program with threads ends by this call, which runs no destructor. */
-__attribute__((noreturn)) void _exit(int status) {
-    end();
-    for (;;) syscall(SYS_exit_group, status);
+    tell(text, snprintf(text, sizeof text, "allocations %ld\n", counted));
 }
 
 void *malloc(size_t size) { counted++; return __libc_malloc(size); }

@@ -4,41 +4,25 @@
    does. On the file descriptor TELL it writes a line "called N" at the end, the number of these calls. No program is linked with it. */
 #define _GNU_SOURCE
 #include <errno.h>
-#include <stdio.h>
-#include <stdlib.h>
 #include <string.h>
 #include <sys/epoll.h>
 #include <sys/socket.h>
-#include <sys/syscall.h>
-#include <unistd.h>
+
+#include "told.h"
 
 static const char *call = "";
 static long at, error;
-static int teller = -1;
 static unsigned long has_begun, has_ended, called;
-
-static long number(const char *name) {
-    const char *text = getenv(name);
-    return text ? atol(text) : 0;
-}
 
 __attribute__((constructor)) static void start(void) {
     call = getenv("CALL") ? getenv("CALL") : "";
     at = number("AT");
     error = number("ERROR");
-    teller = getenv("TELL") ? (int)number("TELL") : -1;
 }
 
-__attribute__((destructor)) static void end(void) {
+static void end(void) {
     char text[64];
-    int len = snprintf(text, sizeof text, "called %lu\n", called);
-    if (teller >= 0) syscall(SYS_write, teller, text, len);
-}
-
-/* A program with threads ends by this call, which runs no destructor. */
-__attribute__((noreturn)) void _exit(int status) {
-    end();
-    for (;;) syscall(SYS_exit_group, status);
+    tell(text, snprintf(text, sizeof text, "called %lu\n", called));
 }
 
 /* Whether this call is the one that fails. */

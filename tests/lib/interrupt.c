@@ -3,30 +3,19 @@
    descriptor TELL, the number of reads of standard input. No program is linked with it. */
 #define _GNU_SOURCE
 #include <errno.h>
-#include <stdio.h>
-#include <stdlib.h>
-#include <sys/syscall.h>
-#include <unistd.h>
+
+#include "told.h"
 
 static int disturbs;
-static int teller = -1;
 static unsigned long reads, moves;
 
 __attribute__((constructor)) static void start(void) {
     disturbs = getenv("INTERRUPT") != NULL;
-    teller = getenv("TELL") ? atoi(getenv("TELL")) : -1;
 }
 
-__attribute__((destructor)) static void end(void) {
+static void end(void) {
     char text[64];
-    int len = snprintf(text, sizeof text, "reads %lu\n", reads);
-    if (teller >= 0) syscall(SYS_write, teller, text, len);
-}
-
-/* A program with threads ends by this call, which runs no destructor. */
-__attribute__((noreturn)) void _exit(int status) {
-    end();
-    for (;;) syscall(SYS_exit_group, status);
+    tell(text, snprintf(text, sizeof text, "reads %lu\n", reads));
 }
 
 /* How many octets a call may move, or -1 if a signal interrupts it. */

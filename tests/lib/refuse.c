@@ -17,11 +17,9 @@
 #include <errno.h>
 #include <fcntl.h>
 #include <stddef.h>
-#include <stdio.h>
-#include <stdlib.h>
 #include <sys/mman.h>
-#include <sys/syscall.h>
-#include <unistd.h>
+
+#include "told.h"
 
 extern void *__libc_malloc(size_t);
 extern void *__libc_realloc(void *, size_t);
@@ -41,19 +39,9 @@ enum { MOST_SIZES = 4096 };
 static long left, each, every, least_size, after, writes;
 static long first, other;
 static long made, refusals, largest;
-static int teller = -1;
 static size_t sizes[MOST_SIZES];
 static int seen_sizes;
 static struct shared *shared;
-
-static void tell(const char *text, int len) {
-    if (teller >= 0) syscall(SYS_write, teller, text, (size_t)len);
-}
-
-static long number(const char *name) {
-    const char *text = getenv(name);
-    return text ? atol(text) : 0;
-}
 
 __attribute__((constructor)) static void start(void) {
     const char *path = getenv("REFUSE_SHARED");
@@ -63,7 +51,6 @@ __attribute__((constructor)) static void start(void) {
         if (mapped != MAP_FAILED) shared = mapped;
         close(file);
     }
-    teller = getenv("TELL") ? (int)number("TELL") : -1;
     each = number("REFUSE_EACH");
     every = number("REFUSE_EVERY");
     least_size = number("REFUSE_SIZES");
@@ -73,15 +60,9 @@ __attribute__((constructor)) static void start(void) {
     left = number("REFUSE_NTH");
 }
 
-__attribute__((destructor)) static void end(void) {
+static void end(void) {
     char text[96];
     tell(text, snprintf(text, sizeof text, "refusals %ld\nmade %ld\nlargest %ld\n", refusals, made, largest));
-}
-
-/* A program with threads ends by this call, which runs no destructor. */
-__attribute__((noreturn)) void _exit(int status) {
-    end();
-    for (;;) syscall(SYS_exit_group, status);
 }
 
 /* Whether this allocation makes a count 0. */

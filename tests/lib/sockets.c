@@ -7,45 +7,29 @@
 #define _GNU_SOURCE
 #include <errno.h>
 #include <poll.h>
-#include <stdio.h>
-#include <stdlib.h>
 #include <sys/epoll.h>
 #include <sys/socket.h>
-#include <sys/syscall.h>
-#include <unistd.h>
+
+#include "told.h"
 
 enum { MOST = 1 << 16 };
 
 static long signals, piece, hold;
-static int teller = -1;
 static unsigned long interrupted, cut, held;
 /* By descriptor: whether its last call was interrupted, whether the program connected it, how many octets it took, and whether
    it refused some when others had come. */
 static unsigned char was_interrupted[MOST], is_made[MOST], has_refused[MOST];
 static size_t taken[MOST];
 
-static long number(const char *name) {
-    const char *text = getenv(name);
-    return text ? atol(text) : 0;
-}
-
 __attribute__((constructor)) static void start(void) {
     signals = number("SIGNALS");
     piece = number("PIECE");
     hold = number("HOLD");
-    teller = getenv("TELL") ? (int)number("TELL") : -1;
 }
 
-__attribute__((destructor)) static void end(void) {
+static void end(void) {
     char text[128];
-    int len = snprintf(text, sizeof text, "interrupted %lu, cut %lu, held %lu\n", interrupted, cut, held);
-    if (teller >= 0) syscall(SYS_write, teller, text, len);
-}
-
-/* A program with threads ends by this call, which runs no destructor. */
-__attribute__((noreturn)) void _exit(int status) {
-    end();
-    for (;;) syscall(SYS_exit_group, status);
+    tell(text, snprintf(text, sizeof text, "interrupted %lu, cut %lu, held %lu\n", interrupted, cut, held));
 }
 
 static void count(unsigned long *counter) { __atomic_fetch_add(counter, 1, __ATOMIC_RELAXED); }
