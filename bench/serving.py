@@ -17,6 +17,7 @@ sys.path.insert(0, os.path.join(HERE, "..", "tests"))
 sys.dont_write_bytecode = True
 from lib.programs import RESOLVER
 from lib.service import HOST, Service, free_port
+from unbound import configured
 
 # The descriptors that unbound needs for its questions in flight. Each program gets as many, or as many as it may have.
 DESCRIPTORS = min(8_192, resource.getrlimit(resource.RLIMIT_NOFILE)[1])
@@ -24,21 +25,10 @@ DESCRIPTORS = min(8_192, resource.getrlimit(resource.RLIMIT_NOFILE)[1])
 # The builds of the resolver: the one that is measured, and an earlier one.
 OURS = ("ours", "before")
 
-UNBOUND = """
-server:
-  interface: 127.0.0.1
-  port: {port}
+# The options of unbound, and its upstream server.
+OPTIONS = """
   access-control: 127.0.0.0/8 allow
-  do-daemonize: no
-  use-syslog: no
-  verbosity: 0
-  chroot: ""
-  username: ""
-  directory: "{folder}"
-  pidfile: ""
-  num-threads: {workers}
   do-not-query-localhost: no
-  module-config: "iterator"
   qname-minimisation: no
   minimal-responses: yes
   outgoing-range: 4096
@@ -48,11 +38,8 @@ server:
   msg-cache-size: 256m
   local-zone: "test." transparent
   local-data: "ready0.test. A 192.0.2.1"
-{more}
-remote-control:
-  control-enable: yes
-  control-interface: "{folder}/control"
-  control-use-cert: no
+"""
+FORWARD = """
 forward-zone:
   name: "."
   forward-addr: 127.0.0.1@{late}
@@ -185,9 +172,7 @@ class Programs:
         if who == "echo":
             processes = [begun([self.echo, str(port)]) for _ in range(workers)]
         else:
-            path = os.path.join(self.folder, "unbound.conf")
-            with open(path, "w", encoding="ascii") as file:
-                file.write(UNBOUND.format(port=port, folder=self.folder, workers=workers, late=late, more=more))
+            path = configured(self.folder, port, workers, OPTIONS + more, FORWARD.format(late=late))
             command = ["prlimit", f"--nofile={DESCRIPTORS}", self.unbound, "-d", "-p", "-c", path]
             processes = [subprocess.Popen(command, stdout=subprocess.DEVNULL, stderr=subprocess.DEVNULL)]
         try:

@@ -7,27 +7,13 @@ import subprocess
 import sys
 import time
 
-CONFIGURATION = """
-server:
-  interface: 127.0.0.1
-  port: {port}
-  do-daemonize: no
-  use-syslog: no
-  verbosity: 0
-  chroot: ""
-  username: ""
-  directory: "{folder}"
-  pidfile: ""
-  num-threads: 1
-  module-config: "iterator"
+from unbound import configured
+
+OPTIONS = """
   rrset-cache-size: 1g
   msg-cache-size: 1g
   rrset-cache-slabs: 1
   msg-cache-slabs: 1
-remote-control:
-  control-enable: yes
-  control-interface: "{folder}/control"
-  control-use-cert: no
 """
 
 
@@ -77,9 +63,7 @@ class Unbound:
 @contextlib.contextmanager
 def running(folder, port=15_998):
     """An `unbound` with an empty cache."""
-    configuration = os.path.join(folder, "unbound.conf")
-    with open(configuration, "w") as file:
-        file.write(CONFIGURATION.format(folder=folder, port=port))
+    configuration = configured(folder, port, 1, OPTIONS)
     process = subprocess.Popen(["unbound", "-c", configuration], stdout=subprocess.DEVNULL, stderr=subprocess.DEVNULL)
     try:
         service = Unbound(folder, process)
