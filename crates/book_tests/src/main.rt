@@ -17,8 +17,7 @@
 //! `steps two` one caller makes their calls. With `steps moving` one caller makes four calls of a book whose window has two.
 #![tactic(auto)]
 
-ghost use Rattle.std.specs.Prelude.{◌≡◌, []};
-ghost use Rattle.history.specs.Event.{lagging_of};
+ghost use Rattle.shared_book.specs.Fresh.{CanShare, IsKnownAs};
 
 mod checks; // what the checks of tests find
 mod finds; // finds of one record
@@ -84,12 +83,8 @@ fn one_book<B: Book + Send + Sync, L: CallLedger + Send + Sync, R: Threads + Wai
     limit: u64,
     seed: u64,
 ) -> Result<Option<Closing>, Stop>
-    requires name { blank.name ≡ L.name }
-    requires parts { blank.parts ≡ L.parts }
-    requires limit { limit ≡ L.limit }
-    requires settings { B.settings book ≡ L.settings }
-    requires lags { B.settings opening ≡ lagging_of L.settings }
-    requires fresh { B.stands_for book [] × B.stands_for opening [] }
+    requires known { IsKnownAs L.name L.parts L.limit L.settings blank limit (B.settings book) }
+    requires books { CanShare B.stands_for B.settings book opening }
 {
     let Ok((shared, pass)) = SharedBook::<B, L>::new(alloc, blank, book, opening, limit) else {
         return Err(Stop);

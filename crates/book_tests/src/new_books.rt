@@ -1,7 +1,7 @@
 //! New books with journals of so many commands, and with room for so many cells.
 
-ghost use Rattle.std.specs.Prelude.{◌≡◌, [], IfOk};
-ghost use Rattle.history.specs.Event.{lagging_of};
+ghost use Rattle.std.specs.Prelude.{[], IfOk};
+ghost use Rattle.shared_book.specs.Fresh.{CanShare};
 
 use dns_text::Items;
 use history::{Book, MakeFault, Settings};
@@ -30,8 +30,7 @@ pub fn plain_books(
     journal: usize,
     cells: usize,
 ) -> Result<(PlainBook, PlainBook), MakeFault>
-    ensures lags { IfOk result (λ b. ⟦<PlainBook as Book>⟧.settings b.1 ≡ lagging_of (⟦<PlainBook as Book>⟧.settings b.0)) }
-    ensures fresh { IfOk result (λ b. ⟦<PlainBook as Book>⟧.stands_for b.0 [] × ⟦<PlainBook as Book>⟧.stands_for b.1 []) }
+    ensures { IfOk result (λ b. CanShare ⟦<PlainBook as Book>⟧.stands_for ⟦<PlainBook as Book>⟧.settings b.0 b.1) }
 {
     let settings = settings(alloc, journal, cells);
     let opening = PlainBook::lagging(alloc, &settings)?;
@@ -49,8 +48,7 @@ pub fn shelf_books(
     journal: usize,
     cells: usize,
 ) -> Result<(ShelfBook, ShelfBook), MakeFault>
-    ensures lags { IfOk result (λ b. ⟦<ShelfBook as Book>⟧.settings b.1 ≡ lagging_of (⟦<ShelfBook as Book>⟧.settings b.0)) }
-    ensures fresh { IfOk result (λ b. ⟦<ShelfBook as Book>⟧.stands_for b.0 [] × ⟦<ShelfBook as Book>⟧.stands_for b.1 []) }
+    ensures { IfOk result (λ b. CanShare ⟦<ShelfBook as Book>⟧.stands_for ⟦<ShelfBook as Book>⟧.settings b.0 b.1) }
 {
     let settings = settings(alloc, journal, cells);
     let opening = ShelfBook::lagging(alloc, &settings)?;

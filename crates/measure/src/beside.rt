@@ -1,9 +1,7 @@
 //! New names for a full cache that two callers share. One makes room for its name as a worker's task does, and between each two of its
 //! calls the other admits another new name, a second later. So names come and names end between a sweep and the look for the name to
 //! forget first, between that look and the forgetting, and before the last admission.
-
-ghost use Rattle.std.specs.Prelude.{◌≡◌, []};
-ghost use Rattle.history.specs.Event.{lagging_of};
+ghost use Rattle.shared_book.specs.Fresh.{CanShare, IsKnownAs};
 
 use crate::books::{find_in, give, shelves_of};
 use crate::room::{is_taken, oldest};
@@ -196,12 +194,8 @@ fn beside_with<B: Book, L: CallLedger, R: Wait + CpuClock>(
     names: u32,
     count: u32,
 ) -> anyhow::Result<Rounds>
-    requires name { blank.name ≡ L.name }
-    requires parts { blank.parts ≡ L.parts }
-    requires limit { WINDOW ≡ L.limit }
-    requires settings { B.settings book ≡ L.settings }
-    requires lags { B.settings opening ≡ lagging_of L.settings }
-    requires fresh { B.stands_for book [] × B.stands_for opening [] }
+    requires known { IsKnownAs L.name L.parts L.limit L.settings blank WINDOW (B.settings book) }
+    requires books { CanShare B.stands_for B.settings book opening }
 {
     let (book, mut pass) = SharedBook::<B, L>::new(alloc, blank, book, opening, WINDOW)?;
     let half = book.split(rt, &mut pass)?;

@@ -1,7 +1,5 @@
 //! The name to forget first of a shared book, after another caller moved its clock between a sweep and the look.
-
-ghost use Rattle.std.specs.Prelude.{◌≡◌, []};
-ghost use Rattle.history.specs.Event.{lagging_of};
+ghost use Rattle.shared_book.specs.Fresh.{CanShare, IsKnownAs};
 
 use crate::books::{find_in, shelves_of};
 use anyhow::anyhow;
@@ -97,12 +95,8 @@ fn between_with<B: Book, L: CallLedger, R: Wait>(
     names: u32,
     at: At,
 ) -> anyhow::Result<u32>
-    requires name { blank.name ≡ L.name }
-    requires parts { blank.parts ≡ L.parts }
-    requires limit { 1 ≡ L.limit }
-    requires settings { B.settings book ≡ L.settings }
-    requires lags { B.settings opening ≡ lagging_of L.settings }
-    requires fresh { B.stands_for book [] × B.stands_for opening [] }
+    requires known { IsKnownAs L.name L.parts L.limit L.settings blank 1 (B.settings book) }
+    requires books { CanShare B.stands_for B.settings book opening }
 {
     let (book, mut pass) = SharedBook::<B, L>::new(alloc, blank, book, opening, 1)?;
     let mut other = book.split(rt, &mut pass)?;

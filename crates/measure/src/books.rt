@@ -1,7 +1,7 @@
 //! A book that tells something of each kind.
 
-ghost use Rattle.std.specs.Prelude.{◌≡◌, [], IfOk};
-ghost use Rattle.history.specs.Event.{lagging_of};
+ghost use Rattle.std.specs.Prelude.{[], IfOk};
+ghost use Rattle.shared_book.specs.Fresh.{CanShare};
 
 use anyhow::anyhow;
 use dns_name::Name;
@@ -25,8 +25,7 @@ fn small_settings(alloc: Global) -> Settings {
 
 /// The same, and an opening book to it.
 pub fn empty_books(alloc: Global) -> Result<(PlainBook, PlainBook), MakeFault>
-    ensures lags { IfOk result (λ b. ⟦<PlainBook as Book>⟧.settings b.1 ≡ lagging_of (⟦<PlainBook as Book>⟧.settings b.0)) }
-    ensures fresh { IfOk result (λ b. ⟦<PlainBook as Book>⟧.stands_for b.0 [] × ⟦<PlainBook as Book>⟧.stands_for b.1 []) }
+    ensures { IfOk result (λ b. CanShare ⟦<PlainBook as Book>⟧.stands_for ⟦<PlainBook as Book>⟧.settings b.0 b.1) }
 {
     let settings = small_settings(alloc);
     let opening = PlainBook::lagging(alloc, &settings)?;
@@ -50,8 +49,7 @@ pub fn shelf_of(alloc: Global, cells: usize) -> Result<ShelfBook, MakeFault> {
 
 /// The same, and an opening book to it.
 pub fn shelves_of(alloc: Global, cells: usize) -> Result<(ShelfBook, ShelfBook), MakeFault>
-    ensures lags { IfOk result (λ b. ⟦<ShelfBook as Book>⟧.settings b.1 ≡ lagging_of (⟦<ShelfBook as Book>⟧.settings b.0)) }
-    ensures fresh { IfOk result (λ b. ⟦<ShelfBook as Book>⟧.stands_for b.0 [] × ⟦<ShelfBook as Book>⟧.stands_for b.1 []) }
+    ensures { IfOk result (λ b. CanShare ⟦<ShelfBook as Book>⟧.stands_for ⟦<ShelfBook as Book>⟧.settings b.0 b.1) }
 {
     let settings = settings_with(alloc, 1, cells);
     let opening = ShelfBook::lagging(alloc, &settings)?;

@@ -14,8 +14,8 @@
 //! A script writes its replies, a query and a stream what `play serve` writes, and a message `octets OCTETS`. `workers` writes
 //! `wrote OCTETS` for each text. Octets are hexadecimal digits, and so are the texts.
 
-ghost use Rattle.std.specs.Prelude.{◌≡◌, [], IfOk};
-ghost use Rattle.history.specs.Event.{lagging_of};
+ghost use Rattle.std.specs.Prelude.{[], IfOk};
+ghost use Rattle.shared_book.specs.Fresh.{CanShare};
 
 pub mod messages; // a message is read and written again
 pub mod sharing; // a book that workers share
@@ -68,8 +68,7 @@ pub fn largest_book(alloc: Global, hints: Vec<Addr>) -> Result<ShelfBook, Stop>
 
 /// The same without hints, and an opening book to it.
 pub fn largest_books(alloc: Global) -> Result<(ShelfBook, ShelfBook), Stop>
-    ensures lags { IfOk result (λ b. ⟦<ShelfBook as Book>⟧.settings b.1 ≡ lagging_of (⟦<ShelfBook as Book>⟧.settings b.0)) }
-    ensures fresh { IfOk result (λ b. ⟦<ShelfBook as Book>⟧.stands_for b.0 [] × ⟦<ShelfBook as Book>⟧.stands_for b.1 []) }
+    ensures { IfOk result (λ b. CanShare ⟦<ShelfBook as Book>⟧.stands_for ⟦<ShelfBook as Book>⟧.settings b.0 b.1) }
 {
     let settings = largest_settings(Vec::new(alloc));
     let opening = match ShelfBook::lagging(alloc, &settings) {

@@ -5,6 +5,7 @@ ghost use Rattle.shared_book.specs.declared.kept.TheConstants.{MOST_RECORDED};
 ghost use Rattle.resolver_args.specs.declared.mode.TheConstants.{MOST_WORKERS};
 ghost use Rattle.resolver_args.specs.Mode.{IsService};
 ghost use Rattle.history.specs.Event.{lagging_of};
+ghost use Rattle.shared_book.specs.Fresh.{CanShare, IsKnownAs};
 
 use crate::control_socket::obey_operators;
 use crate::first_phase::obey_first;
@@ -168,15 +169,10 @@ where
         + RandomSource
         + Sync
         + Net<Stream = TcpStream, Listener = TcpListener>,
-    requires name { blank.name ≡ L.name }
-    requires parts { blank.parts ≡ L.parts }
-    requires limit { record_limit ≡ L.limit }
+    requires known { IsKnownAs L.name L.parts L.limit L.settings blank record_limit (⟦<WatchedBook<ShelfBook> as Book>⟧.settings book) }
     requires counts { (1 ≤ blank.parts) × ((1 ≤ record_limit) × (record_limit ≤ MOST_RECORDED)) }
-    requires settings { ⟦<WatchedBook<ShelfBook> as Book>⟧.settings book ≡ L.settings }
-    requires lags { ⟦<WatchedBook<ShelfBook> as Book>⟧.settings opening ≡ lagging_of L.settings }
     requires few_workers { terms.udp + terms.tcp ≤ MOST_WORKERS }
-    requires fresh { ⟦<WatchedBook<ShelfBook> as Book>⟧.stands_for book []
-        × ⟦<WatchedBook<ShelfBook> as Book>⟧.stands_for opening [] }
+    requires books { CanShare ⟦<WatchedBook<ShelfBook> as Book>⟧.stands_for ⟦<WatchedBook<ShelfBook> as Book>⟧.settings book opening }
 {
     let made = SharedBook::<ServiceBook, L>::new(alloc, blank, book, opening, record_limit);
     let (shared, mut pass) = match made {

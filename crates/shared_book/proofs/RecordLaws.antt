@@ -16,6 +16,7 @@ use Rattle.history.specs.Reply.{reply_of}
 use Rattle.history.specs.declared.event.Reply.{Reply}
 use Rattle.history.specs.Answers.{Answers, Follows, IsTimely, TellsLimit}
 use Rattle.shared_book.specs.declared.receipt.Receipt.{Receipt}
+use Rattle.shared_book.specs.Fresh.{CanShare}
 use Rattle.shared_book.specs.Record.{events_of, IsLegalAfter}
 use Rattle.shared_book.specs.Pass.{PassState}
 use Rattle.shared_book.specs.Kept.{KeptState, IsKept, IsStep, IsFreed, IsTurn, IsTurnFor, MovesOn, AreTimely}
@@ -72,22 +73,22 @@ front_plain window oldest rest P is front = subst (λ (ws : List Receipt). IfSom
 
 module _ {B : Type 0} (stands_for : B → List Event → Type 0) (settings : B → Settings) where
   -- two books to which nothing has happened
-  pub begins : (book opening : B) (first limit : ℕ) (window : List Receipt) (made_with : Settings) → settings book ≡ made_with → settings opening ≡ lagging_of made_with → stands_for book [] → stands_for opening []
+  pub begins : (book opening : B) (first limit : ℕ) (window : List Receipt) → CanShare stands_for settings book opening
       → first ≡ 1 → window ≡ [] → 1 ≤ limit
       → IsKept stands_for settings (record { book = book; opening = opening; first = first; window = window; limit = limit; total = 0; callers = 1 })
-  begins book opening first limit window made_with own lags stands opened one none some =
+  begins book opening first limit window books one none some =
       let empty : length window ≡ 0 = ap length none in
       record {
         before = [];
-        opened = opened;
+        opened = books.lags.empty;
         legal = subst (λ (ws : List Receipt). IsLegalAfter (settings book) [] ws) (sym none) tt;
-        stands = subst (λ (ws : List Receipt). stands_for book ([] ++ events_of ws)) (sym none) stands;
+        stands = subst (λ (ws : List Receipt). stands_for book ([] ++ events_of ws)) (sym none) books.empty;
         numbered = omega (arith, one);
         counted = omega (arith, empty);
         most = omega (arith, empty);
         least = omega (arith, empty);
         some = some;
-        lags = lags ∙ ap lagging_of (sym own);
+        lags = books.lags.settings_are;
         timely = subst AreTimely (sym none) tt;
         few = omega arith;
         few_callers = omega arith;

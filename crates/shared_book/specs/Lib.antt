@@ -1,4 +1,5 @@
 pub mod Ledger
+pub mod Fresh
 pub mod Pass
 pub mod Record
 pub mod Ahead

@@ -1,11 +1,12 @@
 //! The state under the lock: both books, the window between them, and the total of all calls.
 
-ghost use Rattle.std.specs.Prelude.{◌≡◌, ◌<◌, ◌≤◌, ◌^◌, ◌↔◌, true, false, List, [], length, IfOk, IfErr, OnOk, OnErr, IsErrOf, ◌⊎◌, IsOk};
+ghost use Rattle.std.specs.Prelude.{◌≡◌, ◌<◌, ◌≤◌, ◌^◌, ◌↔◌, true, false, List, length, IfOk, IfErr, OnOk, OnErr, IsErrOf, ◌⊎◌, IsOk};
 ghost use Rattle.history.specs.declared.event.Event.{Event};
 ghost use Rattle.history.specs.Answers.{IsTimely};
 ghost use Rattle.history.specs.Desk.{IsStep as IsBookStep};
 ghost use Rattle.history.specs.Event.{is_plain, lagging_of};
 ghost use Rattle.shared_book.specs.declared.kept.TheConstants.{MOST_RECORDED};
+ghost use Rattle.shared_book.specs.Fresh.{CanShare, IsKnownAs};
 ghost use Rattle.shared_book.specs.Pass.{PassState, first_pass};
 ghost use Rattle.shared_book.specs.Kept.{first_kept, IsFreed, IsKept, MovesOn, IsTaken, IsTurn, IsTurnFor, IsStep, IsCopiedStep, IsSameRecord};
 ghost use Rattle.shared_book.specs.Kept.{HasFreeRoom, IsFreeCall};
@@ -85,12 +86,8 @@ impl<B: Book, L: CallLedger> Kept<B, L> {
         opening: B,
         limit: u64,
     ) -> Result<(Kept<B, L>, Pass<L>), MakeFault>
-        requires name { blank.name ≡ L.name }
-        requires parts { blank.parts ≡ L.parts }
-        requires limit { limit ≡ L.limit }
-        requires settings { B.settings book ≡ L.settings }
-        requires lags { B.settings opening ≡ lagging_of L.settings }
-        requires fresh { B.stands_for book [] × B.stands_for opening [] }
+        requires known { IsKnownAs L.name L.parts L.limit L.settings blank limit (B.settings book) }
+        requires books { CanShare B.stands_for B.settings book opening }
         ensures refused { IsErrOf result MakeFault.BadSettings ↔ ¬ ((1 ≤ blank.parts) × (1 ≤ limit) × (limit ≤ MOST_RECORDED)) }
         ensures first { IfOk result (λ made. (made.0 ≡ first_kept book opening limit) × (made.1 ≡ first_pass blank.parts)) }
     {

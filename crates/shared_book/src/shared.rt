@@ -1,7 +1,7 @@
 //! One lock around a book and the window of its last calls.
 
-ghost use Rattle.std.specs.Prelude.{◌≡◌, ◌≤◌, ◌↔◌, [], true, false, Some, None, IfOk, IfErr, IfNone, IfSome, OnErr, IsErr, IsErrOf, MatchResult};
-ghost use Rattle.history.specs.Event.{lagging_of};
+ghost use Rattle.std.specs.Prelude.{◌≡◌, ◌≤◌, ◌↔◌, true, false, Some, None, IfOk, IfErr, IfNone, IfSome, OnErr, IsErr, IsErrOf, MatchResult};
+ghost use Rattle.shared_book.specs.Fresh.{CanShare, IsKnownAs};
 ghost use Rattle.shared_book.specs.declared.kept.TheConstants.{MOST_RECORDED};
 ghost use Rattle.shared_book.specs.Pass.{first_pass, IsSplit, IsJoined};
 ghost use Rattle.shared_book.specs.Calling.{IsReceiptOf, IsJustified, IsCallReply, IsFaultOf, IsLocked, IsShared, IsUnsplit, answer_of, asks_oldest, is_oldest};
@@ -70,12 +70,8 @@ impl<B: Book, L: CallLedger> SharedBook<B, L> {
         opening: B,
         limit: u64,
     ) -> Result<(SharedBook<B, L>, Pass<L>), MakeFault>
-        requires name { blank.name ≡ L.name }
-        requires parts { blank.parts ≡ L.parts }
-        requires limit { limit ≡ L.limit }
-        requires settings { B.settings book ≡ L.settings }
-        requires lags { B.settings opening ≡ lagging_of L.settings }
-        requires fresh { B.stands_for book [] × B.stands_for opening [] }
+        requires known { IsKnownAs L.name L.parts L.limit L.settings blank limit (B.settings book) }
+        requires books { CanShare B.stands_for B.settings book opening }
         ensures refused { IsErrOf result MakeFault.BadSettings ↔ ¬ ((1 ≤ blank.parts) × (1 ≤ limit) × (limit ≤ MOST_RECORDED)) }
         ensures pass { IfOk result (λ made. made.1 ≡ first_pass blank.parts) }
     {

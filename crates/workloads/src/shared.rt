@@ -1,7 +1,5 @@
 //! Jobs of a worker at a shared book, whose window has as many calls as that of a service.
-
-ghost use Rattle.std.specs.Prelude.{◌≡◌, []};
-ghost use Rattle.history.specs.Event.{lagging_of};
+ghost use Rattle.shared_book.specs.Fresh.{CanShare, IsKnownAs};
 
 use crate::answers::answer;
 use crate::block_list::block;
@@ -62,12 +60,8 @@ fn work_over<B: Book, L: CallLedger, R: Wait>(
     size: u32,
     count: u32,
 ) -> anyhow::Result<u64>
-    requires name { blank.name ≡ L.name }
-    requires parts { blank.parts ≡ L.parts }
-    requires limit { WINDOW ≡ L.limit }
-    requires settings { B.settings book ≡ L.settings }
-    requires lags { B.settings opening ≡ lagging_of L.settings }
-    requires fresh { B.stands_for book [] × B.stands_for opening [] }
+    requires known { IsKnownAs L.name L.parts L.limit L.settings blank WINDOW (B.settings book) }
+    requires books { CanShare B.stands_for B.settings book opening }
 {
     let (book, pass) = SharedBook::<B, L>::new(alloc, blank, book, opening, WINDOW)?;
     work_at(alloc, Seat::new(rt, &book, pass), job, seed, size, count)

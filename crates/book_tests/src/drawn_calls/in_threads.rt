@@ -1,8 +1,6 @@
 //! Two callers of one book, each in a thread of its own, for tests that refuse allocations of one thread. One sets a zone and undoes
 //! that, and the other brings an address. Each looks at what it did.
-
-ghost use Rattle.std.specs.Prelude.{◌≡◌, []};
-ghost use Rattle.history.specs.Event.{lagging_of};
+ghost use Rattle.shared_book.specs.Fresh.{CanShare, IsKnownAs};
 
 use crate::drawn_calls::callers::joined;
 use crate::drawn_calls::replayed::closed;
@@ -202,12 +200,8 @@ pub fn two_threads<B: Book + Send, L: CallLedger + Send + Sync, R: Print + Threa
     book: B,
     opening: B,
 ) -> Result<(), Stop>
-    requires name { blank.name ≡ L.name }
-    requires parts { blank.parts ≡ L.parts }
-    requires limit { RECORDED_OF_TWO ≡ L.limit }
-    requires settings { B.settings book ≡ L.settings }
-    requires lags { B.settings opening ≡ lagging_of L.settings }
-    requires fresh { B.stands_for book [] × B.stands_for opening [] }
+    requires known { IsKnownAs L.name L.parts L.limit L.settings blank RECORDED_OF_TWO (B.settings book) }
+    requires books { CanShare B.stands_for B.settings book opening }
 {
     let made = SharedBook::<B, L>::new(alloc, blank, book, opening, RECORDED_OF_TWO);
     let Ok((shared, pass)) = made else {

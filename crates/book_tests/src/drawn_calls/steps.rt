@@ -1,7 +1,5 @@
 //! One caller's calls of a book that lies under no lock. A call that finds no memory is made once more.
-
-ghost use Rattle.std.specs.Prelude.{◌≡◌, []};
-ghost use Rattle.history.specs.Event.{lagging_of};
+ghost use Rattle.shared_book.specs.Fresh.{CanShare, IsKnownAs};
 
 use crate::drawn_calls::draws::shared_event;
 use crate::drawn_calls::texts::{entry_shown, fault_shown, reply_shown};
@@ -91,12 +89,8 @@ pub fn steps<B: Book, L: CallLedger, R: Print>(
     limit: u64,
     events: Vec<Shared<Event>>,
 ) -> Result<(), Stop>
-    requires name { blank.name ≡ L.name }
-    requires parts { blank.parts ≡ L.parts }
-    requires limit { limit ≡ L.limit }
-    requires settings { B.settings book ≡ L.settings }
-    requires lags { B.settings opening ≡ lagging_of L.settings }
-    requires fresh { B.stands_for book [] × B.stands_for opening [] }
+    requires known { IsKnownAs L.name L.parts L.limit L.settings blank limit (B.settings book) }
+    requires books { CanShare B.stands_for B.settings book opening }
 {
     let made = Kept::<B, L>::new(alloc, blank, book, opening, limit);
     let Ok((mut kept, mut pass)) = made else {

@@ -1,7 +1,5 @@
 //! Closing with what two callers hand in, whole and with something wrong.
-
-ghost use Rattle.std.specs.Prelude.{◌≡◌, []};
-ghost use Rattle.history.specs.Event.{lagging_of};
+ghost use Rattle.shared_book.specs.Fresh.{CanShare, IsKnownAs};
 
 use crate::checks::Checks;
 use crate::events::{of_the_first, of_the_second};
@@ -190,12 +188,8 @@ fn two_callers<B: Book + Send + Sync, L: CallLedger + Send + Sync, R: Threads + 
     opening: B,
     case: Case,
 ) -> anyhow::Result<(bool, Told)>
-    requires name { blank.name ≡ L.name }
-    requires parts { blank.parts ≡ L.parts }
-    requires limit { 100 ≡ L.limit }
-    requires settings { B.settings book ≡ L.settings }
-    requires lags { B.settings opening ≡ lagging_of L.settings }
-    requires fresh { B.stands_for book [] × B.stands_for opening [] }
+    requires known { IsKnownAs L.name L.parts L.limit L.settings blank 100 (B.settings book) }
+    requires books { CanShare B.stands_for B.settings book opening }
 {
     let (book, pass) = SharedBook::<B, L>::new(alloc, blank, book, opening, 100)?;
     let (first, second) = called(rt, alloc, &book, pass)?;

@@ -1,7 +1,5 @@
 //! What a book is made with.
-
-ghost use Rattle.std.specs.Prelude.{◌≡◌, []};
-ghost use Rattle.history.specs.Event.{lagging_of};
+ghost use Rattle.shared_book.specs.Fresh.{CanShare, IsKnownAs};
 
 use crate::checks::Checks;
 use crate::new_books::plain_books;
@@ -22,12 +20,8 @@ fn made<B: Book, L: CallLedger, R: Wait>(
     opening: B,
     limit: u64,
 ) -> Result<bool, MakeFault>
-    requires name { blank.name ≡ L.name }
-    requires parts { blank.parts ≡ L.parts }
-    requires limit { limit ≡ L.limit }
-    requires settings { B.settings book ≡ L.settings }
-    requires lags { B.settings opening ≡ lagging_of L.settings }
-    requires fresh { B.stands_for book [] × B.stands_for opening [] }
+    requires known { IsKnownAs L.name L.parts L.limit L.settings blank limit (B.settings book) }
+    requires books { CanShare B.stands_for B.settings book opening }
 {
     let (book, mut pass) = SharedBook::<B, L>::new(alloc, blank, book, opening, limit)?;
     Ok(book.split(rt, &mut pass).is_ok())

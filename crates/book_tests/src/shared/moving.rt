@@ -1,7 +1,5 @@
 //! A window of two calls, of four: two zones are set, the second is taken back, and the zones are looked up.
-
-ghost use Rattle.std.specs.Prelude.{◌≡◌, []};
-ghost use Rattle.history.specs.Event.{lagging_of};
+ghost use Rattle.shared_book.specs.Fresh.{CanShare, IsKnownAs};
 
 use crate::checks::Checks;
 use crate::events::four_about_zones;
@@ -78,12 +76,8 @@ fn closed<B: Book, L: CallLedger, R: Wait>(
     opening: B,
     case: Case,
 ) -> anyhow::Result<Found>
-    requires name { blank.name ≡ L.name }
-    requires parts { blank.parts ≡ L.parts }
-    requires limit { 2 ≡ L.limit }
-    requires settings { B.settings book ≡ L.settings }
-    requires lags { B.settings opening ≡ lagging_of L.settings }
-    requires fresh { B.stands_for book [] × B.stands_for opening [] }
+    requires known { IsKnownAs L.name L.parts L.limit L.settings blank 2 (B.settings book) }
+    requires books { CanShare B.stands_for B.settings book opening }
 {
     let (book, pass) = SharedBook::<B, L>::new(alloc, blank, book, opening, 2)?;
     let events = four_about_zones(alloc, ZoneType::Deny)?;

@@ -1,7 +1,5 @@
 //! A pass whose call the book refuses, and two passes in one.
-
-ghost use Rattle.std.specs.Prelude.{◌≡◌, []};
-ghost use Rattle.history.specs.Event.{lagging_of};
+ghost use Rattle.shared_book.specs.Fresh.{CanShare, IsKnownAs};
 
 use crate::checks::Checks;
 use crate::events::{of_the_second, too_late};
@@ -25,12 +23,8 @@ fn refused_and_taken<B: Book, L: CallLedger, R: Wait>(
     book: B,
     opening: B,
 ) -> anyhow::Result<(Option<CallFault>, Told)>
-    requires name { blank.name ≡ L.name }
-    requires parts { blank.parts ≡ L.parts }
-    requires limit { 100 ≡ L.limit }
-    requires settings { B.settings book ≡ L.settings }
-    requires lags { B.settings opening ≡ lagging_of L.settings }
-    requires fresh { B.stands_for book [] × B.stands_for opening [] }
+    requires known { IsKnownAs L.name L.parts L.limit L.settings blank 100 (B.settings book) }
+    requires books { CanShare B.stands_for B.settings book opening }
 {
     let (book, mut pass) = SharedBook::<B, L>::new(alloc, blank, book, opening, 100)?;
     let fault = book.call(rt, &mut pass, too_late(alloc)?).err();
@@ -69,12 +63,8 @@ fn seen_by_both<B: Book, L: CallLedger, R: Wait>(
     opening: B,
     in_order: bool,
 ) -> anyhow::Result<u64>
-    requires name { blank.name ≡ L.name }
-    requires parts { blank.parts ≡ L.parts }
-    requires limit { 100 ≡ L.limit }
-    requires settings { B.settings book ≡ L.settings }
-    requires lags { B.settings opening ≡ lagging_of L.settings }
-    requires fresh { B.stands_for book [] × B.stands_for opening [] }
+    requires known { IsKnownAs L.name L.parts L.limit L.settings blank 100 (B.settings book) }
+    requires books { CanShare B.stands_for B.settings book opening }
 {
     let (book, mut one) = SharedBook::<B, L>::new(alloc, blank, book, opening, 100)?;
     let two = book.split(rt, &mut one)?;

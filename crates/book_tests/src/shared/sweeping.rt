@@ -1,7 +1,5 @@
 //! Sweeps of a shared book. They are done in turns: a worker's ends as soon as there is room, an operator's when nothing is left.
-
-ghost use Rattle.std.specs.Prelude.{◌≡◌, []};
-ghost use Rattle.history.specs.Event.{lagging_of};
+ghost use Rattle.shared_book.specs.Fresh.{CanShare, IsKnownAs};
 
 use crate::checks::Checks;
 use crate::finds::{address, letters};
@@ -47,12 +45,8 @@ fn refilled<B: Book, L: CallLedger, R: Wait>(
     opening: B,
     is_thorough: bool,
 ) -> anyhow::Result<u32>
-    requires name { blank.name ≡ L.name }
-    requires parts { blank.parts ≡ L.parts }
-    requires limit { 10 ≡ L.limit }
-    requires settings { B.settings book ≡ L.settings }
-    requires lags { B.settings opening ≡ lagging_of L.settings }
-    requires fresh { B.stands_for book [] × B.stands_for opening [] }
+    requires known { IsKnownAs L.name L.parts L.limit L.settings blank 10 (B.settings book) }
+    requires books { CanShare B.stands_for B.settings book opening }
 {
     let (book, pass) = SharedBook::<B, L>::new(alloc, blank, book, opening, 10)?;
     if is_thorough {

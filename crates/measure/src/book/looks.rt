@@ -1,7 +1,5 @@
 //! Looks of each kind, many times. A book that replays looks at all that it was given, so each book is asked few times.
-
-ghost use Rattle.std.specs.Prelude.{◌≡◌, []};
-ghost use Rattle.history.specs.Event.{lagging_of};
+ghost use Rattle.shared_book.specs.Fresh.{CanShare, IsKnownAs};
 
 use crate::book::events::{admission, look, seen_in};
 use crate::books::{empty_book, empty_books, give};
@@ -63,12 +61,8 @@ fn shared<B: Book, L: CallLedger, R: Wait>(
     opening: B,
     limit: u64,
 ) -> anyhow::Result<u32>
-    requires name { blank.name ≡ L.name }
-    requires parts { blank.parts ≡ L.parts }
-    requires limit { limit ≡ L.limit }
-    requires settings { B.settings book ≡ L.settings }
-    requires lags { B.settings opening ≡ lagging_of L.settings }
-    requires fresh { B.stands_for book [] × B.stands_for opening [] }
+    requires known { IsKnownAs L.name L.parts L.limit L.settings blank limit (B.settings book) }
+    requires books { CanShare B.stands_for B.settings book opening }
 {
     let event = look(alloc)?;
     let (book, mut pass) = SharedBook::<B, L>::new(alloc, blank, book, opening, limit)?;

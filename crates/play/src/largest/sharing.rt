@@ -1,7 +1,5 @@
 //! A book that workers share, and an operator after them.
-
-ghost use Rattle.std.specs.Prelude.{◌≡◌, []};
-ghost use Rattle.history.specs.Event.{lagging_of};
+ghost use Rattle.shared_book.specs.Fresh.{CanShare, IsKnownAs};
 ghost use Rattle.shared_book.specs.declared.kept.TheConstants.{MOST_RECORDED};
 
 use crate::largest::largest_books;
@@ -53,12 +51,8 @@ fn share<B: Book + Send, L: CallLedger + Send + Sync, W: Threads + Wait + Sync>(
     texts: Vec<Vec<u8>>,
     last: Vec<u8>,
 ) -> Result<(), Stop>
-    requires name { blank.name ≡ L.name }
-    requires parts { blank.parts ≡ L.parts }
-    requires limit { MOST_RECORDED ≡ L.limit }
-    requires settings { B.settings book ≡ L.settings }
-    requires lags { B.settings opening ≡ lagging_of L.settings }
-    requires fresh { B.stands_for book [] × B.stands_for opening [] }
+    requires known { IsKnownAs L.name L.parts L.limit L.settings blank MOST_RECORDED (B.settings book) }
+    requires books { CanShare B.stands_for B.settings book opening }
 {
     let made = SharedBook::<B, L>::new(rt.alloc(), blank, book, opening, MOST_RECORDED);
     let Ok((shared, pass)) = made else {
