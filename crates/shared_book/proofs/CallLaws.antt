@@ -16,7 +16,7 @@ use Rattle.history.specs.Reply.{reply_of}
 use Rattle.shared_book.specs.declared.fault.CallFault.{CallFault}
 use Rattle.shared_book.specs.declared.fault.CallFault.TheVariants.{Step, Behind}
 use Rattle.shared_book.specs.Pass.{PassState, after_call}
-use Rattle.shared_book.specs.Kept.{KeptState, IsKept, IsStep, IsTaken, HasNoRoom, IsCalled, HasFreeRoom, IsFreeCall, IsSweepThere}
+use Rattle.shared_book.specs.Kept.{KeptState, IsKept, IsKeptAs, IsStep, IsTaken, HasNoRoom, IsCalled, HasFreeRoom, IsFreeCall, IsSweepThere}
 use Rattle.shared_book.specs.Record.{receipt_for}
 use Rattle.shared_book.specs.Calling.{IsReason, IsCallReply, IsFaultOf, IsCall, IsLocked, IsReceiptOf, SeatCall, SweepsOn, answer_at_desk, turns_for}
 use Rattle.shared_book.proofs.RecordLaws.{all_events, as_many}
@@ -81,22 +81,22 @@ module _ {B : Type 0} (stands_for : B → List Event → Type 0) (made_with : B 
   ended before after pass pass' event (Err (Behind at)) kept call is = (cc)
 
   -- such a call as a caller knows of it, who does not know what lay there
-  pub locked : (is_free : B → Event → Type 0) (settings : Settings) (before after : KeptState B) (pass pass' : PassState) (event : Event) (answer : Result Reply CallFault) → IsKept stands_for made_with before
-      → made_with before.book ≡ settings → IsCall stands_for made_with stored before pass event answer after pass'
+  pub locked : (is_free : B → Event → Type 0) (settings : Settings) (before after : KeptState B) (pass pass' : PassState) (event : Event) (answer : Result Reply CallFault) → IsKeptAs stands_for made_with settings before
+      → IsCall stands_for made_with stored before pass event answer after pass'
       → (IsFreeCall is_free before event → ¬ (IsErrOf answer (Step NoMemory)))
       → (HasFreeRoom is_free before → IsErrOf answer (Step NoMemory) → IsBookStep stands_for made_with stored before.book event (Err NoMemory) after.book) → IsLocked stands_for made_with stored is_free settings pass event answer pass'
-  locked is_free settings before after pass pass' event answer kept same call free own =
-      record { before = before; after = after; kept = kept; same_settings = same; call = call; ended = ended before after pass pass' event answer kept call; free = free; own = own }
+  locked is_free settings before after pass pass' event answer there call free own =
+      record { before = before; after = after; there = there; call = call; ended = ended before after pass pass' event answer there.kept call; free = free; own = own }
 
-  replied_by : (settings : Settings) (before after : KeptState B) (pass pass' : PassState) (event : Event) (reply : Reply) → IsKept stands_for made_with before
-      → made_with before.book ≡ settings → IsCall stands_for made_with stored before pass event (Ok reply) after pass' → IsCallReply settings pass event reply pass'
-  replied_by settings before after pass pass' event reply kept same call =
-      let history : List Event = all_events stands_for made_with before kept in
+  replied_by : (settings : Settings) (before after : KeptState B) (pass pass' : PassState) (event : Event) (reply : Reply) → IsKeptAs stands_for made_with settings before
+      → IsCall stands_for made_with stored before pass event (Ok reply) after pass' → IsCallReply settings pass event reply pass'
+  replied_by settings before after pass pass' event reply there call =
+      let history : List Event = all_events stands_for made_with before there.kept in
       let step : IsStep stands_for made_with stored before pass event (Ok reply) after pass' = call.1 in
       let called : IsCalled step.between after pass event reply pass' = called_by step.between after pass pass' event reply step.taken in
-      let answers : Answers (made_with before.book) history event (Ok reply) = answers_of before after pass pass' event (Ok reply) kept step in
+      let answers : Answers (made_with before.book) history event (Ok reply) = answers_of before after pass pass' event (Ok reply) there.kept step in
       let seen : pass'.seen ≡ after.total = ap (λ (p : PassState). p.seen) called.counted in
-      let many : length history ≡ before.total = as_many stands_for made_with before kept in
+      let many : length history ≡ before.total = as_many stands_for made_with before there.kept in
       let place : pass'.seen ≡ length history + 1 = omega (arith, seen, called.total, step.moves.same_total, many) in
       record {
         counted = called.counted ∙ ap (after_call pass) (sym seen);
@@ -105,24 +105,24 @@ module _ {B : Type 0} (stands_for : B → List Event → Type 0) (made_with : B 
           history = history;
           place = place;
           timely = answers.0;
-          reply_is = subst (λ (s : Settings). reply ≡ reply_of s (past_of s.journal history) event) same answers.1;
+          reply_is = subst (λ (s : Settings). reply ≡ reply_of s (past_of s.journal history) event) there.same_settings answers.1;
         };
       }
 
   -- what a caller knows of its reply
-  pub replied : (settings : Settings) (before after : KeptState B) (pass pass' : PassState) (event : Event) (answer : Result Reply CallFault) → IsKept stands_for made_with before
-      → made_with before.book ≡ settings → IsCall stands_for made_with stored before pass event answer after pass' → IfOk answer (λ reply. IsCallReply settings pass event reply pass')
-  replied settings before after pass pass' event (Ok reply) kept same call = replied_by settings before after pass pass' event reply kept same call
-  replied settings before after pass pass' event (Err fault) kept same call = tt
+  pub replied : (settings : Settings) (before after : KeptState B) (pass pass' : PassState) (event : Event) (answer : Result Reply CallFault) → IsKeptAs stands_for made_with settings before
+      → IsCall stands_for made_with stored before pass event answer after pass' → IfOk answer (λ reply. IsCallReply settings pass event reply pass')
+  replied settings before after pass pass' event (Ok reply) there call = replied_by settings before after pass pass' event reply there call
+  replied settings before after pass pass' event (Err fault) there call = tt
 
   -- what a caller knows of a fault
-  pub refused : (settings : Settings) (before after : KeptState B) (pass pass' : PassState) (event : Event) (answer : Result Reply CallFault) → IsKept stands_for made_with before
-      → made_with before.book ≡ settings → IsCall stands_for made_with stored before pass event answer after pass' → IfErr answer (λ fault. IsFaultOf settings pass event fault pass')
-  refused settings before after pass pass' event (Ok reply) kept same call = tt
-  refused settings before after pass pass' event (Err (Step fault)) kept same call =
-      let history : List Event = all_events stands_for made_with before kept in
-      record { reason = reason settings (made_with before.book) history event fault same (answers_of before after pass pass' event (Err fault) kept call.1); same = pass_stays call.1.between after pass pass' event fault call.1.taken }
-  refused settings before after pass pass' event (Err (Behind at)) kept same call = record { reason = omega (arith, call.0, call.1); same = call.3 }
+  pub refused : (settings : Settings) (before after : KeptState B) (pass pass' : PassState) (event : Event) (answer : Result Reply CallFault) → IsKeptAs stands_for made_with settings before
+      → IsCall stands_for made_with stored before pass event answer after pass' → IfErr answer (λ fault. IsFaultOf settings pass event fault pass')
+  refused settings before after pass pass' event (Ok reply) there call = tt
+  refused settings before after pass pass' event (Err (Step fault)) there call =
+      let history : List Event = all_events stands_for made_with before there.kept in
+      record { reason = reason settings (made_with before.book) history event fault there.same_settings (answers_of before after pass pass' event (Err fault) there.kept call.1); same = pass_stays call.1.between after pass pass' event fault call.1.taken }
+  refused settings before after pass pass' event (Err (Behind at)) there call = record { reason = omega (arith, call.0, call.1); same = call.3 }
 
   -- a caller who gets no receipt knows as much as from its receipt
   seat_answer : (is_free : B → Event → Type 0) (settings : Settings) (pass pass' : PassState) (event : Event) (answer : Result Reply CallFault)

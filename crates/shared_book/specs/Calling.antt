@@ -24,7 +24,7 @@ use Rattle.shared_book.specs.declared.fault.SplitFault.TheVariants.{CountEnded a
 use Rattle.shared_book.specs.declared.receipt.Receipt.{Receipt}
 use Rattle.shared_book.specs.declared.shared.TheConstants.{MOST_TURNS}
 use Rattle.shared_book.specs.Pass.{PassState, after_call}
-use Rattle.shared_book.specs.Kept.{KeptState, IsKept, IsStep, HasFreeRoom, IsFreeCall, IsTurnForThere, IsSweepThere}
+use Rattle.shared_book.specs.Kept.{KeptState, IsKeptAs, IsStep, HasFreeRoom, IsFreeCall, IsTurnForThere, IsSweepThere}
 
 -- The receipt of a call with this pass, which then has seen it.
 pub record IsReceiptOf (pass : PassState) (event : Event) (receipt : Receipt) (pass' : PassState) : Type 0 where
@@ -76,8 +76,7 @@ IsCall stands_for made_with stored before pass event (Err (CallBehind at)) after
 pub record IsLocked {B : Type 0} (stands_for : B → List Event → Type 0) (made_with : B → Settings) (stored : B → ℕ) (is_free : B → Event → Type 0) (settings : Settings) (pass : PassState) (event : Event) (answer : Result Reply CallFault) (pass' : PassState) : Type 0 where
   pub before : KeptState B
   pub after : KeptState B
-  pub kept : IsKept stands_for made_with before
-  pub same_settings : made_with before.book ≡ settings
+  pub there : IsKeptAs stands_for made_with settings before
   pub call : IsCall stands_for made_with stored before pass event answer after pass'
   pub ended : IsErrOf answer (CallStep CountEnded) → MOST_EVENTS ≤ before.total
   pub free : IsFreeCall is_free before event → ¬ (IsErrOf answer (CallStep NoMemory))

@@ -49,6 +49,11 @@ pub record IsKept {B : Type 0} (stands_for : B → List Event → Type 0) (setti
   pub few : kept.total < 2 ^ 62
   pub few_callers : kept.callers ≤ 2 ^ 62
 
+-- The same of what lies under the lock of a shared book that was made with these settings.
+pub record IsKeptAs {B : Type 0} (stands_for : B → List Event → Type 0) (made_with : B → Settings) (settings : Settings) (state : KeptState B) : Type 0 where
+  pub kept : IsKept stands_for made_with state
+  pub same_settings : made_with state.book ≡ settings
+
 -- The window is the same, and the opening book stands for what it did.
 pub record HasStayed {B : Type 0} (stands_for : B → List Event → Type 0) (before after : KeptState B) : Type 0 where
   pub window : after.window ≡ before.window
@@ -108,8 +113,7 @@ pub record IsTurn {B : Type 0} (stands_for : B → List Event → Type 0) (setti
 pub record IsTurnThere {B : Type 0} (stands_for : B → List Event → Type 0) (made_with : B → Settings) (stored unswept : B → ℕ) (settings : Settings) (more : Bool) : Type 0 where
   pub before : KeptState B
   pub after : KeptState B
-  pub kept : IsKept stands_for made_with before
-  pub same_settings : made_with before.book ≡ settings
+  pub there : IsKeptAs stands_for made_with settings before
   pub turn : IsTurn stands_for made_with stored unswept before more after
 
 -- A sweep has done enough: of the whole, nothing is left in both books; for room, the book stores fewer cells than it may, or has nothing left.
@@ -127,8 +131,7 @@ pub record IsTurnFor {B : Type 0} (stands_for : B → List Event → Type 0) (se
 pub record IsTurnForThere {B : Type 0} (stands_for : B → List Event → Type 0) (made_with : B → Settings) (stored unswept : B → ℕ) (settings : Settings) (whole more : Bool) : Type 0 where
   pub before : KeptState B
   pub after : KeptState B
-  pub kept : IsKept stands_for made_with before
-  pub same_settings : made_with before.book ≡ settings
+  pub there : IsKeptAs stands_for made_with settings before
   pub turn : IsTurnFor stands_for made_with stored unswept whole before more after
 
 -- A sweep by turns, each under a hold of its own: the last was enough, or so many were taken, after each of which another one was wanted.

@@ -3,7 +3,7 @@
 ghost use Rattle.std.specs.Prelude.{◌≡◌, ◌+◌, ◌<◌, ◌≤◌, ◌^◌, ◌↔◌, ◌⊎◌, IfOk, IfErr, OnOk, OnErr, IsErr, IsErrOf};
 ghost use Rattle.shared_book.specs.Pass.{IsSplit, IsJoined, calls_of, parts_of};
 ghost use Rattle.history.specs.Desk.{IsStep as IsBookStep};
-ghost use Rattle.shared_book.specs.Kept.{HasFreeRoom, IsFreeCall, IsKept};
+ghost use Rattle.shared_book.specs.Kept.{HasFreeRoom, IsFreeCall, IsKept, IsKeptAs};
 ghost use Rattle.shared_book.specs.Calling.{IsCall, IsUnsplit};
 
 use crate::fault::{CallFault, Ended, SplitFault};
@@ -22,8 +22,7 @@ impl<B: Book, L: CallLedger> Kept<B, L> {
         copy: Event,
     ) -> Result<Reply, CallFault>
         requires same { copy ≡ event }
-        ensures kept { IsKept B.stands_for B.settings self.old }
-        ensures made_with { B.settings self.old.book ≡ L.settings }
+        ensures there { IsKeptAs B.stands_for B.settings L.settings self.old }
         ensures call { IsCall B.stands_for B.settings B.stored self.old pass.old event result self.new pass.new }
         ensures free { IsFreeCall B.is_free self.old event → ¬ (IsErrOf result (CallFault.Step StepFault.NoMemory)) }
         ensures own { HasFreeRoom B.is_free self.old → IsErrOf result (CallFault.Step StepFault.NoMemory) →

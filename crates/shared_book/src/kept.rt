@@ -8,7 +8,7 @@ ghost use Rattle.history.specs.Event.{is_plain, lagging_of};
 ghost use Rattle.shared_book.specs.declared.kept.TheConstants.{MOST_RECORDED};
 ghost use Rattle.shared_book.specs.Fresh.{CanShare, IsKnownAs};
 ghost use Rattle.shared_book.specs.Pass.{PassState, first_pass};
-ghost use Rattle.shared_book.specs.Kept.{first_kept, IsFreed, IsKept, MovesOn, IsTaken, IsTurn, IsTurnFor, IsStep, IsCopiedStep, IsSameRecord};
+ghost use Rattle.shared_book.specs.Kept.{first_kept, IsFreed, IsKept, IsKeptAs, MovesOn, IsTaken, IsTurn, IsTurnFor, IsStep, IsCopiedStep, IsSameRecord};
 ghost use Rattle.shared_book.specs.Kept.{HasFreeRoom, IsFreeCall};
 
 use crate::callers::Callers;
@@ -158,8 +158,7 @@ impl<B: Book, L: CallLedger> Kept<B, L> {
     /// is no call, so it takes no pass and is not recorded. Before a sweep it is called again and again, so that the sweep has little
     /// left to do.
     pub fn sweep_some(&mut self) -> bool
-        ensures kept { IsKept B.stands_for B.settings self.old }
-        ensures made_with { B.settings self.old.book ≡ L.settings }
+        ensures there { IsKeptAs B.stands_for B.settings L.settings self.old }
         ensures turn { IsTurn B.stands_for B.settings B.stored B.unswept self.old result self.new }
     {
         sweep_one(&mut self.book, &mut self.opening)
@@ -168,8 +167,7 @@ impl<B: Book, L: CallLedger> Kept<B, L> {
     /// Does so if another turn is wanted: for both books if `whole` is set, else for the book alone until it has room. Returns whether
     /// another one is.
     pub(crate) fn turn(&mut self, whole: bool) -> bool
-        ensures kept { IsKept B.stands_for B.settings self.old }
-        ensures made_with { B.settings self.old.book ≡ L.settings }
+        ensures there { IsKeptAs B.stands_for B.settings L.settings self.old }
         ensures turn { IsTurnFor B.stands_for B.settings B.stored B.unswept whole self.old result self.new }
     {
         if whole {
@@ -183,8 +181,7 @@ impl<B: Book, L: CallLedger> Kept<B, L> {
 
     /// Does so for the book alone.
     pub(crate) fn sweep_book(&mut self) -> bool
-        ensures kept { IsKept B.stands_for B.settings self.old }
-        ensures made_with { B.settings self.old.book ≡ L.settings }
+        ensures there { IsKeptAs B.stands_for B.settings L.settings self.old }
         ensures freed { IsFreed B.stands_for B.settings B.stored self.old self.new }
         ensures opening { self.new.opening ≡ self.old.opening }
         ensures more { result ≡ true → B.unswept self.new.book < B.unswept self.old.book }
@@ -195,8 +192,7 @@ impl<B: Book, L: CallLedger> Kept<B, L> {
 
     /// Whether the book stores fewer cells than it may.
     pub(crate) fn has_room(&self) -> bool
-        ensures kept { IsKept B.stands_for B.settings self.now }
-        ensures made_with { B.settings self.now.book ≡ L.settings }
+        ensures there { IsKeptAs B.stands_for B.settings L.settings self.now }
         ensures yes { result ≡ true → B.stored self.now.book < (B.settings self.now.book).cells }
         ensures no { result ≡ false → (B.settings self.now.book).cells ≤ B.stored self.now.book }
     {

@@ -4,7 +4,6 @@ pub returns : goal.returns
 returns g c = record {
   before = c.deref_mut.result.now;
   after = c.sweep_some.new.self;
-  kept = c.sweep_some.ensures.kept;
-  same_settings = c.sweep_some.ensures.made_with;
+  there = c.sweep_some.ensures.there;
   turn = c.sweep_some.ensures.turn;
 }

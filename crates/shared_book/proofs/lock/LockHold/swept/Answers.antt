@@ -14,7 +14,6 @@ returns-then-sweep_book g c =
     record {
       before = before;
       after = after;
-      kept = swept.kept;
-      same_settings = swept.made_with;
+      there = swept.there;
       turn = subst (λ (more : Bool). IsTurnFor b.stands_for b.settings b.stored b.unswept false before more after) c.if-sweep_book.true turn;
     }

@@ -4,7 +4,6 @@ pub returns : goal.returns
 returns g c = record {
   before = c.deref_mut.result.now;
   after = c.turn.new.self;
-  kept = c.turn.ensures.kept;
-  same_settings = c.turn.ensures.made_with;
+  there = c.turn.ensures.there;
   turn = c.turn.ensures.turn;
 }
