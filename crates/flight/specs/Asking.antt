@@ -19,9 +19,12 @@ use Rattle.clock.specs.Ticks.{Ticks}
 use Rattle.front_workers.specs.Leads.{Calls}
 use Rattle.flight.specs.declared.asking.Asking.{Asking}
 use Rattle.flight.specs.declared.outside.Listened.{Listened}
-use Rattle.flight.specs.Flight.{Sent, Hears, Answered, Awaits}
+use Rattle.flight.specs.declared.counts.Counts.{Counts}
+use Rattle.flight.specs.Clients.{SettlesOrWaits}
+use Rattle.flight.specs.Flight.{Sent, Hears, Answered, Awaits, Flies}
 use Rattle.flight.specs.Origin.{Origin, origin_of}
 use Rattle.flight.specs.Told.{IsOutcome}
+use Rattle.flight.specs.Waiting.{FlightState}
 
 -- what counts of a question while it waits
 abbrev pub origin_in : {G K : Type 0} → (K → ℕ) → Asking G K → Origin
@@ -47,10 +50,31 @@ pub record HasHeard {D C : Type 0} (calls : Calls D) (seen : D → ℕ) (hears :
   pub awaits : Awaits calls seen hears ticks since port question steps query n
   pub came : IsOutcome (hears query) heard
 
+-- The task of a question waits for the reply to this query.
+abbrev pub AwaitsFor : {D C G K : Type 0} → Calls D → (D → ℕ) → Hears → Ticks C → (K → ℕ) → Asking G K → Sent → Type 0
+AwaitsFor calls seen hears ticks since asking query = Awaits calls seen hears ticks (since asking.client) asking.port asking.query.question asking.task.steps.items query asking.seen
+
 -- The task of a question wants to send a query, and has no answer to that yet.
 abbrev pub WantsSend : {D C G K : Type 0} → Calls D → (D → ℕ) → Hears → Ticks C → (K → ℕ) → Asking G K → Type 0
-WantsSend calls seen hears ticks since asking =
-    (query : Sent) × Awaits calls seen hears ticks (since asking.client) asking.port asking.query.question asking.task.steps.items query asking.seen
+WantsSend calls seen hears ticks since asking = (query : Sent) × AwaitsFor calls seen hears ticks since asking query
+
+-- The exchange of a question has ended, and this was heard of it.
+abbrev pub HasHeardFor : {D C G K : Type 0} → Calls D → (D → ℕ) → Hears → Ticks C → (K → ℕ) → Asking G K → Listened → Type 0
+HasHeardFor calls seen hears ticks since asking heard = HasHeard calls seen hears ticks (since asking.client) asking.port asking.query.question asking.task.steps.items heard asking.seen
+
+-- The task of a question took its steps, and this input comes next.
+abbrev pub FliesFor : {D C G K : Type 0} → Calls D → (D → ℕ) → Hears → Ticks C → (K → ℕ) → Asking G K → Input → Type 0
+FliesFor calls seen hears ticks since asking input = Flies calls seen hears ticks (since asking.client) asking.port asking.query.question asking.task.steps.items input asking.seen
+
+-- The client of a question is settled, or waits with it for an exchange that begins now.
+abbrev pub SettlesAsking : {W O G K : Type 0} → (K → List ℕ → Type 0) → (K → ℕ) → (W → ℕ) → (W → Counts) → (W → O) → (O → K → List ℕ → O → Type 0) → ℕ → Asking G K → FlightState → W → FlightState → W → Type 0
+SettlesAsking sent network server_port counts outbox posts now asking flight old flight' new =
+    SettlesOrWaits sent server_port counts outbox posts now asking.client (λ origin. origin ≡ origin_in network asking) flight old flight' new
+
+-- The client of a query is settled, or waits for an exchange that begins now, with a question that counts as begun at this moment.
+abbrev pub SettlesQuery : {W O K : Type 0} → (K → List ℕ → Type 0) → (K → ℕ) → (W → ℕ) → (W → Counts) → (W → O) → (O → K → List ℕ → O → Type 0) → ℕ → K → Query → ℕ → FlightState → W → FlightState → W → Type 0
+SettlesQuery sent network server_port counts outbox posts now client query began flight old flight' new =
+    SettlesOrWaits sent server_port counts outbox posts now client (λ origin. origin ≡ origin_of began query.question.owner (network client)) flight old flight' new
 
 -- what a question gets of a call of the desk
 abbrev pub input_of : Result Reply DeskFault → Input

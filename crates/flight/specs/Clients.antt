@@ -1,12 +1,16 @@
 -- The fate of clients: settled, or waiting for an exchange.
-use Rattle.std.specs.Prelude.{◌≡◌, ◌≤◌, ℕ, Option, List}
+use Rattle.std.specs.Prelude.{◌≡◌, ◌≤◌, ℕ, max, Option, List}
 use Rattle.std.specs.List.{AllByRecursion}
+use Rattle.dns_query.specs.declared.over.Over.{Over}
+use Rattle.dns_wire.specs.declared.server.query.Query.{Query}
+use Rattle.iterate.specs.declared.answer.Answer.{Answer}
 use Rattle.flight.specs.declared.counts.Counts.{Counts}
 use Rattle.flight.specs.Bounds.{IsBounded}
 use Rattle.flight.specs.Counted.{CountsSettled}
 use Rattle.flight.specs.Leaving.{Ends, Leaves}
-use Rattle.flight.specs.Origin.{Origin}
+use Rattle.flight.specs.Origin.{Origin, IsOriginOf}
 use Rattle.flight.specs.Places.{KeepsPlaces}
+use Rattle.flight.specs.Told.{IsGiven}
 use Rattle.flight.specs.Waiting.{FlightState, KeepsOrigins, GoesOnOrBegins, IsAccounted, JoinsNone, WaitsFrom, outstanding}
 
 -- One client is settled: this reply leaves, or none, and nothing else does. No other counter changes, and the port of name servers is the same.
@@ -15,6 +19,11 @@ pub record Settles {W O K : Type 0} (server_port : W → ℕ) (counts : W → Co
   pub port : server_port new ≡ server_port old
   pub settled : CountsSettled (counts old) (counts new)
   pub left : Leaves posts client reply (outbox old) (outbox new)
+
+-- One client is settled, and the reply to its query, or none, gives this answer.
+abbrev pub SettlesBy : {W O K : Type 0} → (K → Over) → (W → ℕ) → (W → Counts) → (W → O) → (O → K → List ℕ → O → Type 0) → K → List ℕ → Query → Answer → W → W → Type 0
+SettlesBy over server_port counts outbox posts client octets query answer old new =
+    (reply : Option (List ℕ)) × IsGiven (over client) octets query answer reply × Settles server_port counts outbox posts client reply old new
 
 -- This client is settled, or waits with such a question for an exchange that begins now. Nothing leaves but its reply. No exchange is listened to, and none expires. The limit of exchanges is kept if it was kept before, and so is the bound of what questions keep. No zone and no network takes places that others need.
 pub record SettlesOrWaits {W O K : Type 0} (sent : K → List ℕ → Type 0) (server_port : W → ℕ) (counts : W → Counts) (outbox : W → O) (posts : O → K → List ℕ → O → Type 0) (now : ℕ) (client : K) (of : Origin → Type 0)
@@ -30,6 +39,11 @@ pub record SettlesOrWaits {W O K : Type 0} (sent : K → List ℕ → Type 0) (s
   pub places : KeepsPlaces flight flight'
   pub bounded : IsBounded flight → IsBounded flight'
   pub limit : flight'.limit ≡ flight.limit
+
+-- The client that sent these octets is settled, or waits with the question that they ask. It counts as begun now, or at the latest moment at which an exchange began.
+abbrev pub SettlesOctets : {W O K : Type 0} → (K → List ℕ → Type 0) → (K → ℕ) → (W → ℕ) → (W → Counts) → (W → O) → (O → K → List ℕ → O → Type 0) → ℕ → K → List ℕ → FlightState → W → FlightState → W → Type 0
+SettlesOctets sent network server_port counts outbox posts now client octets flight old flight' new =
+    SettlesOrWaits sent server_port counts outbox posts now client (IsOriginOf octets (max now flight.latest) (network client)) flight old flight' new
 
 -- No client is lost, and none is answered twice: each that waited is settled, or still waits. Nothing leaves but the replies of those that are settled. Each exchange under way was under way before or begins now, for a question that waited before. There are no more of them. The bound of what questions keep holds if it held before.
 pub record LosesNone {W O K : Type 0} (sent : K → List ℕ → Type 0) (server_port : W → ℕ) (counts : W → Counts) (outbox : W → O) (posts : O → K → List ℕ → O → Type 0) (now : ℕ)

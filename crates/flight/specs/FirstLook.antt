@@ -1,7 +1,10 @@
 -- The first lookup of a question, and what it settles.
-use Rattle.std.specs.Prelude.{◌≡◌, ◌≢◌, ℕ, None, Some, Result}
+use Rattle.std.specs.Prelude.{◌≡◌, ◌≢◌, ℕ, List, None, Some, Result, IfSome}
 use Rattle.local_zone.specs.declared.local_answer.Local.TheVariants as local
 use Rattle.dns_text.specs.declared.record.Question.{Question}
+use Rattle.dns_wire.specs.declared.server.query.Query.{Query}
+use Rattle.dns_wire.specs.declared.server.query.Asked.TheVariants.{Good}
+use Rattle.dns_wire.specs.Server.Asking.{AsksFor}
 use Rattle.history.specs.declared.desk.DeskFault.{DeskFault}
 use Rattle.history.specs.declared.event.Ask.TheVariants.{Answer as Asked}
 use Rattle.history.specs.declared.event.Event.TheVariants.{Look}
@@ -33,6 +36,15 @@ pub data HeedsFirstLook {D O : Type 0} (calls : Calls D) (question : Question) (
   looked : {moment : ℕ} {answer : Result Reply DeskFault} {mid : D} → calls desk (Look moment (Asked question)) answer mid
       → HeedsInput question (input_of answer) mid flight outbox desk' flight' outbox' → HeedsFirstLook calls question desk flight outbox desk' flight' outbox'
 
+-- The same of a worker's sockets, before and after.
+abbrev pub HeedsLook : {D W O : Type 0} → Calls D → (W → O) → Question → D → FlightState → W → D → FlightState → W → Type 0
+HeedsLook calls outbox question desk flight outside desk' flight' outside' = HeedsFirstLook calls question desk flight (outbox outside) desk' flight' (outbox outside')
+
+-- The same of the question that the octets of a client ask, if they ask one.
+abbrev pub HeedsLookOf : {D W O : Type 0} → Calls D → (W → O) → List ℕ → D → FlightState → W → D → FlightState → W → Type 0
+HeedsLookOf calls outbox octets desk flight outside desk' flight' outside' =
+    (query : Query) → AsksFor octets (Good query) → HeedsLook calls outbox query.question desk flight outside desk' flight' outside'
+
 -- A call listened to an exchange. If its question is to begin anew, what comes of its first lookup is heeded. These are the questions in flight without it, before and after.
 pub record HearsOut {D W L O : Type 0} (calls : Calls D) (listens : W → L → Listened → W → Type 0) (outbox : W → O) (exchange : UnderWay) (desk : D) (without : FlightState) (old : W) (desk' : D) (flight' : FlightState) (new : W) : Type 0 where
   pub line : L
@@ -49,6 +61,10 @@ pub record ListensTo {D W L O : Type 0} (calls : Calls D) (listens : W → L →
   pub gone : exchange_at without key ≡ None
   pub others : (other : ℕ) → other ≢ key → exchange_at without other ≡ exchange_at flight other
   pub hears : HearsOut calls listens outbox exchange desk without old desk' flight' new
+
+-- So it is with the exchange under a key, if there is one.
+abbrev pub ListensAt : {D W L O : Type 0} → Calls D → (W → L → Listened → W → Type 0) → (W → O) → ℕ → D → FlightState → W → D → FlightState → W → Type 0
+ListensAt calls listens outbox key desk flight old desk' flight' new = IfSome (exchange_at flight key) (λ exchange. ListensTo calls listens outbox key exchange desk flight old desk' flight' new)
 
 -- Some exchanges are listened to so, one after another. The queue may name fewer of them meanwhile.
 pub data ListensToEach {D W L O : Type 0} (calls : Calls D) (listens : W → L → Listened → W → Type 0) (outbox : W → O) (desk : D) (flight : FlightState) (old : W) : D → FlightState → W → Type 0 where

@@ -3,6 +3,7 @@ pub mod Told
 pub mod Origin
 pub mod Zones
 pub mod Asking
+pub mod Beginning
 pub mod Counted
 pub mod Kept
 pub mod Waiting

@@ -1,14 +1,22 @@
 -- The table of questions that wait, for contracts inside the crate.
-use Rattle.std.specs.Prelude.{◌≡◌, ◌≤◌, ◌+◌, ℕ, Bool, Option, Some, None, List, cond, slice_index_or}
+use Rattle.std.specs.Prelude.{◌≡◌, ◌⊎◌, ◌<◌, ◌≤◌, ◌+◌, ℕ, Bool, Option, Some, None, List, cond, slice_index_or}
 use Rattle.slab.specs.Slab.{HasRoomFor, Slab, Updates, slab_len}
 use Rattle.flight.specs.declared.table.TheConstants.{LAST_BEGINNING}
 use Rattle.flight.specs.Bounds.{kept_by}
 use Rattle.flight.specs.Origin.{Origin}
-use Rattle.flight.specs.Waiting.{UnderWay, count_for, is_for}
+use Rattle.flight.specs.Waiting.{UnderWay, count_for, is_for, since_in}
 
 -- Each exchange began soon enough after its question.
 abbrev pub AreInTime : List (Option UnderWay) → Type 0
 AreInTime exchanges = (key : ℕ) (exchange : UnderWay) → slice_index_or exchanges key None ≡ Some exchange → exchange.since ≤ exchange.origin.began + LAST_BEGINNING
+
+-- Each exchange is of a question that began less than so many milliseconds ago.
+abbrev pub AreTimely : ℕ → ℕ → List (Option UnderWay) → Type 0
+AreTimely most now exchanges = (key : ℕ) (exchange : UnderWay) → slice_index_or exchanges key None ≡ Some exchange → now < exchange.origin.began + most
+
+-- So many milliseconds are left until the time of the first exchange is up, or none.
+abbrev pub HaveLeft : ℕ → ℕ → List (Option UnderWay) → ℕ → Type 0
+HaveLeft patience now exchanges left = (left ≡ 0) ⊎ ((key since : ℕ) → since_in exchanges key ≡ Some since → now + left ≤ since + patience)
 
 -- One exchange more: it adds one to the questions that pass a test, if its own does.
 abbrev pub CountsOneMore : Slab UnderWay → Slab UnderWay → UnderWay → Type 0

@@ -3,10 +3,8 @@
 ghost use Rattle.std.specs.Prelude.{◌≡◌, ◌↔◌, ◌≤◌, IsTrue};
 ghost use Rattle.dns_wire.specs.declared.server.query.Asked.TheVariants.{Good};
 ghost use Rattle.dns_wire.specs.Server.Asking.{AsksFor};
-ghost use Rattle.flight.specs.Asking.{origin_in, HasLooked, IsAskedBy};
-ghost use Rattle.flight.specs.Clients.{SettlesOrWaits};
-ghost use Rattle.flight.specs.Origin.{origin_of};
-ghost use Rattle.flight.specs.FirstLook.{HeedsFirstLook, HeedsInput, IsSilence};
+ghost use Rattle.flight.specs.Asking.{HasLooked, IsAskedBy, SettlesAsking, SettlesQuery};
+ghost use Rattle.flight.specs.FirstLook.{HeedsInput, HeedsLook, IsSilence};
 
 use crate::asking::{Asking, ask};
 use crate::cause::Cause;
@@ -54,10 +52,9 @@ impl<D: Numbered, L: InFlight, C: Clock, G: Rng, K: Client> Flight<D, L, C, G, K
         octets: &[u8],
     )
         requires asked { IsAskedBy K.sent asking.port octets.now asking.client asking.query asking.task }
-        ensures settles { SettlesOrWaits K.sent O.server_port O.counts O.outbox O.posts now asking.client
-            (λ origin. origin ≡ origin_in K.network asking) self.old outside.old self.new outside.new }
-        ensures heeds { HeedsFirstLook D.calls asking.query.question
-            desk.old self.old (O.outbox outside.old) desk.new self.new (O.outbox outside.new) }
+        ensures settles { SettlesAsking K.sent K.network O.server_port O.counts O.outbox O.posts now asking
+            self.old outside.old self.new outside.new }
+        ensures heeds { HeedsLook D.calls O.outbox asking.query.question desk.old self.old outside.old desk.new self.new outside.new }
     {
         let Asking {
             client,
@@ -85,10 +82,9 @@ impl<D: Numbered, L: InFlight, C: Clock, G: Rng, K: Client> Flight<D, L, C, G, K
     )
         requires own { K.sent client octets.now }
         requires good { AsksFor octets.now (Good query) }
-        ensures settles { SettlesOrWaits K.sent O.server_port O.counts O.outbox O.posts now client
-            (λ origin. origin ≡ origin_of began query.question.owner (K.network client)) self.old outside.old self.new outside.new }
-        ensures heeds { HeedsFirstLook D.calls query.question
-            desk.old self.old (O.outbox outside.old) desk.new self.new (O.outbox outside.new) }
+        ensures settles { SettlesQuery K.sent K.network O.server_port O.counts O.outbox O.posts now client query began
+            self.old outside.old self.new outside.new }
+        ensures heeds { HeedsLook D.calls O.outbox query.question desk.old self.old outside.old desk.new self.new outside.new }
     {
         if desk.seen() < client.since() {
             let cause = Cause::behind(desk, &client);
@@ -130,8 +126,8 @@ impl<D: Numbered, L: InFlight, C: Clock, G: Rng, K: Client> Flight<D, L, C, G, K
         requires good { AsksFor octets.now (Good query) }
         requires looked { HasLooked D.calls D.seen L.hears C.ticks (K.since client) query.question moment came seen }
         requires known { seen ≤ D.seen desk.old }
-        ensures settles { SettlesOrWaits K.sent O.server_port O.counts O.outbox O.posts now client
-            (λ origin. origin ≡ origin_of began query.question.owner (K.network client)) self.old outside.old self.new outside.new }
+        ensures settles { SettlesQuery K.sent K.network O.server_port O.counts O.outbox O.posts now client query began
+            self.old outside.old self.new outside.new }
         ensures heeds { HeedsInput query.question came
             desk.old self.old (O.outbox outside.old) desk.new self.new (O.outbox outside.new) }
     {
@@ -184,8 +180,8 @@ impl<D: Numbered, L: InFlight, C: Clock, G: Rng, K: Client> Flight<D, L, C, G, K
         requires good { AsksFor octets.now (Good query) }
         requires looked { HasLooked D.calls D.seen L.hears C.ticks (K.since client) query.question moment came seen }
         requires known { seen ≤ D.seen desk.old }
-        ensures { SettlesOrWaits K.sent O.server_port O.counts O.outbox O.posts now client
-            (λ origin. origin ≡ origin_of began query.question.owner (K.network client)) self.old outside.old self.new outside.new }
+        ensures { SettlesQuery K.sent K.network O.server_port O.counts O.outbox O.posts now client query began
+            self.old outside.old self.new outside.new }
     {
         let port = outside.server_port();
         let task = match WorkerTask::begun(self.alloc, &query.question, port, moment) {

@@ -1,10 +1,10 @@
 //! The cause of a SERVFAIL that is not the answer to the question.
 
 ghost use Rattle.std.specs.Prelude.{◌≡◌, ◌≢◌, ◌⊎◌, ◌<◌, ◌+◌, max};
-ghost use Rattle.flight.specs.Asking.{origin_in, WantsSend};
+ghost use Rattle.flight.specs.Asking.{WantsSend};
+ghost use Rattle.flight.specs.Beginning.{HasPlaceNow};
 ghost use Rattle.flight.specs.Bounds.{KeepsMost, KeepsTooMuch, kept_by};
 ghost use Rattle.flight.specs.Kept.{kept_in};
-ghost use Rattle.flight.specs.Places.{HasPlace};
 ghost use Rattle.flight.specs.declared.cause.Unserved.TheVariants.{Elsewhere, NoMemory, TooLarge, TooLong, TooMany};
 
 use crate::asking::Asking;
@@ -63,8 +63,7 @@ impl Cause {
         asking: &Asking<G, K>,
     ) -> Cause
         requires sends { WantsSend D.calls D.seen L.hears C.ticks K.since asking.now }
-        requires full { ¬ (HasPlace (max now table.now.latest) (origin_in K.network asking.now) table.now.asker table.now.jobs.slots
-            table.now.limit) }
+        requires full { ¬ (HasPlaceNow K.network now asking.now table.now.latest table.now.asker table.now.jobs.slots table.now.limit) }
         ensures { result.why ≡ TooMany }
     {
         let _ = table;

@@ -2,13 +2,11 @@
 
 ghost use Rattle.std.specs.Prelude.{◌≡◌, ◌≤◌, ◌+◌};
 ghost use Rattle.front_workers.specs.Counts.{Rises};
-ghost use Rattle.flight.specs.Asking.{origin_in, HasHeard, IsAskedBy};
+ghost use Rattle.flight.specs.Asking.{FliesFor, HasHeardFor, IsAskedBy, SettlesAsking};
 ghost use Rattle.flight.specs.declared.outside.Listened.TheVariants.{Anew};
 ghost use Rattle.flight.specs.Bounds.{IsBounded};
-ghost use Rattle.flight.specs.FirstLook.{HearsOut, HeedsFirstLook};
-ghost use Rattle.flight.specs.Flight.{Flies};
+ghost use Rattle.flight.specs.FirstLook.{HearsOut, HeedsLook};
 ghost use Rattle.flight.specs.Leaving.{Ends};
-ghost use Rattle.flight.specs.Clients.{SettlesOrWaits};
 ghost use Rattle.flight.specs.Told.{listened_of};
 ghost use Rattle.flight.specs.Waiting.{IsAccounted, WaitsFrom, outstanding};
 ghost use Rattle.iterate.specs.declared.want.Want.{Want};
@@ -73,14 +71,13 @@ impl<D: Numbered, L: InFlight, C: Clock, G: Rng, K: Client> Flight<D, L, C, G, K
         heard: HeardOrRefused,
     )
         requires asked { IsAskedBy K.sent asking.port octets asking.client asking.query asking.task }
-        requires heard { HasHeard D.calls D.seen L.hears C.ticks (K.since asking.client) asking.port asking.query.question
-            asking.task.steps.items (listened_of heard) asking.seen }
-        ensures settles { SettlesOrWaits K.sent O.server_port O.counts O.outbox O.posts now asking.client
-            (λ origin. origin ≡ origin_in K.network asking) self.old outside.old self.new outside.new }
+        requires heard { HasHeardFor D.calls D.seen L.hears C.ticks K.since asking (listened_of heard) }
+        ensures settles { SettlesAsking K.sent K.network O.server_port O.counts O.outbox O.posts now asking
+            self.old outside.old self.new outside.new }
 
         // A question that begins anew heeds its first lookup.
-        ensures anew { listened_of heard ≡ Anew → HeedsFirstLook D.calls asking.query.question
-            desk.old self.old (O.outbox outside.old) desk.new self.new (O.outbox outside.new) }
+        ensures anew { listened_of heard ≡ Anew →
+            HeedsLook D.calls O.outbox asking.query.question desk.old self.old outside.old desk.new self.new outside.new }
     {
         let input = match heard {
             HeardOrRefused::Came(reply) => {
@@ -124,12 +121,11 @@ impl<D: Numbered, L: InFlight, C: Clock, G: Rng, K: Client> Flight<D, L, C, G, K
         first: Input,
     )
         requires asked { IsAskedBy K.sent asking.port octets.now asking.client asking.query asking.task }
-        requires flies { Flies D.calls D.seen L.hears C.ticks (K.since asking.client) asking.port asking.query.question
-            asking.task.steps.items first asking.seen }
+        requires flies { FliesFor D.calls D.seen L.hears C.ticks K.since asking first }
         requires port { asking.port ≡ O.server_port outside.old }
         requires known { asking.seen ≤ D.seen desk.old }
-        ensures { SettlesOrWaits K.sent O.server_port O.counts O.outbox O.posts now asking.client
-            (λ origin. origin ≡ origin_in K.network asking) self.old outside.old self.new outside.new }
+        ensures { SettlesAsking K.sent K.network O.server_port O.counts O.outbox O.posts now asking
+            self.old outside.old self.new outside.new }
     {
         due_law();
         let mut asking = asking;

@@ -1,16 +1,12 @@
 //! The questions of one worker that are in flight.
 
-ghost use Rattle.std.specs.Prelude.{◌≡◌, ◌⊎◌, ◌<◌, ◌≤◌, ◌+◌, [], ℕ, max, None, IfSome};
-ghost use Rattle.dns_wire.specs.declared.server.query.Asked.TheVariants.{Good};
-ghost use Rattle.dns_wire.specs.declared.server.query.Query.{Query};
-ghost use Rattle.dns_wire.specs.Server.Asking.{AsksFor};
+ghost use Rattle.std.specs.Prelude.{◌≡◌, ◌⊎◌, ◌<◌, ◌≤◌, ◌+◌, [], ℕ, None, IfSome};
 ghost use Rattle.front_workers.specs.Counts.{Rises};
 ghost use Rattle.flight.specs.Bounds.{AllGoOn, EachIsSmall, EndsLargest, Relieves, kept_all};
-ghost use Rattle.flight.specs.Clients.{LosesNone, SettlesOrWaits};
-ghost use Rattle.flight.specs.Origin.{IsOriginOf};
-ghost use Rattle.flight.specs.FirstLook.{HeedsFirstLook, ListensTo, ListensToEach};
+ghost use Rattle.flight.specs.Clients.{LosesNone, SettlesOctets};
+ghost use Rattle.flight.specs.FirstLook.{HeedsLookOf, ListensAt, ListensToEach};
 ghost use Rattle.flight.specs.Waiting.{EarlyGoOn, IsPatient, IsPatientUntil, IsTimely, OthersGoOn};
-ghost use Rattle.flight.specs.Waiting.{exchange_at, outstanding, since_at, time_left};
+ghost use Rattle.flight.specs.Waiting.{outstanding, since_at, time_left};
 
 use crate::cause::Cause;
 use crate::in_flight::InFlight;
@@ -101,12 +97,11 @@ impl<D: Numbered, L: InFlight, C: Clock, G: Rng, K: Client> Flight<D, L, C, G, K
         octets: &[u8],
     )
         requires own { K.sent client octets.now }
-        ensures settles { SettlesOrWaits K.sent O.server_port O.counts O.outbox O.posts now client
-            (IsOriginOf octets.now (max now self.old.latest) (K.network client)) self.old outside.old self.new outside.new }
+        ensures settles { SettlesOctets K.sent K.network O.server_port O.counts O.outbox O.posts now client octets.now
+            self.old outside.old self.new outside.new }
 
         // What the first lookup of its question settles is settled at once, and silence is kept.
-        ensures heeds { (query : Query) → AsksFor octets.now (Good query) → HeedsFirstLook D.calls query.question
-            desk.old self.old (O.outbox outside.old) desk.new self.new (O.outbox outside.new) }
+        ensures heeds { HeedsLookOf D.calls O.outbox octets.now desk.old self.old outside.old desk.new self.new outside.new }
     {
         one_verdict();
         let asked = match read_question(self.alloc, octets) {
@@ -145,8 +140,7 @@ impl<D: Numbered, L: InFlight, C: Clock, G: Rng, K: Client> Flight<D, L, C, G, K
         ensures loses_none { LosesNone K.sent O.server_port O.counts O.outbox O.posts now self.old outside.old self.new outside.new }
 
         // A question that begins anew heeds its first lookup: if that shows silence, nothing leaves.
-        ensures anew { IfSome (exchange_at self.old key) (λ exchange. ListensTo D.calls O.listens O.outbox key exchange
-            desk.old self.old outside.old desk.new self.new outside.new) }
+        ensures anew { ListensAt D.calls O.listens O.outbox key desk.old self.old outside.old desk.new self.new outside.new }
     {
         let Some(job) = self.table.take(key) else {
             return;

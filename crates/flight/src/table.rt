@@ -1,17 +1,17 @@
 //! The questions that wait, and when each began to.
 
-ghost use Rattle.std.specs.Prelude.{◌≡◌, ◌⊎◌, ◌<◌, ◌≤◌, ◌+◌, ◌∷◌, ◌++◌, ◌↔◌, [], ℕ, map, max, None, Some};
+ghost use Rattle.std.specs.Prelude.{◌≡◌, ◌<◌, ◌≤◌, ◌+◌, ◌∷◌, ◌++◌, ◌↔◌, [], ℕ, map, max, None, Some};
 ghost use Rattle.std.specs.Prelude.{IfErr, IfOk, IfSome, IsTrue, OnOk, OnSome};
 ghost use Rattle.slab.specs.Slab.{HasRoomFor, Updates, get, slab_len};
 ghost use Rattle.std.specs.VecDeque.{deque_capacity, deque_len};
-ghost use Rattle.flight.specs.Asking.{origin_in, WantsSend};
+ghost use Rattle.flight.specs.Asking.{WantsSend};
+ghost use Rattle.flight.specs.Beginning.{HasPlaceNow, IsShown, MayBeginNow};
 ghost use Rattle.flight.specs.Bounds.{EachIsSmall, IsWithin, KeepsMost, KeepsTooMuch, MayKeep, kept_by, kept_of};
 ghost use Rattle.flight.specs.Kept.{kept_in};
 ghost use Rattle.flight.specs.Queue.{IsFirstDue, IsQueue, is_queued};
-ghost use Rattle.flight.specs.Places.{HasPlace, IsAlone, MayBegin, asker_after};
-ghost use Rattle.flight.specs.Table.{AreInTime, CountsOneMore, FreesKey, OneMore};
-ghost use Rattle.flight.specs.Waiting.{UnderWay, since_in, time_left};
-ghost use Rattle.flight.specs.declared.cause.Unserved.TheVariants.{TooLarge, TooLong, TooMany};
+ghost use Rattle.flight.specs.Places.{IsAlone, asker_after};
+ghost use Rattle.flight.specs.Table.{AreInTime, AreTimely, CountsOneMore, FreesKey, HaveLeft, OneMore};
+ghost use Rattle.flight.specs.Waiting.{since_in, time_left};
 
 use crate::asking::Asking;
 use crate::cause::Cause;
@@ -135,7 +135,7 @@ impl<D: Numbered, L: InFlight, C: Clock, G: Rng, K: Client> Table<D, L, C, G, K>
 
     /// Whether a question may begin an exchange beside those under way. They are looked through only if few places are free.
     fn has_place(&self, now: u64, asking: &Asking<G, K>) -> bool
-        ensures { IsTrue result ↔ HasPlace (max now self.now.latest) (origin_in K.network asking.now) self.now.asker
+        ensures { IsTrue result ↔ HasPlaceNow K.network now asking.now self.now.latest self.now.asker
             self.now.jobs.slots self.now.limit }
     {
         let taken = self.jobs.len();
@@ -182,12 +182,10 @@ impl<D: Numbered, L: InFlight, C: Clock, G: Rng, K: Client> Table<D, L, C, G, K>
         requires { WantsSend D.calls D.seen L.hears C.ticks K.since asking.now }
         ensures room { OnOk result (HasRoomFor self.new.jobs 1) }
         ensures queue_room { OnOk result (deque_len self.new.waits < deque_capacity self.new.waits) }
-        ensures may_begin { OnOk result (MayBegin (max now self.old.latest) (origin_in K.network asking.now) self.new.asker
-            (kept_in asking.now.task.steps.items) self.old.jobs.slots self.old.limit) }
-        ensures refused { IfErr result (λ cause. (cause.why ≡ TooMany
-            → ¬ (HasPlace (max now self.old.latest) (origin_in K.network asking.now) self.new.asker self.old.jobs.slots self.old.limit))
-            × (cause.why ≡ TooLong → asking.now.began + LAST_BEGINNING < max now self.old.latest)
-            × (cause.why ≡ TooLarge → KeepsTooMuch (kept_in asking.now.task.steps.items) self.old.jobs.slots)) }
+        ensures may_begin { OnOk result (MayBeginNow K.network now asking.now self.old.latest self.new.asker
+            self.old.jobs.slots self.old.limit) }
+        ensures refused { IfErr result (IsShown K.network now asking.now self.old.latest self.new.asker
+            self.old.jobs.slots self.old.limit) }
         ensures takes { IfOk result (λ room. (room.octets ≡ octets.now) × (room.kept ≡ kept_in asking.now.task.steps.items)) }
         ensures jobs { self.new.jobs.slots ≡ self.old.jobs.slots }
         ensures waits { self.new.waits.items ≡ self.old.waits.items }
@@ -280,8 +278,7 @@ impl<D: Numbered, L: InFlight, C: Clock, G: Rng, K: Client> Table<D, L, C, G, K>
     pub(crate) fn next_due(&self, now: u64) -> Option<Wait>
         ensures first_due { IfSome result (IsFirstDue PATIENCE now self.now.waits.items) }
         ensures none { result ≡ None → (key since : ℕ) → since_in self.now.jobs.slots key ≡ Some since → now < since + PATIENCE }
-        ensures timely { result ≡ None → (key : ℕ) (exchange : UnderWay) → get self.now.jobs key ≡ Some exchange
-            → now < exchange.origin.began + QUESTION_PATIENCE }
+        ensures timely { result ≡ None → AreTimely QUESTION_PATIENCE now self.now.jobs.slots }
     {
         let wait = *self.waits.front()?;
         if now.saturating_sub(wait.since) < PATIENCE {
@@ -351,8 +348,7 @@ impl<D: Numbered, L: InFlight, C: Clock, G: Rng, K: Client> Table<D, L, C, G, K>
     pub(crate) fn next_expiry(&self, now: u64) -> Option<u64>
         ensures first { result ≡ time_left PATIENCE now (map (λ wait. wait.since) self.now.waits.items) }
         ensures idle { result ≡ None → slab_len self.now.jobs ≡ 0 }
-        ensures soon { IfSome result (λ left. (left ≡ 0)
-            ⊎ ((key since : ℕ) → since_in self.now.jobs.slots key ≡ Some since → now + left ≤ since + PATIENCE)) }
+        ensures soon { IfSome result (HaveLeft PATIENCE now self.now.jobs.slots) }
     {
         let wait = self.waits.front()?;
         Some(PATIENCE.saturating_sub(now.saturating_sub(wait.since)))

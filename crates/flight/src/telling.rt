@@ -1,17 +1,16 @@
 //! The reply to a client.
 
-ghost use Rattle.std.specs.Prelude.{◌≡◌, ◌≢◌, List, Option, Some, length, ℕ};
+ghost use Rattle.std.specs.Prelude.{◌≡◌, ◌≢◌, Some, length};
 ghost use Rattle.dns_wire.specs.declared.server.query.Asked.TheVariants.{Fault, Good};
 ghost use Rattle.dns_wire.specs.Server.Asking.{AsksFor};
 ghost use Rattle.front_workers.specs.Serves.{fault_octets};
 ghost use Rattle.iterate.specs.declared.answer.Answer.TheVariants.{Silent};
 ghost use Rattle.iterate.specs.Told.{IsFit};
 ghost use Rattle.flight.specs.Asking.{IsAskedBy};
-ghost use Rattle.flight.specs.Clients.{Settles};
+ghost use Rattle.flight.specs.Clients.{Settles, SettlesBy};
 ghost use Rattle.flight.specs.Flight.{Lands};
 ghost use Rattle.flight.specs.Leaving.{Ends};
 ghost use Rattle.flight.specs.Waiting.{IsAccounted};
-ghost use Rattle.flight.specs.Told.{IsGiven};
 
 use crate::asking::Asking;
 use crate::cause::Cause;
@@ -89,8 +88,7 @@ fn tell_reply<D: Numbered, L: InFlight, C: Clock, K: Client, O: Outside<D, L, C,
     requires lands { Lands D.calls D.seen L.hears C.ticks (K.since client) (O.server_port outside.old) query.now.question answer.now }
     requires fit { IsFit answer.now }
     requires loud { answer.now ≢ Silent }
-    ensures { (reply : Option (List ℕ)) × IsGiven (K.over client) octets.now query.now answer.now reply
-        × Settles O.server_port O.counts O.outbox O.posts client reply outside.old outside.new }
+    ensures { SettlesBy K.over O.server_port O.counts O.outbox O.posts client octets.now query.now answer.now outside.old outside.new }
 {
     let over = client.over();
     let buffer = outside.buffer();
@@ -114,8 +112,7 @@ pub(crate) fn tell<D: Numbered, L: InFlight, C: Clock, K: Client, O: Outside<D, 
     requires good { AsksFor octets.now (Good query.now) }
     requires lands { Lands D.calls D.seen L.hears C.ticks (K.since client) (O.server_port outside.old) query.now.question answer.now }
     requires fit { IsFit answer.now }
-    ensures { (reply : Option (List ℕ)) × IsGiven (K.over client) octets.now query.now answer.now reply
-        × Settles O.server_port O.counts O.outbox O.posts client reply outside.old outside.new }
+    ensures { SettlesBy K.over O.server_port O.counts O.outbox O.posts client octets.now query.now answer.now outside.old outside.new }
 {
     match answer {
         Answer::Silent => outside.pass_over(client, octets),
