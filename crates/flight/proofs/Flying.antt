@@ -97,11 +97,6 @@ module _ {D C : Type 0} {calls : Calls D} {seen : D → ℕ} {hears : Hears} {ti
       → asked ≡ query_to server over query → IsOpen calls seen hears ticks since port question steps (Send server over query) n → Awaits calls seen hears ticks since port question steps asked n
   awaits_at {steps = steps} {n = n} same is = subst (λ (q : Sent). Awaits calls seen hears ticks since port question steps q n) (sym same) is
 
-  -- The task wants to send a query.
-  pub sends_at : {steps : List Step} {n : ℕ} {server : Addr} {over : Over} {query : List ℕ}
-      → IsOpen calls seen hears ticks since port question steps (Send server over query) n → (asked : Sent) × Awaits calls seen hears ticks since port question steps asked n
-  sends_at {server = server} {over = over} {query = query} is = (query_to server over query, is)
-
   -- The task answers, where this is the port of name servers.
   pub lands_at : {steps : List Step} {n port' : ℕ} {answer : Answer}
       → port ≡ port' → IsOpen calls seen hears ticks since port question steps (Finish answer) n → Lands calls seen hears ticks since port' question answer

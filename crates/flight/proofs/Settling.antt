@@ -5,7 +5,7 @@ use Rattle.flight.specs.Bounds.{kept_all, kept_by}
 use Rattle.flight.specs.Clients.{LosesNone, Settles, SettlesOrWaits}
 use Rattle.flight.specs.Counted.{CountsSettled}
 use Rattle.std.specs.Prelude.{slice_index_or, None}
-use Rattle.flight.specs.Leaving.{End, Leaves}
+use Rattle.flight.specs.Leaving.{AllLeave, End, Leaves}
 use Rattle.flight.specs.Origin.{Origin}
 use Rattle.flight.specs.Told.{Keeps}
 use Rattle.flight.specs.Waiting.{FlightState, IsAccounted, UnderWay, exchange_at, outstanding}
@@ -90,6 +90,31 @@ said_less {now = now} {of = of} {of' = of'} {flight = flight} {flight' = flight'
   bounded = is.bounded;
   limit = is.limit;
 }
+
+-- The same where nothing was told or counted before, and nothing in flight has changed.
+pub settles_later : {W O K : Type 0} {sends : K → List ℕ → Type 0} {server_port : W → ℕ} {counts : W → Counts} {outbox : W → O} {posts : O → K → List ℕ → O → Type 0} {client : K} {now : ℕ} {of : Origin → Type 0}
+    (flight before flight' : FlightState) (old mid new : W)
+    → Keeps server_port outbox old mid → counts mid ≡ counts old → before ≡ flight → SettlesOrWaits sends server_port counts outbox posts now client of before mid flight' new → SettlesOrWaits sends server_port counts outbox posts now client of flight old flight' new
+settles_later {O = O} {sends = sends} {server_port = server_port} {counts = counts} {outbox = outbox} {posts = posts} {client = client} {now = now} {of = of} flight before flight' old mid new keeps counted same is =
+    let there : SettlesOrWaits sends server_port counts outbox posts now client of flight mid flight' new
+    = subst (λ (was : FlightState). SettlesOrWaits sends server_port counts outbox posts now client of was mid flight' new) same is in
+    record {
+      port = there.port ∙ keeps.port;
+      ends = record {
+        ends = there.ends.ends;
+        left = subst (λ (out : O). AllLeave posts there.ends.ends out (outbox new)) keeps.silent there.ends.left;
+        count = there.ends.count;
+      };
+      own = there.own;
+      accounted = subst (λ (was : Counts). IsAccounted 1 (outstanding flight) was (outstanding flight') (counts new)) counted there.accounted;
+      unheard = there.unheard ∙ ap (λ (c : Counts). c.listened) counted;
+      unexpired = there.unexpired ∙ ap (λ (c : Counts). c.expired) counted;
+      waits = there.waits;
+      within = there.within;
+      places = there.places;
+      bounded = there.bounded;
+      limit = there.limit;
+    }
 
 -- So it is where nothing happened before.
 pub settled_now : {W O K : Type 0} {sends : K → List ℕ → Type 0} {server_port : W → ℕ} {counts : W → Counts} {outbox : W → O} {posts : O → K → List ℕ → O → Type 0} {client : K} {reply : Option (List ℕ)}

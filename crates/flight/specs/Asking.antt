@@ -4,6 +4,7 @@ use Rattle.dns_text.specs.declared.record.Question.{Question}
 use Rattle.dns_wire.specs.declared.server.query.Query.{Query}
 use Rattle.dns_wire.specs.declared.server.query.Asked.TheVariants.{Good}
 use Rattle.dns_wire.specs.Server.Asking.{AsksFor}
+use Rattle.iterate.specs.declared.answer.Answer.{Answer}
 use Rattle.iterate.specs.declared.task.State.{State}
 use Rattle.iterate.specs.declared.want.AskFault.TheVariants.{Desk as DeskRefused}
 use Rattle.iterate.specs.declared.want.Input.{Input}
@@ -21,7 +22,7 @@ use Rattle.flight.specs.declared.asking.Asking.{Asking}
 use Rattle.flight.specs.declared.outside.Listened.{Listened}
 use Rattle.flight.specs.declared.counts.Counts.{Counts}
 use Rattle.flight.specs.Clients.{SettlesOrWaits}
-use Rattle.flight.specs.Flight.{Sent, Hears, Answered, Awaits, Flies}
+use Rattle.flight.specs.Flight.{Sent, Hears, Answered, Awaits, Flies, Lands}
 use Rattle.flight.specs.Origin.{Origin, origin_of}
 use Rattle.flight.specs.Told.{IsOutcome}
 use Rattle.flight.specs.Waiting.{FlightState}
@@ -65,6 +66,10 @@ HasHeardFor calls seen hears ticks since asking heard = HasHeard calls seen hear
 -- The task of a question took its steps, and this input comes next.
 abbrev pub FliesFor : {D C G K : Type 0} → Calls D → (D → ℕ) → Hears → Ticks C → (K → ℕ) → Asking G K → Input → Type 0
 FliesFor calls seen hears ticks since asking input = Flies calls seen hears ticks (since asking.client) asking.port asking.query.question asking.task.steps.items input asking.seen
+
+-- The task of a question ends in this answer, where this is the port of name servers.
+abbrev pub LandsFor : {D C G K : Type 0} → Calls D → (D → ℕ) → Hears → Ticks C → (K → ℕ) → ℕ → Asking G K → Answer → Type 0
+LandsFor calls seen hears ticks since port asking answer = Lands calls seen hears ticks (since asking.client) port asking.query.question answer
 
 -- The client of a question is settled, or waits with it for an exchange that begins now.
 abbrev pub SettlesAsking : {W O G K : Type 0} → (K → List ℕ → Type 0) → (K → ℕ) → (W → ℕ) → (W → Counts) → (W → O) → (O → K → List ℕ → O → Type 0) → ℕ → Asking G K → FlightState → W → FlightState → W → Type 0

@@ -1,13 +1,14 @@
 //! The course of a question from one exchange to the next.
 
-ghost use Rattle.std.specs.Prelude.{◌≡◌, ◌≤◌, ◌+◌};
+ghost use Rattle.std.specs.Prelude.{◌≡◌, ◌≤◌, ◌+◌, None, IfNone, IfSome, OnSome};
 ghost use Rattle.front_workers.specs.Counts.{Rises};
-ghost use Rattle.flight.specs.Asking.{FliesFor, HasHeardFor, IsAskedBy, SettlesAsking};
+ghost use Rattle.flight.specs.Asking.{AwaitsFor, FliesFor, HasHeardFor, IsAskedBy, SettlesAsking};
 ghost use Rattle.flight.specs.declared.outside.Listened.TheVariants.{Anew};
 ghost use Rattle.flight.specs.Bounds.{IsBounded};
 ghost use Rattle.flight.specs.FirstLook.{HearsOut, HeedsLook};
+ghost use Rattle.flight.specs.Flight.{query_to};
 ghost use Rattle.flight.specs.Leaving.{Ends};
-ghost use Rattle.flight.specs.Told.{listened_of};
+ghost use Rattle.flight.specs.Told.{listened_of, Keeps};
 ghost use Rattle.flight.specs.Waiting.{IsAccounted, WaitsFrom, outstanding};
 ghost use Rattle.iterate.specs.declared.want.Want.{Want};
 
@@ -19,9 +20,10 @@ use crate::job::Job;
 use crate::numbered::Numbered;
 use crate::outside::{Client, Outside};
 use crate::refused::{HeardOrRefused, hear};
-use crate::telling::{refuse, tell};
+use crate::telling::{conclude, refuse};
 use clock::Clock;
-use dns_text::Octets;
+use dns_query::Over;
+use dns_text::{Addr, Octets, Shared};
 use iterate::{Allowance, Input, Want, due_law};
 use rand_core::Rng;
 use std::marker::PhantomData;
@@ -146,17 +148,7 @@ impl<D: Numbered, L: InFlight, C: Clock, G: Rng, K: Client> Flight<D, L, C, G, K
                     input = ask_soon::<D, L>(desk, &mut asking.seen, event);
                 }
                 Want::Finish(answer) => {
-                    let Asking {
-                        client,
-                        query,
-                        task,
-                        ..
-                    } = asking;
-                    tell::<D, L, C, K, O>(self.alloc, outside, client, &query, octets, &answer);
-                    // Dropped by calls: the proof then does not follow what these values may hold.
-                    drop(answer);
-                    drop(query);
-                    drop(task);
+                    conclude::<D, L, C, G, K, O>(self.alloc, outside, asking, octets, answer);
                     return;
                 }
                 Want::Send {
@@ -164,36 +156,60 @@ impl<D: Numbered, L: InFlight, C: Clock, G: Rng, K: Client> Flight<D, L, C, G, K
                     over,
                     bytes,
                 } => {
-                    let room = match self.table.make_room(now, &asking, octets) {
-                        Ok(room) => room,
-                        Err(cause) => {
-                            refuse::<D, L, C, G, K, O>(outside, asking, octets, cause);
-                            return;
-                        }
-                    };
-                    let key = self.table.vacant_key();
-                    if let Some(line) = outside.open(
-                        key,
-                        &server,
-                        asking.task.hunt(),
-                        over,
-                        bytes,
-                    ) {
-                        let since = self.table.since(now);
-                        self.table.keep(Job {
-                            asking,
-                            octets: room.octets,
-                            line,
-                            since,
-                            kept: room.kept,
-                            desk: PhantomData,
-                            clock: PhantomData,
-                        });
+                    let Some(unsent) = self.send(outside, now, asking, octets, &server, over, bytes)
+                    else {
                         return;
-                    }
+                    };
+                    asking = unsent;
                     input = Input::Failed;
                 }
             }
         }
+    }
+
+    /// Begins the exchange of a query, and keeps its question, which waits for it. If there is no place for the question, its client gets
+    /// SERVFAIL. Returns the question if the exchange could not begin.
+    fn send<O: Outside<D, L, C, K>>(
+        &mut self,
+        outside: &mut O,
+        now: u64,
+        asking: Asking<G, K>,
+        octets: &[u8],
+        server: &Addr,
+        over: Over,
+        bytes: Shared<Octets>,
+    ) -> Option<Asking<G, K>>
+        requires asked { IsAskedBy K.sent asking.port octets.now asking.client asking.query asking.task }
+        requires awaits { AwaitsFor D.calls D.seen L.hears C.ticks K.since asking (query_to server.now over bytes) }
+        ensures settles { IfNone result (SettlesAsking K.sent K.network O.server_port O.counts O.outbox O.posts now asking
+            self.old outside.old self.new outside.new) }
+        ensures unsent { IfSome result (λ unsent. unsent ≡ asking) }
+        ensures failed { OnSome result (L.hears (query_to server.now over bytes) None) }
+        ensures same { OnSome result (self.new ≡ self.old) }
+        ensures counts { OnSome result (O.counts outside.new ≡ O.counts outside.old) }
+        ensures keeps { OnSome result (Keeps O.server_port O.outbox outside.old outside.new) }
+    {
+        let room = match self.table.make_room(now, &asking, octets) {
+            Ok(room) => room,
+            Err(cause) => {
+                refuse::<D, L, C, G, K, O>(outside, asking, octets, cause);
+                return None;
+            }
+        };
+        let key = self.table.vacant_key();
+        let Some(line) = outside.open(key, server, asking.task.hunt(), over, bytes) else {
+            return Some(asking);
+        };
+        let since = self.table.since(now);
+        self.table.keep(Job {
+            asking,
+            octets: room.octets,
+            line,
+            since,
+            kept: room.kept,
+            desk: PhantomData,
+            clock: PhantomData,
+        });
+        None
     }
 }

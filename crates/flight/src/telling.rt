@@ -6,7 +6,7 @@ ghost use Rattle.dns_wire.specs.Server.Asking.{AsksFor};
 ghost use Rattle.front_workers.specs.Serves.{fault_octets};
 ghost use Rattle.iterate.specs.declared.answer.Answer.TheVariants.{Silent};
 ghost use Rattle.iterate.specs.Told.{IsFit};
-ghost use Rattle.flight.specs.Asking.{IsAskedBy};
+ghost use Rattle.flight.specs.Asking.{IsAskedBy, LandsFor};
 ghost use Rattle.flight.specs.Clients.{Settles, SettlesBy};
 ghost use Rattle.flight.specs.Flight.{Lands};
 ghost use Rattle.flight.specs.Leaving.{Ends};
@@ -97,6 +97,33 @@ fn tell_reply<D: Numbered, L: InFlight, C: Clock, K: Client, O: Outside<D, L, C,
         Ok(None) => outside.pass_over(client, octets),
         Err(refused) => outside.fail(client, octets, Cause::no_memory(refused)),
     }
+}
+
+/// Sends the client of a question its answer, and ends the question.
+pub(crate) fn conclude<
+    D: Numbered,
+    L: InFlight,
+    C: Clock,
+    G: Rng,
+    K: Client,
+    O: Outside<D, L, C, K>,
+>(alloc: Global, outside: &mut O, asking: Asking<G, K>, octets: &[u8], answer: Answer)
+    requires asked { IsAskedBy K.sent asking.port octets.now asking.client asking.query asking.task }
+    requires lands { LandsFor D.calls D.seen L.hears C.ticks K.since (O.server_port outside.old) asking answer }
+    requires fit { IsFit answer }
+    ensures { SettlesBy K.over O.server_port O.counts O.outbox O.posts asking.client octets.now asking.query answer outside.old outside.new }
+{
+    let Asking {
+        client,
+        query,
+        task,
+        ..
+    } = asking;
+    tell::<D, L, C, K, O>(alloc, outside, client, &query, octets, &answer);
+    // Dropped by calls: the proof then does not follow what these values may hold.
+    drop(answer);
+    drop(query);
+    drop(task);
 }
 
 /// Sends a client the answer to its question, or nothing if the answer is silence.

@@ -1,7 +1,6 @@
-use Rattle.std.proofs.Common.{◌≡◌, ◌≤◌, map}
+use Rattle.std.proofs.Common.{◌≡◌, ◌≤◌}
 use Rattle.iterate.specs.Measure.{left_in}
-use Rattle.flight.specs.Asking.{origin_in, IsAskedBy}
-use Rattle.flight.specs.Flight.{Flies}
+use Rattle.flight.specs.Asking.{origin_in, FliesFor, IsAskedBy}
 use Rattle.flight.specs.Told.{Keeps}
 use Rattle.flight.proofs.engine.Flight.drive.Given as goal
 
@@ -9,17 +8,14 @@ use Rattle.flight.proofs.engine.Flight.drive.Given as goal
 abbrev pub invariant-loop-want : goal.invariant-loop-want
 invariant-loop-want g l = record {
   asked : IsAskedBy g.K.Client.sent l.asking.port l.octets l.asking.client l.asking.query l.asking.task;
-  flies : Flies g.D.Desk.calls g.D.Numbered.seen g.L.InFlight.hears g.C.Clock.ticks (g.K.Client.since l.asking.client) l.asking.port l.asking.query.question l.asking.task.steps.items l.input l.asking.seen;
+  flies : FliesFor g.D.Desk.calls g.D.Numbered.seen g.L.InFlight.hears g.C.Clock.ticks g.K.Client.since l.asking l.input;
   port : l.asking.port ≡ g.O.Outside.server_port l.outside;
   known : l.asking.seen ≤ g.D.Numbered.seen l.desk;
   client_kept : l.asking.client ≡ l.fn.asking.client;
   origin_kept : origin_in g.K.Client.network l.asking ≡ origin_in g.K.Client.network l.fn.asking;
   keeps : Keeps g.O.Outside.server_port g.O.Outside.outbox l.fn.outside l.outside;
   counts_kept : g.O.Outside.counts l.outside ≡ g.O.Outside.counts l.fn.outside;
-  exchanges_kept : l.self-inside.table.jobs.slots ≡ l.fn.self.exchanges;
-  begun_kept : map (λ wait. wait.since) l.self-inside.table.waits.items ≡ l.fn.self.begun;
-  latest_kept : l.self-inside.table.latest ≡ l.fn.self.latest;
-  limit_kept : l.self-inside.table.limit ≡ l.fn.self.limit;
+  same : l.self ≡ l.fn.self;
 }
 
 abbrev pub decreases-loop-want : goal.decreases-loop-want
