@@ -229,7 +229,111 @@ fn opening_of(alloc: Global, settings: &Settings, seed: NameSeed) -> Result<Serv
     }
 }
 
-/// Serves until an operator sends `stop`.
+/// The service's book, which shows its figures, and an opening book to it. Both have taken no event.
+fn new_books<R: RandomSource>(
+    rt: &R,
+    alloc: Global,
+    settings: Settings,
+    figures: &Shared<BookFigures>,
+) -> Result<(ServiceBook, ServiceBook), CliFault>
+    ensures { IfOk result (λ b. CanShare ⟦<WatchedBook<ShelfBook> as Book>⟧.stands_for ⟦<WatchedBook<ShelfBook> as Book>⟧.settings b.0 b.1) }
+{
+    let seed = drawn_seed(rt)?;
+    let Ok(figures) = figures.share() else {
+        return Err(CliFault::no_memory());
+    };
+    // The settings are in range, so only memory can be short.
+    let opening = opening_of(alloc, &settings, drawn_seed(rt)?)?;
+    let Ok(book) = ShelfBook::seeded(alloc, settings, seed) else {
+        return Err(CliFault::no_memory());
+    };
+    Ok((WatchedBook::new(alloc, book, figures), opening))
+}
+
+/// The permits of name servers and the shares of zones, for a cache of so many cells.
+fn new_limits<R: RandomSource>(
+    rt: &R,
+    alloc: Global,
+    cells: usize,
+) -> Result<(Permits, ZoneShares), CliFault> {
+    let Ok(permits) = Permits::new(alloc, drawn_seed(rt)?) else {
+        return Err(CliFault::no_memory());
+    };
+    let Ok(shares) = ZoneShares::new(alloc, cells, drawn_seed(rt)?) else {
+        return Err(CliFault::no_memory());
+    };
+    Ok((permits, shares))
+}
+
+/// The instant at which a service starts.
+fn start_of<R: Clock>(rt: &R) -> Result<Instant, CliFault> {
+    match Instant::now(rt) {
+        Ok(start) => Ok(start),
+        Err(_) => Err(CliFault::cannot_start()),
+    }
+}
+
+/// Serves at these sockets until an operator sends `stop`.
+fn serve_at<R, F: Files>(
+    rt: &R,
+    files: &F,
+    alloc: Global,
+    service: Service,
+    bound: Bound,
+    gauges: &Gauges,
+) -> Result<(), CliFault>
+where
+    R: Threads
+        + Wait
+        + Clock
+        + Log
+        + Print
+        + RandomSource
+        + Sync
+        + Net<Stream = TcpStream, Listener = TcpListener>,
+    requires { IsService service }
+{
+    let start = start_of(rt)?;
+    let (permits, zone_shares) = new_limits(rt, alloc, service.settings.cells)?;
+    // Moved out of the settings, since the terms borrow it while others are moved.
+    let do_not_query = service.do_not_query;
+    let (udp, tcp) = (service.udp, service.tcp);
+    let shares = share_descriptors(alloc, &bound.sockets.control, udp, tcp)?;
+    let terms = Terms {
+        place: place_of(&service.listen),
+        udp,
+        tcp,
+        seed: service.seed,
+        shares,
+        asking: AskingTerms {
+            server_port: service.settings.server_port,
+            do_not_query: do_not_query.as_slice(),
+            permits: &permits,
+            shares: &zone_shares,
+            renewals: &gauges.book.get().renewals,
+        },
+        start,
+    };
+    let record_limit = service.record_limit;
+    let (book, opening) = new_books(rt, alloc, service.settings, &gauges.book)?;
+    let stop = AtomicBool::new(false);
+    serve_over::<Brand, R, F>(
+        rt,
+        files,
+        alloc,
+        Blank::new(PARTS),
+        book,
+        opening,
+        record_limit,
+        terms,
+        gauges,
+        &stop,
+        bound,
+        &service.commands,
+    )
+}
+
+/// Binds the sockets, and serves until an operator sends `stop`.
 fn serve<R, F: Files>(rt: &R, files: &F, alloc: Global, service: Service) -> Result<(), CliFault>
 where
     R: Threads
@@ -251,64 +355,10 @@ where
         service.tcp,
         service.backlog,
     )?;
-    let Ok(start) = Instant::now(rt) else {
-        return Err(CliFault::cannot_start());
-    };
-    let Ok(permits) = Permits::new(alloc, drawn_seed(rt)?) else {
-        return Err(CliFault::no_memory());
-    };
-    let Ok(zone_shares) = ZoneShares::new(alloc, service.settings.cells, drawn_seed(rt)?) else {
-        return Err(CliFault::no_memory());
-    };
     let Ok(gauges) = Gauges::new(alloc, service.udp, service.tcp, &service.settings) else {
         return Err(CliFault::no_memory());
     };
-    // Moved out of the settings, since the terms borrow it while others are moved.
-    let do_not_query = service.do_not_query;
-    let (udp, tcp) = (service.udp, service.tcp);
-    let shares = share_descriptors(alloc, &bound.sockets.control, udp, tcp)?;
-    let terms = Terms {
-        place: place_of(&service.listen),
-        udp,
-        tcp,
-        seed: service.seed,
-        shares,
-        asking: AskingTerms {
-            server_port: service.settings.server_port,
-            do_not_query: do_not_query.as_slice(),
-            permits: &permits,
-            shares: &zone_shares,
-            renewals: &gauges.book.get().renewals,
-        },
-        start,
-    };
-    let record_limit = service.record_limit;
-    let seed = drawn_seed(rt)?;
-    let Ok(figures) = gauges.book.share() else {
-        return Err(CliFault::no_memory());
-    };
-    // The settings are in range, so only memory can be short.
-    let opening = opening_of(alloc, &service.settings, drawn_seed(rt)?)?;
-    let Ok(book) = ShelfBook::seeded(alloc, service.settings, seed) else {
-        return Err(CliFault::no_memory());
-    };
-    let book = WatchedBook::new(alloc, book, figures);
-    let blank = Blank::new(PARTS);
-    let stop = AtomicBool::new(false);
-    serve_over::<Brand, R, F>(
-        rt,
-        files,
-        alloc,
-        blank,
-        book,
-        opening,
-        record_limit,
-        terms,
-        &gauges,
-        &stop,
-        bound,
-        &service.commands,
-    )
+    serve_at(rt, files, alloc, service, bound, &gauges)
 }
 
 /// Serves until an operator sends `stop`, with its log on standard error.
@@ -325,9 +375,7 @@ where
         + Net<Stream = TcpStream, Listener = TcpListener>,
     requires { IsService service }
 {
-    let Ok(start) = Instant::now(rt) else {
-        return Err(CliFault::cannot_start());
-    };
+    let start = start_of(rt)?;
     let Ok(log) = ServiceLog::new(rt, alloc, start) else {
         return Err(CliFault::no_memory());
     };

@@ -1,4 +1,4 @@
-use Rattle.resolver_cli.proofs.service.serve.Given as goal
+use Rattle.resolver_cli.proofs.service.serve_at.Given as goal
 
 abbrev pub ghosts-serve_over-L-Ledger : goal.ghosts-serve_over-L-Ledger
 ghosts-serve_over-L-Ledger g a = record { name = a.blank.name; parts = a.blank.parts }
