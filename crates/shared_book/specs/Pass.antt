@@ -35,7 +35,7 @@ pub record IsJoined (all : ℕ) (first second joined : PassState) : Type 0 where
   pub within : first.parts + second.parts ≤ all
 
 -- what a split found that counts no caller more
-pub record EndedState : Type 0 where
+pub record SplitState : Type 0 where
   pub parts : ℕ  -- the parts of the pass
   pub callers : ℕ  -- how many callers were numbered
 

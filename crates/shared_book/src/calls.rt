@@ -6,7 +6,7 @@ ghost use Rattle.history.specs.Desk.{IsStep as IsBookStep};
 ghost use Rattle.shared_book.specs.Kept.{HasFreeRoom, IsFreeCall, IsKept, IsKeptAs};
 ghost use Rattle.shared_book.specs.Calling.{IsCall, IsUnsplit};
 
-use crate::fault::{CallFault, Ended, SplitFault};
+use crate::fault::{CallFault, SplitFault, SplitFound};
 use crate::kept::Kept;
 use crate::ledger::CallLedger;
 use crate::pass::Pass;
@@ -50,7 +50,7 @@ impl<B: Book, L: CallLedger> Kept<B, L> {
         ensures err { OnErr result ((self.new ≡ self.old) × (pass.new ≡ pass.old)) }
     {
         if pass.parts() < 2 || self.callers.count() >= 1 << 62 {
-            return Err(SplitFault::CountEnded(Ended::of(self, pass)));
+            return Err(SplitFault::CountEnded(SplitFound::of(self, pass)));
         }
         Ok(pass.halve(self.callers.next()))
     }

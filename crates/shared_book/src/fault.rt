@@ -25,33 +25,33 @@ pub enum CallFault {
 pub enum SplitFault {
     /// It has one part left, or caller numbers have run out.
     #[error("no more callers are counted")]
-    CountEnded(Ended),
+    CountEnded(SplitFound),
 }
 
-/// What a split found under the lock: the parts of its pass, and how many callers were numbered. Only `Ended::of` makes one, and requires
-/// that no caller more is counted.
+/// What a split found under the lock: the parts of its pass, and how many callers were numbered. Only `SplitFound::of` makes one, and
+/// requires that no caller more is counted.
 #[derive(Debug, Drop)]
-pub struct Ended {
+pub struct SplitFound {
     parts: u64,
     callers: u64,
 }
 
-impl Model for Ended {
-    ghost use Rattle.shared_book.specs.Pass.{EndedState};
+impl Model for SplitFound {
+    ghost use Rattle.shared_book.specs.Pass.{SplitState};
 
-    ghost Value = { EndedState };
+    ghost Value = { SplitState };
 
-    ghost view = { λ ended. record { parts = ended.parts; callers = ended.callers } };
+    ghost view = { λ found. record { parts = found.parts; callers = found.callers } };
 }
 
-impl Ended {
+impl SplitFound {
     /// A pass has one part, or as many callers were numbered as there may be.
-    pub(crate) fn of<B: Book, L: CallLedger>(kept: &Kept<B, L>, pass: &Pass<L>) -> Ended
+    pub(crate) fn of<B: Book, L: CallLedger>(kept: &Kept<B, L>, pass: &Pass<L>) -> SplitFound
         requires { (pass.now.parts ≡ 1) ⊎ (2 ^ 62 ≤ kept.now.callers) }
         ensures parts { result.parts ≡ pass.now.parts }
         ensures ended { (result.parts ≡ 1) ⊎ (2 ^ 62 ≤ result.callers) }
     {
-        Ended {
+        SplitFound {
             parts: pass.parts(),
             callers: kept.callers.count(),
         }

@@ -37,7 +37,7 @@ mod shared;
 mod seat;
 
 pub use close::NotClosed;
-pub use fault::{CallFault, CloseFault, Ended, SplitFault};
+pub use fault::{CallFault, CloseFault, SplitFault, SplitFound};
 pub use kept::{Kept, MOST_RECORDED};
 pub use laws::{limits_law, one_history, one_verdict};
 pub use ledger::{Blank, CallLedger};
