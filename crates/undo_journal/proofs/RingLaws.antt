@@ -3,7 +3,6 @@ use Rattle.std.proofs.Common.{◌≡◌, ◌≢◌, ◌⊎◌, inl, inr, ℕ, ze
 use Rattle.std.specs.Prelude.{slice_get, slice_set, Result, Ok, Err, OnErr, filter, not, ◌==◌, ◌&&◌, ◌||◌, if◌then◌else◌}
 use Rattle.std.specs.List.{AllByRecursion, list_any}
 use Rattle.std.proofs.lemmas.Bool.{cases_Bool, eq-eqb, eqb-true, false≢true}
-use Rattle.std.proofs.lemmas.Bool.Decides.{nat_tests}
 use Rattle.std.proofs.lemmas.List.Folds.{list_any-append}
 use Rattle.dns_name.specs.ListLaws.{all-append, all_split, all_weaker}
 use Rattle.change_law.specs.declared.kept.KeptChange.{KeptChange}
@@ -13,6 +12,7 @@ use Rattle.change_law.specs.ChoiceLaws.{same_number, other_number}
 use Rattle.change_law.specs.Face.{Face}
 use Rattle.change_law.specs.Row.{kept_as, IsRowAfter}
 use Rattle.undo_journal.specs.Journal.{AreAscending, AreDifferent, is_among, is_before, without}
+pub use Rattle.undo_journal.specs.TicketLaws.{all_among, all_back, all_both, all_filter, all_images, among_without, map_length}
 
 -- ---- lists
 
@@ -56,32 +56,10 @@ pub map_append : {X Y : Type 0} (f : X → Y) (xs ys : List X) → map f (xs ++ 
 map_append f [] ys = refl
 map_append f (x ∷ xs) ys = ap (λ l. f x ∷ l) (map_append f xs ys)
 
-pub map_length : {X Y : Type 0} (f : X → Y) (xs : List X) → length (map f xs) ≡ length xs
-map_length f [] = refl
-map_length f (x ∷ xs) = ap suc (map_length f xs)
-
 pub never_past : {X : Type 0} (xs : List X) (n : ℕ) → n < length xs → slice_get xs n ≡ None → ⊥
 never_past [] n within e = absurd (omega arith)
 never_past (x ∷ xs) zero within e = absurd (search rules)
 never_past (x ∷ xs) (suc n) within e = never_past xs n (omega arith) e
-
--- Two properties of all items give a third.
-pub all_both : {X : Type 0} (P Q R : X → Type 0) → ((x : X) → P x → Q x → R x) → (xs : List X) → AllByRecursion P xs → AllByRecursion Q xs → AllByRecursion R xs
-all_both P Q R f [] p q = tt
-all_both P Q R f (x ∷ xs) p q = (f x p.0 q.0, all_both P Q R f xs p.1 q.1)
-
--- If all images have a property, all items have it of their image.
-pub all_back : {X Y : Type 0} (f : X → Y) (P : Y → Type 0) (xs : List X) → AllByRecursion P (map f xs) → AllByRecursion (λ x. P (f x)) xs
-all_back f P [] h = tt
-all_back f P (x ∷ xs) h = (h.0, all_back f P xs h.1)
-
-pub all_images : {X Y : Type 0} (f : X → Y) (P : Y → Type 0) (xs : List X) → AllByRecursion (λ x. P (f x)) xs → AllByRecursion P (map f xs)
-all_images f P [] h = tt
-all_images f P (x ∷ xs) h = (h.0, all_images f P xs h.1)
-
-pub all_filter : {X : Type 0} (P : X → Type 0) (p : X → Bool) (xs : List X) → AllByRecursion P xs → AllByRecursion P (filter p xs)
-all_filter P p [] h = tt
-all_filter P p (x ∷ xs) h = elim (cases_Bool (p x)) [ inl yes' ↦ rw yes' (h.0, all_filter P p xs h.1) | inr no' ↦ rw no' (all_filter P p xs h.1) ]
 
 -- what a filter leaves passes it
 pub all_pass : {X : Type 0} (p : X → Bool) (xs : List X) → AllByRecursion (λ x. p x ≡ true) (filter p xs)
@@ -138,35 +116,11 @@ among_push_here (x ∷ xs) t = or_right (x == t) (is_among (xs ++ t ∷ []) t) (
 pub among_more : (xs : List ℕ) (t u : ℕ) → is_among xs u ≡ true → is_among (xs ++ t ∷ []) u ≡ true
 among_more xs t u e = list_any-append (λ s. s == u) xs (t ∷ []) ∙ or_left (is_among xs u) (is_among (t ∷ []) u) e
 
--- what is among these, when one is left out
-pub among_without : (xs : List ℕ) (t u : ℕ) → is_among (without t xs) u ≡ (if u == t then false else is_among xs u)
-among_without [] t u = elim (cases_Bool (u == t)) [ inl same ↦ rw same refl | inr apart ↦ rw apart refl ]
-among_without (x ∷ xs) t u =
-    elim (cases_Bool (x == t)) [
-      | inl here ↦
-          rw here (among_without xs t u ∙
-          elim (cases_Bool (u == t)) [
-            | inl same ↦ rw same refl
-            | inr apart ↦ let other : (x == u) ≡ false = grind (arith, nat_tests) in rw (apart, other) refl
-          ])
-      | inr there ↦
-          rw there (ap (λ (b : Bool). (x == u) || b) (among_without xs t u) ∙
-          elim (cases_Bool (u == t)) [
-            | inl same ↦ let other : (x == u) ≡ false = grind (arith, nat_tests) in rw (same, other) refl
-            | inr apart ↦ rw apart refl
-          ])
-    ]
-
 pub among_without_other : (xs : List ℕ) (t u : ℕ) → (u == t) ≡ false → is_among (without t xs) u ≡ is_among xs u
 among_without_other xs t u apart = among_without xs t u ∙ ap (λ (b : Bool). if b then false else is_among xs u) apart
 
 pub among_without_here : (xs : List ℕ) (t : ℕ) → is_among (without t xs) t ≡ false
 among_without_here xs t = among_without xs t t ∙ ap (λ (b : Bool). if b then false else is_among xs t) (same_number t)
-
--- what all have, one of them has
-pub all_among : (P : ℕ → Type 0) (xs : List ℕ) (t : ℕ) → AllByRecursion P xs → is_among xs t ≡ true → P t
-all_among P [] t h e = absurd (false≢true e)
-all_among P (x ∷ xs) t h e = elim (or_cases (x == t) (is_among xs t) e) [ inl same ↦ subst P (eqb-true x t same) h.0 | inr more ↦ all_among P xs t h.1 more ]
 
 pub different_push : (xs : List ℕ) (t : ℕ) → AreDifferent xs → is_among xs t ≡ false → AreDifferent (xs ++ t ∷ [])
 different_push [] t h none = (refl, tt)

@@ -16,8 +16,8 @@ use Rattle.change_law.specs.Row.{kept_as, IsRowAfter, same_face}
 use Rattle.undo_journal.specs.Journal.{AreAscending, AreChanges, AreInTurn, Changes, IsClosed, in_effect, out_of_effect, standing_in, tickets_of}
 use Rattle.undo_journal.specs.Settling.{IsTurned, TurnsFirst}
 use Rattle.undo_journal.proofs.RingLaws.{Done≢Undone, all_back, all_both, all_filter, all_images, all_pass, length_filter}
-use Rattle.undo_journal.proofs.MoveLaws.{done_standing}
 use Rattle.undo_journal.proofs.ReachLaws.{drop_at}
+pub use Rattle.undo_journal.specs.TicketLaws.{all_in_effect, in_effect_done}
 
 pub same_then : {T : Type 0} {a b c : Face T} → IsSame a b → IsSame b c → IsSame a c
 same_then f g = record { tables = f.tables ∙ g.tables; cell = λ q. f.cell q ∙ g.cell q }
@@ -382,13 +382,6 @@ module _ {W S T : Type 0} (table : S → Option ℕ) (keeps : W → List (KeptCh
 -- ---- all in effect
 
 module _ {S : Type 0} where
-  pub in_effect_done : (kept : List (KeptChange S)) → AllByRecursion (λ k. k.standing ≡ Done) (in_effect kept)
-  in_effect_done kept = all_weaker (λ k. is_done k.standing ≡ true) (λ k. k.standing ≡ Done) (λ k e. done_standing k.standing e) (in_effect kept) (all_pass (λ k. is_done k.standing) kept)
-
-  pub all_in_effect : (kept : List (KeptChange S)) → AllByRecursion (λ k. k.standing ≡ Done) kept → in_effect kept ≡ kept
-  all_in_effect [] h = refl
-  all_in_effect (k ∷ kept) h = ap (λ (s : Standing). cond (is_done s) (k ∷ in_effect kept) (in_effect kept)) h.0 ∙ ap (λ (l : List (KeptChange S)). k ∷ l) (all_in_effect kept h.1)
-
   pub none_undone_done : (kept : List (KeptChange S)) (undone : List ℕ) → undone ≡ [] → AllByRecursion (λ k. k.standing ≡ standing_in undone k.ticket) kept → AllByRecursion (λ k. k.standing ≡ Done) kept
   none_undone_done kept undone e h = all_weaker _ _ (λ k own. own ∙ ap (λ (l : List ℕ). standing_in l k.ticket) e) kept h
 

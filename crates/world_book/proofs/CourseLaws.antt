@@ -21,6 +21,7 @@ use Rattle.change_law.specs.Effect.{effect}
 use Rattle.change_law.specs.Face.{Face, IsSame, IsSameAt, alive_at, cell_with, face_with, face_without}
 use Rattle.change_law.specs.Row.{IsRowAfter, IsRowFrom, any, same_face, where_chosen}
 use Rattle.undo_journal.specs.Journal.{Changes, AreChanges, IsChange, IsClosed, IsPutBack, IsTakenBack, done_of, in_effect, is_among, newest, out_of_effect, settled_by, standings_of, standings_with, tickets_of}
+use Rattle.undo_journal.specs.TicketLaws.{all_among, all_back, all_both, all_filter, all_images, all_in_effect, in_effect_done, map_length}
 use Rattle.world_book.specs.Course.{Deed, Came, Forgot, Made, face_after, face_by, AreAscending, IsFair, Stands, struck_with, struck_without}
 
 -- ---- cells where they are alive
@@ -107,15 +108,6 @@ fold_push f a (y ∷ xs) x = fold_push f (f a y) xs x
 
 -- ---- tickets
 
--- If all images have a property, all items have it of their image.
-pub all_back : {X Y : Type 0} (f : X → Y) (P : Y → Type 0) (xs : List X) → AllByRecursion P (map f xs) → AllByRecursion (λ x. P (f x)) xs
-all_back f P [] h = tt
-all_back f P (x ∷ xs) h = (h.0, all_back f P xs h.1)
-
-pub all_images : {X Y : Type 0} (f : X → Y) (P : Y → Type 0) (xs : List X) → AllByRecursion (λ x. P (f x)) xs → AllByRecursion P (map f xs)
-all_images f P [] h = tt
-all_images f P (x ∷ xs) h = (h.0, all_images f P xs h.1)
-
 -- The front of an ascending list ascends.
 pub asc_front : (xs ys : List ℕ) → AreAscending (xs ++ ys) → AreAscending xs
 asc_front [] ys h = tt
@@ -151,11 +143,6 @@ asc_cross (x ∷ xs) ys h = both ys (all_split (λ t. x < t) xs ys h.0).1 (asc_c
     both [] a b = tt
     both (y ∷ ys) a b = ((a.0, b.0), both ys a.1 b.1)
 
--- Two properties of all items give a third.
-pub all_both : {X : Type 0} (P Q R : X → Type 0) → ((x : X) → P x → Q x → R x) → (xs : List X) → AllByRecursion P xs → AllByRecursion Q xs → AllByRecursion R xs
-all_both P Q R f [] p q = tt
-all_both P Q R f (x ∷ xs) p q = (f x p.0 q.0, all_both P Q R f xs p.1 q.1)
-
 -- The first images are the images of the first items.
 pub take_map : {X Y : Type 0} (f : X → Y) (n : ℕ) (xs : List X) → map f (take n xs) ≡ take n (map f xs)
 take_map f zero xs = refl
@@ -185,11 +172,6 @@ pub length_taken : {X : Type 0} (n : ℕ) (xs : List X) → n ≤ length xs → 
 length_taken zero xs within = refl
 length_taken (suc n) [] within = absurd (omega arith)
 length_taken (suc n) (x ∷ xs) within = ap suc (length_taken n xs (omega arith))
-
--- A map keeps the length.
-pub map_length : {X Y : Type 0} (f : X → Y) (xs : List X) → length (map f xs) ≡ length xs
-map_length f [] = refl
-map_length f (x ∷ xs) = ap suc (map_length f xs)
 
 -- A Boolean is true or false.
 pub is_or_not : (b : Bool) → (b ≡ true) ⊎ (b ≡ false)
@@ -221,23 +203,6 @@ is_cleared s = false
 -- ---- the kept changes
 
 module _ {S : Type 0} where
-  pub all_filter : (P : KeptChange S → Type 0) (p : KeptChange S → Bool) (kept : List (KeptChange S)) → AllByRecursion P kept → AllByRecursion P (filter p kept)
-  all_filter P p [] h = tt
-  all_filter P p (k ∷ kept) h = elim (is_or_not (p k)) [ inl yes' ↦ rw yes' (h.0, all_filter P p kept h.1) | inr no' ↦ rw no' (all_filter P p kept h.1) ]
-
-  in_effect_done : (kept : List (KeptChange S)) → AllByRecursion (λ k. k.standing ≡ Done) (in_effect kept)
-  in_effect_done [] = tt
-  in_effect_done (k ∷ kept) = by k.standing refl (in_effect_done kept)
-    where
-      by : (s : Standing) → k.standing ≡ s → AllByRecursion (λ k. k.standing ≡ Done) (in_effect kept) → AllByRecursion (λ k. k.standing ≡ Done) (if is_done s then k ∷ in_effect kept else in_effect kept)
-      by Done e more = (e, more)
-      by Undone e more = more
-      by Cleared e more = more
-
-  all_in_effect : (kept : List (KeptChange S)) → AllByRecursion (λ k. k.standing ≡ Done) kept → in_effect kept ≡ kept
-  all_in_effect [] h = refl
-  all_in_effect (k ∷ kept) h = ap (λ (s : Standing). if is_done s then k ∷ in_effect kept else in_effect kept) h.0 ∙ ap (λ (l : List (KeptChange S)). k ∷ l) (all_in_effect kept h.1)
-
   -- The tickets that are left of an ascending list ascend.
   pub asc_filter : (p : KeptChange S → Bool) (kept : List (KeptChange S)) → AreAscending (tickets_of kept) → AreAscending (tickets_of (filter p kept))
   asc_filter p [] h = tt
@@ -289,15 +254,6 @@ module _ {S : Type 0} where
 pub firsts_with : (t : ℕ) (s : Standing) (standings : List (ℕ × Standing)) → map (λ (one : ℕ × Standing). one.0) (standings_with t s standings) ≡ map (λ (one : ℕ × Standing). one.0) standings
 firsts_with t s [] = refl
 firsts_with t s (one ∷ standings) = ap (λ (l : List ℕ). one.0 ∷ l) (firsts_with t s standings)
-
--- what all have, one of them has
-pub all_among : (P : ℕ → Type 0) (xs : List ℕ) (t : ℕ) → AllByRecursion P xs → is_among xs t ≡ true → P t
-all_among P [] t h e = absurd (false≢true e)
-all_among P (x ∷ xs) t h e =
-    elim (is_or_not (x == t)) [
-      | inl same ↦ subst P (eqb-true x t same) h.0
-      | inr other ↦ all_among P xs t h.1 (sym (ap (λ (b : Bool). b || is_among xs t) other) ∙ e)
-    ]
 
 -- ---- the course goes on
 

@@ -13,7 +13,7 @@ use Rattle.change_law.specs.declared.kept.Standing.TheVariants.{Done, Undone}
 use Rattle.change_law.specs.Choice.{is_done}
 use Rattle.undo_journal.specs.Journal.{Changes, AreChanges, done_of, in_effect, standing_in, tickets_of, told_of}
 use Rattle.world_book.specs.Course.{AreAscending}
-use Rattle.world_book.proofs.CourseLaws.{all_among}
+use Rattle.undo_journal.specs.TicketLaws.{all_among}
 use Rattle.history.specs.declared.event.Command.{Command}
 use Rattle.history.specs.declared.event.Entry.{Entry}
 use Rattle.history.specs.declared.event.Event.{Event}

@@ -12,7 +12,8 @@ use Rattle.change_law.specs.declared.kept.Standing.TheVariants.{Done, Undone}
 use Rattle.change_law.specs.Choice.{is_done}
 use Rattle.undo_journal.specs.Journal.{AreAscending, AreChanges, Changes, IsPutBack, IsTakenBack, done_of, in_effect, is_among, standing_in, standings_of, standings_with, tickets_of}
 use Rattle.world_book.specs.Course.{struck_with, struck_without}
-use Rattle.world_book.proofs.CourseLaws.{all_among, firsts}
+use Rattle.undo_journal.specs.TicketLaws.{all_among, among_without}
+use Rattle.world_book.proofs.CourseLaws.{firsts}
 use Rattle.history.specs.Marks.{Marks, in_place, is_struck, restore, strike, without}
 
 struck_more : (xs : List ℕ) (t u : ℕ) → list_any (λ s. s == u) (xs ++ t ∷ []) ≡ (if u == t then true else list_any (λ s. s == u) xs)
@@ -31,29 +32,11 @@ struck_more xs t u =
     or_false true = refl
     or_false false = refl
 
-struck_less : (xs : List ℕ) (t u : ℕ) → list_any (λ s. s == u) (without t xs) ≡ (if u == t then false else list_any (λ s. s == u) xs)
-struck_less [] t u = elim (cases_Bool (u == t)) [ inl same ↦ rw same refl | inr apart ↦ rw apart refl ]
-struck_less (x ∷ xs) t u =
-    elim (cases_Bool (x == t)) [
-      | inl here ↦
-          rw here (struck_less xs t u ∙
-          elim (cases_Bool (u == t)) [
-            | inl same ↦ rw same refl
-            | inr apart ↦ let other : (x == u) ≡ false = grind (arith, nat_tests) in rw (apart, other) refl
-          ])
-      | inr there ↦
-          rw there (ap (λ (b : Bool). (x == u) || b) (struck_less xs t u) ∙
-          elim (cases_Bool (u == t)) [
-            | inl same ↦ let other : (x == u) ≡ false = grind (arith, nat_tests) in rw (same, other) refl
-            | inr apart ↦ rw apart refl
-          ])
-    ]
-
 pub struck_after_strike : (marks : Marks) (t : ℕ) → is_struck (strike marks t) ≡ struck_with (is_struck marks) (Some t)
 struck_after_strike marks t = fun_ext (struck_more marks.struck t)
 
 pub struck_after_restore : (marks : Marks) (t : ℕ) → is_struck (restore marks t) ≡ struck_without (is_struck marks) (Some t)
-struck_after_restore marks t = fun_ext (struck_less marks.struck t)
+struck_after_restore marks t = fun_ext (among_without marks.struck t)
 
 -- ---- what is done, when the standing of one change has changed
 

@@ -19,8 +19,9 @@ use Rattle.undo_journal.specs.declared.outcome.Outcome.{Outcome}
 use Rattle.undo_journal.specs.declared.outcome.Outcome.TheVariants.{Moved, NotKept, Buried}
 use Rattle.undo_journal.specs.Journal.{Changes, AreChanges, IsChange, IsPutBack, IsRedo, IsRedoOf, IsTakenBack, IsUndo, IsUndoOf, done_of, in_effect, told_of, newest, settled_by}
 use Rattle.undo_journal.specs.Moving.{MovesStandings}
+use Rattle.undo_journal.specs.TicketLaws.{all_back, all_filter, all_images, map_length}
 use Rattle.world_book.specs.Course.{Deed, Came, Forgot, Made, AreAscending, Stands, face_by, moved_by}
-use Rattle.world_book.proofs.CourseLaws.{all_back, all_filter, all_images, asc_push, drop_map, map_length, same_at, same_at_later, same_at_then, stands_admitted, stands_swept, stands_forgot, stands_made, stands_put_back, stands_shown, stands_still, stands_taken_back}
+use Rattle.world_book.proofs.CourseLaws.{asc_push, drop_map, same_at, same_at_later, same_at_then, stands_admitted, stands_swept, stands_forgot, stands_made, stands_put_back, stands_shown, stands_still, stands_taken_back}
 use Rattle.history.specs.declared.event.Ask.{Ask}
 use Rattle.history.specs.declared.event.Command.{Command}
 use Rattle.history.specs.declared.event.Event.TheVariants.{Admit, Look, Sweep, Forget, Do, Undo, Redo, UndoOf, RedoOf}
