@@ -9,43 +9,32 @@ use Rattle.history.specs.Event.{is_plain}
 use Rattle.history.specs.History.{past_of}
 use Rattle.history.specs.Reply.{reply_of}
 use Rattle.shared_book.specs.declared.receipt.Receipt.{Receipt}
-use Rattle.shared_book.specs.Kept.{KeptState, IsKept}
+use Rattle.shared_book.specs.Kept.{KeptState}
 use Rattle.shared_book.proofs.RecordLaws.{all_events, same_lack, keeps_called, keeps_book, timely_after}
 use Rattle.shared_book.proofs.kept.Kept.append.Goals as goal
 
 pub tell-requires-clause-some : goal.tell-requires-clause-some
 tell-requires-clause-some g c =
-    let b = g.B.Book in
-    let i = c.self.inside in
-    let old : KeptState g.row.B.Denot
-    = record { book = i.book; opening = i.opening; first = i.window.first; window = i.window.calls.items; limit = i.window.limit; total = i.total; callers = i.callers } in
-    (all_events b.stands_for b.settings old c.self.invariant.2, c.self.invariant.2.stands)
+    let k = c.self.invariant.2 in
+    (all_events g.B.Book.stands_for g.B.Book.settings _ k, k.stands)
 
 pub tell-requires-clause-timely : goal.tell-requires-clause-timely
 tell-requires-clause-timely g c =
     let b = g.B.Book in
-    let i = c.self.inside in
-    let old : KeptState g.row.B.Denot
-    = record { book = i.book; opening = i.opening; first = i.window.first; window = i.window.calls.items; limit = i.window.limit; total = i.total; callers = i.callers } in
-    let total : IsTimely i.total c.args.copy = search rules in
-    timely_after b.stands_for b.settings g.met.B.Book.one_count old c.self.invariant.2 c.args.copy total
+    let total : IsTimely c.self.inside.total c.args.copy = search rules in
+    timely_after b.stands_for b.settings g.met.B.Book.one_count _ c.self.invariant.2 c.args.copy total
 
 pub invariant_of-self : goal.invariant_of-self
 invariant_of-self g c =
     let b = g.B.Book in
-    let i = c.self.inside in
-    let old : KeptState g.row.B.Denot
-    = record { book = i.book; opening = i.opening; first = i.window.first; window = i.window.calls.items; limit = i.window.limit; total = i.total; callers = i.callers } in
-    (search rules, search rules, keeps_book b.stands_for b.settings old c.tell.new.book c.self.invariant.2 c.in-Err.ensures.step.stands c.in-Err.ensures.step.same_settings)
+    (search rules, search rules, keeps_book b.stands_for b.settings _ c.tell.new.book c.self.invariant.2 c.in-Err.ensures.step.stands c.in-Err.ensures.step.same_settings)
 
 pub invariant_of-self-2 : goal.invariant_of-self-2
 invariant_of-self-2 g c =
     let b = g.B.Book in
     let i = c.self.inside in
-    let old : KeptState g.row.B.Denot
-    = record { book = i.book; opening = i.opening; first = i.window.first; window = i.window.calls.items; limit = i.window.limit; total = i.total; callers = i.callers } in
-    let k : IsKept b.stands_for b.settings old = c.self.invariant.2 in
-    let history : List Event = all_events b.stands_for b.settings old k in
+    let k = c.self.invariant.2 in
+    let history : List Event = all_events b.stands_for b.settings _ k in
     let settings : Settings = b.settings i.book in
     let told = c.in-Ok.told in
     let e : Receipt = record { number = i.total + 1; caller = c.caller.result; event = c.args.event; reply = told.kept } in
@@ -56,7 +45,7 @@ invariant_of-self-2 g c =
     let reply : e.reply ≡ reply_of settings (past_of settings.journal history) c.args.event = told.alike ∙ answers.1 in
     let room : length i.window.calls.items < i.window.limit = subst (λ (kept : KeptState g.row.B.Denot). length kept.window < kept.limit) (sym c.self.view_is) c.requires.room in
     let grown : c.push.new.self.calls.items ≡ i.window.calls.items ++ e ∷ [] = search rules in
-    (search rules, search rules, keeps_called b.stands_for b.settings old c.tell.new.book c.push.new.self.first c.push.new.self.limit c.push.new.self.calls.items e k c.push.ensures.first c.push.ensures.limit room answers.0 reply (step.stands history k.stands) step.same_settings refl grown)
+    (search rules, search rules, keeps_called b.stands_for b.settings _ c.tell.new.book c.push.new.self.first c.push.new.self.limit c.push.new.self.calls.items e k c.push.ensures.first c.push.ensures.limit room answers.0 reply (step.stands history k.stands) step.same_settings refl grown)
 
 pub returns-in-Err-clause-free : goal.returns-in-Err-clause-free
 returns-in-Err-clause-free g c = λ plain free is.

@@ -4,7 +4,7 @@ use Rattle.std.proofs.lemmas.Bool.{false≢true}
 use Rattle.history.specs.declared.event.Event.{Event}
 use Rattle.history.specs.declared.event.Settings.{Settings}
 use Rattle.shared_book.specs.declared.receipt.Receipt.{Receipt}
-use Rattle.shared_book.specs.Kept.{KeptState, HasFreeRoom, IsKept}
+use Rattle.shared_book.specs.Kept.{KeptState, HasFreeRoom}
 use Rattle.shared_book.proofs.RecordLaws.{oldest_of, event_of_oldest, front_plain, oldest_timely, keeps_moved, keeps_stayed, moved_on, stayed, stays}
 use Rattle.shared_book.proofs.kept.Kept.make_room.Goals as goal
 
@@ -23,12 +23,9 @@ take_in-requires-clause-some g c = let k = c.self.invariant.2 in (k.before, k.op
 pub take_in-requires-clause-timely : goal.take_in-requires-clause-timely
 take_in-requires-clause-timely g c =
     let b = g.B.Book in
-    let i = c.self.inside in
-    let old : KeptState g.row.B.Denot
-    = record { book = i.book; opening = i.opening; first = i.window.first; window = i.window.calls.items; limit = i.window.limit; total = i.total; callers = i.callers } in
-    let calls : List Receipt = i.window.calls.items in
+    let calls : List Receipt = c.self.inside.window.calls.items in
     let some = oldest_of calls (omega (arith, c.self.invariant.2.some)) in
-    oldest_timely b.stands_for b.settings g.met.B.Book.one_count old c.self.invariant.2 some.0 some.1 some.2 c.in_ok-event.event
+    oldest_timely b.stands_for b.settings g.met.B.Book.one_count _ c.self.invariant.2 some.0 some.1 some.2 c.in_ok-event.event
     (event_of_oldest calls c.in_ok-event.event some.0 some.1 some.2 c.in_ok-event.ensures.oldest)
 
 pub take_in-requires-clause-lags : goal.take_in-requires-clause-lags
@@ -37,10 +34,7 @@ take_in-requires-clause-lags g c = ap (λ (s : Settings). s.cells) c.self.invari
 pub invariant_of-self : goal.invariant_of-self
 invariant_of-self g c =
     let b = g.B.Book in
-    let i = c.self.inside in
-    let old : KeptState g.row.B.Denot
-    = record { book = i.book; opening = i.opening; first = i.window.first; window = i.window.calls.items; limit = i.window.limit; total = i.total; callers = i.callers } in
-    (search rules, search rules, keeps_stayed b.stands_for b.settings old c.take_in.new.opening c.self.invariant.2 c.in_err-take_in.ensures.err c.take_in.ensures.settings)
+    (search rules, search rules, keeps_stayed b.stands_for b.settings _ c.take_in.new.opening c.self.invariant.2 c.in_err-take_in.ensures.err c.take_in.ensures.settings)
 
 pub returns-in_err-take_in-clause-moves : goal.returns-in_err-take_in-clause-moves
 returns-in_err-take_in-clause-moves g c =
@@ -57,31 +51,25 @@ move_on-requires g c =
 pub invariant_of-self-2 : goal.invariant_of-self-2
 invariant_of-self-2 g c =
     let b = g.B.Book in
-    let i = c.self.inside in
-    let old : KeptState g.row.B.Denot
-    = record { book = i.book; opening = i.opening; first = i.window.first; window = i.window.calls.items; limit = i.window.limit; total = i.total; callers = i.callers } in
-    let k : IsKept b.stands_for b.settings old = c.self.invariant.2 in
-    let calls : List Receipt = i.window.calls.items in
+    let k = c.self.invariant.2 in
+    let calls : List Receipt = c.self.inside.window.calls.items in
     let some = oldest_of calls (omega (arith, k.some)) in
     let event_is : c.in_ok-event.event ≡ some.0.event = event_of_oldest calls c.in_ok-event.event some.0 some.1 some.2 c.in_ok-event.ensures.oldest in
     let left : c.move_on.new.self.calls.items ≡ some.1 = c.move_on.ensures.calls ∙ ap (λ (ws : List Receipt). drop 1 ws) some.2 in
     let is : calls ≡ some.0 ∷ c.move_on.new.self.calls.items = some.2 ∙ ap (λ (ws : List Receipt). some.0 ∷ ws) (sym left) in
     let opened = subst (λ (e : Event). b.stands_for c.take_in.new.opening (k.before ++ e ∷ [])) event_is (c.in_ok-take_in.ensures.ok k.before k.opened) in
-    (search rules, search rules, keeps_moved b.stands_for b.settings old c.take_in.new.opening c.move_on.new.self.first c.move_on.new.self.limit some.0 c.move_on.new.self.calls.items k c.move_on.ensures.first c.move_on.ensures.limit (omega arith) is opened c.take_in.ensures.settings)
+    (search rules, search rules, keeps_moved b.stands_for b.settings _ c.take_in.new.opening c.move_on.new.self.first c.move_on.new.self.limit some.0 c.move_on.new.self.calls.items k c.move_on.ensures.first c.move_on.ensures.limit (omega arith) is opened c.take_in.ensures.settings)
 
 pub returns-clause-moves : goal.returns-clause-moves
 returns-clause-moves g c =
     let b = g.B.Book in
-    let i = c.self.inside in
-    let old : KeptState g.row.B.Denot
-    = record { book = i.book; opening = i.opening; first = i.window.first; window = i.window.calls.items; limit = i.window.limit; total = i.total; callers = i.callers } in
-    let k : IsKept b.stands_for b.settings old = c.self.invariant.2 in
-    let calls : List Receipt = i.window.calls.items in
+    let k = c.self.invariant.2 in
+    let calls : List Receipt = c.self.inside.window.calls.items in
     let some = oldest_of calls (omega (arith, k.some)) in
     let event_is : c.in_ok-event.event ≡ some.0.event = event_of_oldest calls c.in_ok-event.event some.0 some.1 some.2 c.in_ok-event.ensures.oldest in
     let left : c.move_on.new.self.calls.items ≡ some.1 = c.move_on.ensures.calls ∙ ap (λ (ws : List Receipt). drop 1 ws) some.2 in
     let is : calls ≡ some.0 ∷ c.move_on.new.self.calls.items = some.2 ∙ ap (λ (ws : List Receipt). some.0 ∷ ws) (sym left) in
-    rw (← c.self.view_is) (moved_on b.stands_for b.settings old c.take_in.new.opening c.move_on.new.self.first c.move_on.new.self.limit some.0 c.move_on.new.self.calls.items c.in_ok-event.event k c.move_on.ensures.first c.move_on.ensures.limit (omega arith) is event_is c.in_ok-take_in.ensures.ok c.take_in.ensures.settings)
+    rw (← c.self.view_is) (moved_on b.stands_for b.settings _ c.take_in.new.opening c.move_on.new.self.first c.move_on.new.self.limit some.0 c.move_on.new.self.calls.items c.in_ok-event.event k c.move_on.ensures.first c.move_on.ensures.limit (omega arith) is event_is c.in_ok-take_in.ensures.ok c.take_in.ensures.settings)
 
 pub returns-in_err-event-clause-free : goal.returns-in_err-event-clause-free
 returns-in_err-event-clause-free g c = λ free.

@@ -1,18 +1,12 @@
 use Rattle.std.proofs.Common.{rules, refl}
-use Rattle.shared_book.specs.Kept.{KeptState}
 use Rattle.shared_book.proofs.RecordLaws.{keeps_book, keeps_stayed}
 use Rattle.shared_book.proofs.kept.Kept.sweep_some.Goals as goal
 
 pub invariant_of-self : goal.invariant_of-self
 invariant_of-self g c =
     let b = g.B.Book in
-    let i = c.self.inside in
-    let old : KeptState g.row.B.Denot
-    = record { book = i.book; opening = i.opening; first = i.window.first; window = i.window.calls.items; limit = i.window.limit; total = i.total; callers = i.callers } in
-    let swept : KeptState g.row.B.Denot
-    = record { book = c.sweep_one.new.book; opening = i.opening; first = i.window.first; window = i.window.calls.items; limit = i.window.limit; total = i.total; callers = i.callers } in
-    let kept = keeps_book b.stands_for b.settings old c.sweep_one.new.book c.self.invariant.2 c.sweep_one.ensures.stands c.sweep_one.ensures.settings in
-    (search rules, search rules, keeps_stayed b.stands_for b.settings swept c.sweep_one.new.opening kept c.sweep_one.ensures.opening c.sweep_one.ensures.opening_settings)
+    let kept = keeps_book b.stands_for b.settings _ c.sweep_one.new.book c.self.invariant.2 c.sweep_one.ensures.stands c.sweep_one.ensures.settings in
+    (search rules, search rules, keeps_stayed b.stands_for b.settings _ c.sweep_one.new.opening kept c.sweep_one.ensures.opening c.sweep_one.ensures.opening_settings)
 
 pub returns-clause-turn : goal.returns-clause-turn
 returns-clause-turn g c = rw (← c.self.view_is) (record {

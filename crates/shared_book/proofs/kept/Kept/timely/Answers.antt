@@ -1,6 +1,5 @@
 -- Why an event is not timely.
 use Rattle.std.proofs.Common.{arith}
-use Rattle.shared_book.specs.Kept.{KeptState}
 use Rattle.shared_book.proofs.RecordLaws.{count_ended, too_late}
 use Rattle.shared_book.proofs.kept.Kept.timely.Goals as goal
 
@@ -12,8 +11,5 @@ returns-then-moment-ge-MOMENT_END-clause-err g c = λ pass.
 pub returns-then-self-clause-err : goal.returns-then-self-clause-err
 returns-then-self-clause-err g c =
     let b = g.B.Book in
-    let i = c.self.inside in
-    let old : KeptState g.row.B.Denot
-    = record { book = i.book; opening = i.opening; first = i.window.first; window = i.window.calls.items; limit = i.window.limit; total = i.total; callers = i.callers } in
-    rw (← c.self.view_is) (λ pass. count_ended b.stands_for b.settings b.stored g.met.B.Book.one_count old c.self.invariant.2 pass c.args.event.now
+    rw (← c.self.view_is) (λ pass. count_ended b.stands_for b.settings b.stored g.met.B.Book.one_count _ c.self.invariant.2 pass c.args.event.now
     (omega (arith, c.if-moment-ge-MOMENT_END.false, c.moment.ensures)) (omega (arith, c.if-self.true)))
