@@ -19,6 +19,7 @@ pub mod Reply
 pub mod PreviewLaws
 pub mod Answers
 pub mod Desk
+pub mod Fresh
 pub mod Equal
 pub mod EqualLaws
 pub mod Runs

@@ -1,10 +1,11 @@
 //! The mode `serve`: workers and a sweeper in threads of their own over one shared book, and operators at the control socket.
 
-ghost use Rattle.std.specs.Prelude.{◌≡◌, ◌+◌, ◌≤◌, [], IfOk};
+ghost use Rattle.std.specs.Prelude.{◌+◌, ◌≤◌, IfOk};
 ghost use Rattle.shared_book.specs.declared.kept.TheConstants.{MOST_RECORDED};
 ghost use Rattle.resolver_args.specs.declared.mode.TheConstants.{MOST_WORKERS};
 ghost use Rattle.resolver_args.specs.Mode.{IsService};
 ghost use Rattle.history.specs.Event.{lagging_of};
+ghost use Rattle.history.specs.Fresh.{FreshBook};
 ghost use Rattle.shared_book.specs.Fresh.{CanShare, IsKnownAs};
 
 use crate::control_socket::obey_operators;
@@ -214,8 +215,7 @@ fn drawn_seed<R: RandomSource>(rt: &R) -> Result<NameSeed, CliFault> {
 
 /// An opening book to these settings. Nobody reads its figures.
 fn opening_of(alloc: Global, settings: &Settings, seed: NameSeed) -> Result<ServiceBook, CliFault>
-    ensures settings { IfOk result (λ b. ⟦<WatchedBook<ShelfBook> as Book>⟧.settings b ≡ lagging_of settings.now) }
-    ensures fresh { IfOk result (λ b. ⟦<WatchedBook<ShelfBook> as Book>⟧.stands_for b []) }
+    ensures { IfOk result (FreshBook ⟦<WatchedBook<ShelfBook> as Book>⟧.stands_for ⟦<WatchedBook<ShelfBook> as Book>⟧.settings (lagging_of settings.now)) }
 {
     let Ok(figures) = Shared::new(alloc, BookFigures::new(settings)) else {
         return Err(CliFault::no_memory());

@@ -3,12 +3,8 @@ use Rattle.std.specs.Prelude.{◌≡◌, ℕ, List, []}
 use Rattle.history.specs.declared.event.Event.{Event}
 use Rattle.history.specs.declared.event.Settings.{Settings}
 use Rattle.history.specs.Event.{lagging_of}
+use Rattle.history.specs.Fresh.{FreshBook}
 use Rattle.shared_book.specs.Ledger.{LedgerState}
-
--- A book with these settings that has taken no event.
-pub record FreshBook {B : Type 0} (stands_for : B → List Event → Type 0) (made_with : B → Settings) (settings : Settings) (book : B) : Type 0 where
-  pub empty : stands_for book []
-  pub settings_are : made_with book ≡ settings
 
 -- A book and an opening book may begin together: neither has taken an event, and the opening book lags behind.
 pub record CanShare {B : Type 0} (stands_for : B → List Event → Type 0) (made_with : B → Settings) (book opening : B) : Type 0 where

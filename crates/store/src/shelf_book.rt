@@ -1,7 +1,8 @@
 //! The book that keeps no history: the tables and the cache under a journal of their changes.
 
-ghost use Rattle.std.specs.Prelude.{◌≡◌, ◌≤◌, ◌+◌, ◌^◌, ◌↔◌, [], List, length, IfOk, IsErr, IsErrOf};
+ghost use Rattle.std.specs.Prelude.{◌≡◌, ◌≤◌, ◌+◌, ◌^◌, ◌↔◌, List, length, IfOk, IsErr, IsErrOf};
 ghost use Rattle.history.specs.Event.{AreSettings, lagging_of};
+ghost use Rattle.history.specs.Fresh.{FreshBook};
 ghost use Rattle.history.specs.declared.event.Event.{Event};
 ghost use Rattle.store.specs.Sweep.{most_reaching};
 ghost use Rattle.store.specs.ShelfBook.{cells_of, commands_of, names_of, reaching_of, seed_of, versions_of};
@@ -28,8 +29,7 @@ pub struct ShelfBook {
 impl ShelfBook {
     /// A book of no events, whose cache hashes names with the fixed seed. It is for scripts and tests.
     pub fn new(alloc: Global, settings: Settings) -> Result<ShelfBook, MakeFault>
-        ensures empty { IfOk result (λ b. ⟦<ShelfBook as Book>⟧.stands_for b []) }
-        ensures settings { IfOk result (λ b. ⟦<ShelfBook as Book>⟧.settings b ≡ settings) }
+        ensures fresh { IfOk result (FreshBook ⟦<ShelfBook as Book>⟧.stands_for ⟦<ShelfBook as Book>⟧.settings settings) }
         ensures refused { IsErrOf result MakeFault.BadSettings ↔ ¬ (AreSettings settings) }
     {
         let book = ShelfBook::seeded(alloc, settings, NameSeed::fixed())?;
@@ -38,8 +38,7 @@ impl ShelfBook {
 
     /// The same, but its cache hashes names with a seed that the program drew, since strangers choose the names.
     pub fn seeded(alloc: Global, settings: Settings, seed: NameSeed) -> Result<ShelfBook, MakeFault>
-        ensures empty { IfOk result (λ b. ⟦<ShelfBook as Book>⟧.stands_for b []) }
-        ensures settings { IfOk result (λ b. ⟦<ShelfBook as Book>⟧.settings b ≡ settings) }
+        ensures fresh { IfOk result (FreshBook ⟦<ShelfBook as Book>⟧.stands_for ⟦<ShelfBook as Book>⟧.settings settings) }
         ensures refused { IsErrOf result MakeFault.BadSettings ↔ ¬ (AreSettings settings) }
         ensures seed { IfOk result (λ b. seed_of b ≡ seed) }
     {
@@ -52,8 +51,7 @@ impl ShelfBook {
 
     /// A book of no events, to lag behind one that has these settings. It is never full. Its cache hashes names with the fixed seed.
     pub fn lagging(alloc: Global, settings: &Settings) -> Result<ShelfBook, MakeFault>
-        ensures empty { IfOk result (λ b. ⟦<ShelfBook as Book>⟧.stands_for b []) }
-        ensures settings { IfOk result (λ b. ⟦<ShelfBook as Book>⟧.settings b ≡ lagging_of settings.now) }
+        ensures fresh { IfOk result (FreshBook ⟦<ShelfBook as Book>⟧.stands_for ⟦<ShelfBook as Book>⟧.settings (lagging_of settings.now)) }
         ensures refused { IsErrOf result MakeFault.BadSettings ↔ ¬ (AreSettings settings.now) }
     {
         let book = ShelfBook::lagging_seeded(alloc, settings, NameSeed::fixed())?;
@@ -66,8 +64,7 @@ impl ShelfBook {
         settings: &Settings,
         seed: NameSeed,
     ) -> Result<ShelfBook, MakeFault>
-        ensures empty { IfOk result (λ b. ⟦<ShelfBook as Book>⟧.stands_for b []) }
-        ensures settings { IfOk result (λ b. ⟦<ShelfBook as Book>⟧.settings b ≡ lagging_of settings.now) }
+        ensures fresh { IfOk result (FreshBook ⟦<ShelfBook as Book>⟧.stands_for ⟦<ShelfBook as Book>⟧.settings (lagging_of settings.now)) }
         ensures refused { IsErrOf result MakeFault.BadSettings ↔ ¬ (AreSettings settings.now) }
         ensures seed { IfOk result (λ b. seed_of b ≡ seed) }
     {
@@ -134,8 +131,7 @@ impl ShelfBook {
     ) -> Result<ShelfBook, MakeFault>
         requires journal { 1 ≤ settings.journal }
         requires cells { settings.cells ≤ 2 ^ 62 }
-        ensures empty { IfOk result (λ b. ⟦<ShelfBook as Book>⟧.stands_for b []) }
-        ensures settings { IfOk result (λ b. ⟦<ShelfBook as Book>⟧.settings b ≡ settings) }
+        ensures fresh { IfOk result (FreshBook ⟦<ShelfBook as Book>⟧.stands_for ⟦<ShelfBook as Book>⟧.settings settings) }
         ensures no_memory { IsErr result → IsErrOf result MakeFault.NoMemory }
         ensures seed { IfOk result (λ b. seed_of b ≡ seed) }
     {

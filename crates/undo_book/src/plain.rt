@@ -1,7 +1,8 @@
 //! The book that keeps its history and replays it.
 
-ghost use Rattle.std.specs.Prelude.{◌≡◌, ◌≤◌, ◌↔◌, ℕ, [], IfOk, IfErr, OnOk, OnErr, IsOk, IsErrOf};
+ghost use Rattle.std.specs.Prelude.{◌≡◌, ◌≤◌, ◌↔◌, ℕ, IfOk, IfErr, OnOk, OnErr, IsOk, IsErrOf};
 ghost use Rattle.history.specs.Event.{AreSettings, lagging_of};
+ghost use Rattle.history.specs.Fresh.{FreshBook};
 ghost use Rattle.history.specs.History.{tables_of};
 ghost use Rattle.undo_book.specs.PlainPast.{past_in};
 
@@ -34,8 +35,7 @@ impl PlainBook {
 
     /// A book of no events. It takes no memory.
     pub fn new(alloc: Global, settings: Settings) -> Result<PlainBook, MakeFault>
-        ensures empty { IfOk result (λ b. ⟦<PlainBook as Book>⟧.stands_for b []) }
-        ensures settings { IfOk result (λ b. ⟦<PlainBook as Book>⟧.settings b ≡ settings) }
+        ensures fresh { IfOk result (FreshBook ⟦<PlainBook as Book>⟧.stands_for ⟦<PlainBook as Book>⟧.settings settings) }
         ensures refused { IsErrOf result MakeFault.BadSettings ↔ ¬ (AreSettings settings) }
         ensures made { AreSettings settings → IsOk result }
     {
@@ -47,8 +47,7 @@ impl PlainBook {
 
     /// A book of no events, to lag behind one that has these settings. It is never full.
     pub fn lagging(alloc: Global, settings: &Settings) -> Result<PlainBook, MakeFault>
-        ensures empty { IfOk result (λ b. ⟦<PlainBook as Book>⟧.stands_for b []) }
-        ensures settings { IfOk result (λ b. ⟦<PlainBook as Book>⟧.settings b ≡ lagging_of settings.now) }
+        ensures fresh { IfOk result (FreshBook ⟦<PlainBook as Book>⟧.stands_for ⟦<PlainBook as Book>⟧.settings (lagging_of settings.now)) }
         ensures refused { IsErrOf result MakeFault.BadSettings ↔ ¬ (AreSettings settings.now) }
     {
         if !are_settings(settings) {
@@ -62,8 +61,7 @@ impl PlainBook {
 
     fn with_settings(alloc: Global, settings: Settings) -> PlainBook
         requires { 1 ≤ settings.journal }
-        ensures empty { ⟦<PlainBook as Book>⟧.stands_for result [] }
-        ensures settings { ⟦<PlainBook as Book>⟧.settings result ≡ settings }
+        ensures { FreshBook ⟦<PlainBook as Book>⟧.stands_for ⟦<PlainBook as Book>⟧.settings settings result }
     {
         PlainBook {
             past: PlainPast::new(alloc, settings),

@@ -1,7 +1,8 @@
 //! A book of a world under a journal of its changes. It keeps no history.
 
-ghost use Rattle.std.specs.Prelude.{◌≡◌, ◌≤◌, ◌+◌, [], List, length, IfOk};
+ghost use Rattle.std.specs.Prelude.{◌≡◌, ◌≤◌, ◌+◌, List, length, IfOk};
 ghost use Rattle.history.specs.declared.event.Event.{Event};
+ghost use Rattle.history.specs.Fresh.{FreshBook};
 ghost use Rattle.world_book.specs.Book.{IsPassed, IsUntouched};
 ghost use Rattle.world_book.specs.Deeds.{empty_face};
 
@@ -49,8 +50,7 @@ impl<C: BookChange> WorldBook<C> {
     pub fn new(alloc: Global, settings: Settings, world: C::World) -> Result<WorldBook<C>, NoMemory>
         requires journal { 1 ≤ settings.journal }
         requires untouched { IsUntouched C.World.World empty_face settings.cells world }
-        ensures empty { IfOk result (λ b. ⟦<WorldBook<C> as Book>⟧.stands_for b []) }
-        ensures settings { IfOk result (λ b. ⟦<WorldBook<C> as Book>⟧.settings b ≡ settings) }
+        ensures fresh { IfOk result (FreshBook ⟦<WorldBook<C> as Book>⟧.stands_for ⟦<WorldBook<C> as Book>⟧.settings settings) }
         ensures world { IfOk result (λ b. b.world ≡ world) }
     {
         let journal = Journal::new(alloc, settings.journal)?;
