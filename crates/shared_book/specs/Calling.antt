@@ -14,7 +14,6 @@ use Rattle.history.specs.declared.desk.DeskFault.TheVariants.{Step, Behind}
 use Rattle.history.specs.declared.limits.TheConstants.{MOMENT_END, MOST_EVENTS}
 use Rattle.history.specs.Event.{moment_of, is_admission, is_plain}
 use Rattle.history.specs.Answers.{IsTimely}
-use Rattle.history.specs.Desk.{IsStep as IsBookStep}
 use Rattle.history.specs.History.{past_of}
 use Rattle.history.specs.Reply.{reply_of}
 use Rattle.shared_book.specs.declared.fault.CallFault.{CallFault}
@@ -24,7 +23,7 @@ use Rattle.shared_book.specs.declared.fault.SplitFault.TheVariants.{CountEnded a
 use Rattle.shared_book.specs.declared.receipt.Receipt.{Receipt}
 use Rattle.shared_book.specs.declared.shared.TheConstants.{MOST_TURNS}
 use Rattle.shared_book.specs.Pass.{PassState, after_call}
-use Rattle.shared_book.specs.Kept.{KeptState, IsKeptAs, IsStep, HasFreeRoom, IsFreeCall, IsTurnForThere, IsSweepThere}
+use Rattle.shared_book.specs.Kept.{KeptState, IsKeptAs, IsStep, IsFreeCall, LacksByBook, IsTurnForThere, IsSweepThere}
 
 -- The receipt of a call with this pass, which then has seen it.
 pub record IsReceiptOf (pass : PassState) (event : Event) (receipt : Receipt) (pass' : PassState) : Type 0 where
@@ -80,7 +79,7 @@ pub record IsLocked {B : Type 0} (stands_for : B → List Event → Type 0) (mad
   pub call : IsCall stands_for made_with stored before pass event answer after pass'
   pub ended : IsErrOf answer (CallStep CountEnded) → MOST_EVENTS ≤ before.total
   pub free : IsFreeCall is_free before event → ¬ (IsErrOf answer (CallStep NoMemory))
-  pub own : HasFreeRoom is_free before → IsErrOf answer (CallStep NoMemory) → IsBookStep stands_for made_with stored before.book event (Err NoMemory) after.book
+  pub own : LacksByBook stands_for made_with stored is_free before event (IsErrOf answer (CallStep NoMemory)) after
 
 -- A call whose event is first shared and copied, which may find no memory if the event is more than a moment and a ticket.
 abbrev pub IsShared : {B : Type 0} → (B → List Event → Type 0) → (B → Settings) → (B → ℕ) → (B → Event → Type 0) → Settings → PassState → Event → Result Reply CallFault → PassState → Type 0
@@ -126,10 +125,18 @@ asks_oldest event = false
 abbrev pub IsPutOff : {B : Type 0} → (B → List Event → Type 0) → (B → Settings) → (B → ℕ) → (B → ℕ) → Settings → Event → Type 0
 IsPutOff stands_for made_with stored unswept settings event = IsTrue (asks_oldest event) × IsTurnForThere stands_for made_with stored unswept settings false true
 
+-- The answer of a call at a seat, with the pass before and after it.
+abbrev pub AnswersAt : {B : Type 0} → (B → List Event → Type 0) → (B → Settings) → (B → ℕ) → (B → Event → Type 0) → Settings → PassState → Event → PassState → Result Reply DeskFault → Type 0
+AnswersAt stands_for made_with stored is_free settings pass event pass' answer = SeatCall stands_for made_with stored is_free settings pass event answer pass'
+
 -- how many turns a seat takes at most after the reply to a sweep: until the whole is swept, or until there is room
 abbrev pub turns_for : Bool → ℕ
 turns_for true = MOST_TURNS
 turns_for false = 1
+
+-- If this is the reply to a sweep, turns are taken until the sweep has done enough: of the whole, or for room.
+abbrev pub SweepsAfter : {B : Type 0} → (B → List Event → Type 0) → (B → Settings) → (B → ℕ) → (B → ℕ) → Settings → Bool → Reply → Type 0
+SweepsAfter stands_for made_with stored unswept settings whole reply = reply ≡ Swept → IsSweepThere stands_for made_with stored unswept settings whole (turns_for whole)
 
 -- After the reply to a sweep, turns were taken until the sweep had done enough: of the whole, or for room.
 abbrev pub SweepsOn : {B : Type 0} → (B → List Event → Type 0) → (B → Settings) → (B → ℕ) → (B → ℕ) → Settings → Bool → Result Reply DeskFault → Type 0

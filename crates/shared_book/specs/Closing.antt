@@ -68,3 +68,7 @@ IsOfOrder (Some _) = ⊥
 -- They are the same, or one wants the memory by which the receipts are put in order for the other.
 abbrev pub AgreeButMemory : Option CloseFault → Option CloseFault → Type 0
 AgreeButMemory a b = (a ≡ b) ⊎ (((a ≡ Some NoMemory) × IsOfOrder b) ⊎ ((b ≡ Some NoMemory) × IsOfOrder a))
+
+-- Two closings of one book with the same passes and receipts come to the same, or memory was short.
+abbrev pub HasOneVerdict : Type 0 → Type 0
+HasOneVerdict B = (kept : KeptState B) (passes : List PassState) (receipts : List Receipt) (a b : Option CloseFault) → ClosesAs kept passes receipts a → ClosesAs kept passes receipts b → AgreeButMemory a b

@@ -171,6 +171,10 @@ abbrev pub IsCopiedStep : {B : Type 0} → (B → List Event → Type 0) → (B 
 IsCopiedStep stands_for settings stored before pass event answer after pass' =
     (¬ (is_plain event ≡ true) × IsRefused before pass event answer after pass') ⊎ IsStep stands_for settings stored before pass event answer after pass'
 
+-- A step with this fault changes nothing, whatever the pass.
+abbrev pub IsIdleStep : {B : Type 0} → (B → List Event → Type 0) → (B → Settings) → (B → ℕ) → KeptState B → Event → StepFault → Type 0
+IsIdleStep stands_for made_with stored state event fault = (pass : PassState) → IsStep stands_for made_with stored state pass event (Err fault) state pass
+
 -- The oldest call leaves the window without memory: its event is copied without any, and the opening book takes it without any.
 pub record LeavesFree {B : Type 0} (is_free : B → Event → Type 0) (before : KeptState B) : Type 0 where
   pub oldest : Receipt
@@ -182,6 +186,11 @@ pub record LeavesFree {B : Type 0} (is_free : B → Event → Type 0) (before : 
 -- Room for one call more takes no memory: the window is not full, or its oldest call leaves it without any.
 abbrev pub HasFreeRoom : {B : Type 0} → (B → Event → Type 0) → KeptState B → Type 0
 HasFreeRoom is_free before = (length before.window < before.limit) ⊎ LeavesFree is_free before
+
+-- If room for a call takes no memory, a call that lacks memory met it at a step of the book.
+abbrev pub LacksByBook : {B : Type 0} → (B → List Event → Type 0) → (B → Settings) → (B → ℕ) → (B → Event → Type 0) → KeptState B → Event → Type 0 → KeptState B → Type 0
+LacksByBook stands_for made_with stored is_free before event lacks after =
+    HasFreeRoom is_free before → lacks → IsBookStep stands_for made_with stored before.book event (Err NoMemory) after.book
 
 -- A call of this event takes no memory: the event is copied without any, the book takes it without any, and room for the call takes none.
 pub record IsFreeCall {B : Type 0} (is_free : B → Event → Type 0) (before : KeptState B) (event : Event) : Type 0 where

@@ -2,8 +2,7 @@
 
 ghost use Rattle.std.specs.Prelude.{◌≡◌, ◌+◌, ◌<◌, ◌≤◌, ◌^◌, ◌↔◌, ◌⊎◌, IfOk, IfErr, OnOk, OnErr, IsErr, IsErrOf};
 ghost use Rattle.shared_book.specs.Pass.{IsSplit, IsJoined, calls_of, parts_of};
-ghost use Rattle.history.specs.Desk.{IsStep as IsBookStep};
-ghost use Rattle.shared_book.specs.Kept.{HasFreeRoom, IsFreeCall, IsKept, IsKeptAs};
+ghost use Rattle.shared_book.specs.Kept.{IsFreeCall, IsKept, IsKeptAs, LacksByBook};
 ghost use Rattle.shared_book.specs.Calling.{IsCall, IsUnsplit};
 
 use crate::fault::{CallFault, SplitFault, SplitFound};
@@ -25,8 +24,8 @@ impl<B: Book, L: CallLedger> Kept<B, L> {
         ensures there { IsKeptAs B.stands_for B.settings L.settings self.old }
         ensures call { IsCall B.stands_for B.settings B.stored self.old pass.old event result self.new pass.new }
         ensures free { IsFreeCall B.is_free self.old event → ¬ (IsErrOf result (CallFault.Step StepFault.NoMemory)) }
-        ensures own { HasFreeRoom B.is_free self.old → IsErrOf result (CallFault.Step StepFault.NoMemory) →
-            IsBookStep B.stands_for B.settings B.stored self.old.book event (Err StepFault.NoMemory) self.new.book }
+        ensures own { LacksByBook B.stands_for B.settings B.stored B.is_free self.old event
+            (IsErrOf result (CallFault.Step StepFault.NoMemory)) self.new }
     {
         if self.total < pass.seen() {
             drop(event);

@@ -3,13 +3,12 @@
 ghost use Rattle.std.specs.Prelude.{◌≡◌, ◌<◌, ◌≤◌, ◌^◌, ◌↔◌, true, false, List, length, IfOk, IfErr, OnOk, OnErr, IsErrOf, ◌⊎◌, IsOk};
 ghost use Rattle.history.specs.declared.event.Event.{Event};
 ghost use Rattle.history.specs.Answers.{IsTimely};
-ghost use Rattle.history.specs.Desk.{IsStep as IsBookStep};
 ghost use Rattle.history.specs.Event.{is_plain, lagging_of};
 ghost use Rattle.shared_book.specs.declared.kept.TheConstants.{MOST_RECORDED};
 ghost use Rattle.shared_book.specs.Fresh.{CanShare, IsKnownAs};
-ghost use Rattle.shared_book.specs.Pass.{PassState, first_pass};
+ghost use Rattle.shared_book.specs.Pass.{first_pass};
 ghost use Rattle.shared_book.specs.Kept.{first_kept, IsFreed, IsKept, IsKeptAs, MovesOn, IsTaken, IsTurn, IsTurnFor, IsStep, IsCopiedStep, IsSameRecord};
-ghost use Rattle.shared_book.specs.Kept.{HasFreeRoom, IsFreeCall};
+ghost use Rattle.shared_book.specs.Kept.{HasFreeRoom, IsFreeCall, IsIdleStep, LacksByBook};
 
 use crate::callers::Callers;
 use crate::copies::copies;
@@ -228,8 +227,8 @@ impl<B: Book, L: CallLedger> Kept<B, L> {
         requires { copy ≡ event }
         ensures step { IsStep B.stands_for B.settings B.stored self.old pass.old event result self.new pass.new }
         ensures free { IsFreeCall B.is_free self.old event → ¬ (IsErrOf result StepFault.NoMemory) }
-        ensures own { HasFreeRoom B.is_free self.old → IsErrOf result StepFault.NoMemory →
-            IsBookStep B.stands_for B.settings B.stored self.old.book event (Err StepFault.NoMemory) self.new.book }
+        ensures own { LacksByBook B.stands_for B.settings B.stored B.is_free self.old event
+            (IsErrOf result StepFault.NoMemory) self.new }
     {
         match self.timely(&event) {
             Ok(()) => self.take(pass, event, copy),
@@ -247,8 +246,8 @@ impl<B: Book, L: CallLedger> Kept<B, L> {
         requires same { copy ≡ event }
         ensures step { IsStep B.stands_for B.settings B.stored self.old pass.old event result self.new pass.new }
         ensures free { IsFreeCall B.is_free self.old event → ¬ (IsErrOf result StepFault.NoMemory) }
-        ensures own { HasFreeRoom B.is_free self.old → IsErrOf result StepFault.NoMemory →
-            IsBookStep B.stands_for B.settings B.stored self.old.book event (Err StepFault.NoMemory) self.new.book }
+        ensures own { LacksByBook B.stands_for B.settings B.stored B.is_free self.old event
+            (IsErrOf result StepFault.NoMemory) self.new }
     {
         match self.make_room() {
             Ok(()) => self.append(pass, event, copy),
@@ -308,8 +307,7 @@ impl<B: Book, L: CallLedger> Kept<B, L> {
     /// Whether an event is timely, or else the fault of its step.
     fn timely(&self, event: &Event) -> Result<(), StepFault>
         ensures ok { OnOk result (IsTimely self.now.total event.now) }
-        ensures err { IfErr result (λ fault. (pass : PassState) →
-            IsStep B.stands_for B.settings B.stored self.now pass event.now (Err fault) self.now pass) }
+        ensures err { IfErr result (IsIdleStep B.stands_for B.settings B.stored self.now event.now) }
         ensures untimely { IfErr result (λ fault. (fault ≡ StepFault.BadMoment) ⊎ (fault ≡ StepFault.CountEnded)) }
     {
         if event.moment() >= MOMENT_END {

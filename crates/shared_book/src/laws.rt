@@ -1,11 +1,7 @@
 //! The laws of closing, by the definitions alone.
 
-ghost use Rattle.std.specs.Prelude.{List, Option, ◌≡◌};
-ghost use Rattle.shared_book.specs.declared.receipt.Receipt.{Receipt};
-ghost use Rattle.shared_book.specs.declared.fault.CloseFault.{CloseFault};
-ghost use Rattle.shared_book.specs.Pass.{PassState};
-ghost use Rattle.shared_book.specs.Kept.{KeptState};
-ghost use Rattle.shared_book.specs.Closing.{ClosesAs, AgreeButMemory};
+ghost use Rattle.std.specs.Prelude.{◌≡◌};
+ghost use Rattle.shared_book.specs.Closing.{HasOneVerdict};
 ghost use Rattle.shared_book.specs.OneHistory.{ClosedIsOneHistory};
 
 use crate::kept::MOST_RECORDED;
@@ -14,8 +10,7 @@ use history::Book;
 
 /// Only want of memory lets two closings of one book differ. So each fault comes exactly if its condition holds.
 pub fn one_verdict<B: Book>()
-    ensures { (kept : KeptState B) (passes : List PassState) (receipts : List Receipt) (a b : Option CloseFault) →
-        ClosesAs kept passes receipts a → ClosesAs kept passes receipts b → AgreeButMemory a b }
+    ensures { HasOneVerdict B }
 {}
 
 /// The receipts with which a book was closed are of one history, which the book represents. Each reply is that of a replay of

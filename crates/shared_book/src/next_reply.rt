@@ -1,15 +1,12 @@
 //! A reply and its copy for the window. A reply cannot be copied without memory, so that of a lookup is made twice, beforehand.
 
-ghost use Rattle.std.specs.Prelude.{◌≡◌, List, length, true, IfOk, IsOk, IsErrOf, IsTrue};
-ghost use Rattle.std.specs.Option.{option_map};
+ghost use Rattle.std.specs.Prelude.{◌≡◌, List, length, true, IsOk, IsErrOf, IsTrue};
 ghost use Rattle.history.specs.declared.event.Event.{Event};
 ghost use Rattle.history.specs.declared.event.Settings.{Settings};
 ghost use Rattle.history.specs.Answers.{IsTimely};
 ghost use Rattle.history.specs.Event.{is_admission, is_plain};
 ghost use Rattle.history.specs.Desk.{IsStep as IsBookStep};
-ghost use Rattle.history.specs.History.{past_of};
-ghost use Rattle.history.specs.Reply.{reply_of, seen_of};
-ghost use Rattle.shared_book.specs.Ahead.{seen_ahead, ShowsNothing};
+ghost use Rattle.shared_book.specs.Ahead.{LooksAhead, SeesAhead, ShowsNothing, WillShow, WillShowNothing};
 ghost use Rattle.shared_book.specs.Told.{answer_told};
 
 use crate::told::{Ahead, Told};
@@ -20,8 +17,7 @@ use std::alloc::Global;
 /// What a lookup is about to see. The answer to a question is looked up once.
 fn see_ahead<B: Book>(alloc: Global, book: &B, ask: &Ask, moment: u64) -> Result<Ahead, NoMemory>
     requires { (h : List Event) × B.stands_for book.now h }
-    ensures { (h : List Event) → B.stands_for book.now h →
-        IfOk result (λ ahead. ahead.seen ≡ seen_of (B.settings book.now) (past_of (B.settings book.now).journal h) ask.now moment) }
+    ensures { SeesAhead B.stands_for B.settings book.now ask.now moment result }
 {
     if let Ask::Answer(question) = ask {
         let look = book.look(question, moment);
@@ -44,9 +40,7 @@ fn see_ahead<B: Book>(alloc: Global, book: &B, ask: &Ask, moment: u64) -> Result
 /// What an event is about to see, if it is a lookup.
 fn look_ahead<B: Book>(alloc: Global, book: &B, event: &Event) -> Result<Option<Ahead>, NoMemory>
     requires { (h : List Event) × B.stands_for book.now h }
-    ensures seen { (h : List Event) → B.stands_for book.now h →
-        IfOk result (λ ahead. option_map (λ a. a.seen) ahead
-        ≡ seen_ahead (B.settings book.now) (past_of (B.settings book.now).journal h) event.now) }
+    ensures seen { LooksAhead B.stands_for B.settings book.now event.now result }
     ensures plain { is_plain event.now ≡ true → IsOk result }
     ensures admission { IsTrue (is_admission event.now) → IsOk result }
 {
@@ -79,8 +73,7 @@ pub(crate) fn tell<B: Book>(alloc: Global, book: &mut B, event: Event) -> Result
 /// Takes a lookup whose reply is known. So the book need not make it.
 #[tactic(auto, using(crate::proofs::RecordLaws::untimely))]
 fn tell_seen<B: Book>(book: &mut B, event: Event, ahead: Ahead) -> Result<Told, StepFault>
-    requires { (h : List Event) → B.stands_for book.old h →
-        reply_of (B.settings book.old) (past_of (B.settings book.old).journal h) event ≡ Reply.Seen ahead.seen }
+    requires { WillShow B.stands_for B.settings book.old event ahead.seen }
     ensures step { IsBookStep B.stands_for B.settings B.stored book.old event (answer_told result) book.new }
     ensures free { B.is_free book.old event → ¬ (IsErrOf result StepFault.NoMemory) }
 {
@@ -113,8 +106,7 @@ fn tell_swept<B: Book>(book: &mut B, moment: u64) -> Result<Told, StepFault>
 
 /// Takes an event that is no lookup.
 fn tell_silent<B: Book>(book: &mut B, event: Event) -> Result<Told, StepFault>
-    requires some { (h : List Event) × B.stands_for book.old h
-        × ShowsNothing (reply_of (B.settings book.old) (past_of (B.settings book.old).journal h) event) }
+    requires some { WillShowNothing B.stands_for B.settings book.old event }
     ensures step { IsBookStep B.stands_for B.settings B.stored book.old event (answer_told result) book.new }
     ensures free { B.is_free book.old event → ¬ (IsErrOf result StepFault.NoMemory) }
 {
@@ -127,8 +119,7 @@ fn tell_silent<B: Book>(book: &mut B, event: Event) -> Result<Told, StepFault>
 /// Takes an event that is no lookup, by a step of the book.
 #[tactic(auto, using(crate::proofs::RecordLaws::untimely))]
 fn tell_step<B: Book>(book: &mut B, event: Event) -> Result<Told, StepFault>
-    requires some { (h : List Event) × B.stands_for book.old h
-        × ShowsNothing (reply_of (B.settings book.old) (past_of (B.settings book.old).journal h) event) }
+    requires some { WillShowNothing B.stands_for B.settings book.old event }
     ensures step { IsBookStep B.stands_for B.settings B.stored book.old event (answer_told result) book.new }
     ensures free { B.is_free book.old event → ¬ (IsErrOf result StepFault.NoMemory) }
 {

@@ -1,7 +1,7 @@
 //! A shared book with a pass, as a desk.
 
 ghost use Rattle.std.specs.Prelude.{◌≡◌, IfNone, IfSome, IsTrue};
-ghost use Rattle.shared_book.specs.Calling.{answer_at_desk, asks_oldest, fault_at_desk, IsPutOff, SeatCall, SweepsOn, turns_for};
+ghost use Rattle.shared_book.specs.Calling.{answer_at_desk, asks_oldest, fault_at_desk, turns_for, AnswersAt, IsPutOff, SeatCall, SweepsAfter, SweepsOn};
 ghost use Rattle.shared_book.specs.Kept.{IsSweepThere};
 
 use crate::fault::CallFault;
@@ -89,8 +89,7 @@ impl<'a, B: Book, L: CallLedger, R: Wait> Seat<'a, B, L, R> {
     /// Calls the book for someone who keeps others waiting. It looks for the name to forget first only behind a turn of a sweep that left
     /// nothing, so that this look is one path of a tree. Else it returns None, and nothing but the turn has happened.
     pub fn call_soon(&mut self, event: Event) -> Option<Result<Reply, DeskFault>>
-        ensures called { IfSome result (λ answer.
-            SeatCall B.stands_for B.settings B.stored B.is_free L.settings self.old.pass event answer self.new.pass) }
+        ensures called { IfSome result (AnswersAt B.stands_for B.settings B.stored B.is_free L.settings self.old.pass event self.new.pass) }
         ensures goes_on { IfSome result (SweepsOn B.stands_for B.settings B.stored B.unswept L.settings self.old.is_thorough) }
         ensures put_off { IfNone result (IsPutOff B.stands_for B.settings B.stored B.unswept L.settings event) }
         ensures same { IfNone result (self.new ≡ self.old) }
@@ -104,8 +103,7 @@ impl<'a, B: Book, L: CallLedger, R: Wait> Seat<'a, B, L, R> {
     /// Looks for the name to forget first, if a turn of a sweep leaves nothing.
     fn look_soon(&mut self, event: Event) -> Option<Result<Reply, DeskFault>>
         requires oldest { IsTrue (asks_oldest event) }
-        ensures called { IfSome result (λ answer.
-            SeatCall B.stands_for B.settings B.stored B.is_free L.settings self.old.pass event answer self.new.pass) }
+        ensures called { IfSome result (AnswersAt B.stands_for B.settings B.stored B.is_free L.settings self.old.pass event self.new.pass) }
         ensures goes_on { IfSome result (SweepsOn B.stands_for B.settings B.stored B.unswept L.settings self.old.is_thorough) }
         ensures put_off { IfNone result (IsPutOff B.stands_for B.settings B.stored B.unswept L.settings event) }
         ensures same { IfNone result (self.new ≡ self.old) }
@@ -139,8 +137,7 @@ impl<'a, B: Book, L: CallLedger, R: Wait> Seat<'a, B, L, R> {
 
     /// Goes on with a sweep, if that was the reply.
     fn go_on(&self, reply: &Reply)
-        ensures { reply.now ≡ Reply.Swept →
-            IsSweepThere B.stands_for B.settings B.stored B.unswept L.settings self.now.is_thorough (turns_for self.now.is_thorough) }
+        ensures { SweepsAfter B.stands_for B.settings B.stored B.unswept L.settings self.now.is_thorough reply.now }
     {
         if matches!(reply, Reply::Swept) {
             self.free();
