@@ -21,6 +21,10 @@ abbrev pub AllLookedAt : List Event → FlightState → Counts → FlightState �
 AllLookedAt [] flight old flight' new = (flight' ≡ flight) × (new ≡ old)
 AllLookedAt (event ∷ rest) flight old flight' new = (between : FlightState) × (mid : Counts) × IsLookedAt event flight old between mid × AllLookedAt rest between mid flight' new
 
+-- The exchanges are ended whose time is up at this moment, and the others go on. Then some questions begin anew, and none joins them.
+abbrev pub EndOverdue : ℕ → FlightState → FlightState → Type 0
+EndOverdue now flight flight' = (left : FlightState) × EarlyGoOn PATIENCE now flight left × JoinsNone left flight'
+
 -- Each exchange that the poll reported is listened to. Then those are ended whose time is up at this moment, and the others go on. Then some questions begin anew, and none joins them. At last the questions end that keep most, one after another, as long as all keep too much.
 pub record LooksAtAll (events : List Event) (now : ℕ) (flight : FlightState) (old : Counts) (flight' : FlightState) (new : Counts) : Type 0 where
   pub between : FlightState

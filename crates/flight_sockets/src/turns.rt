@@ -8,12 +8,12 @@ ghost use Rattle.clock.specs.Moments.{millis_at, IsRead};
 ghost use Rattle.flight.specs.declared.kept.TheConstants.{MOST_AT_REST};
 ghost use Rattle.flight.specs.declared.table.TheConstants.{PATIENCE, QUESTION_PATIENCE};
 ghost use Rattle.flight.specs.Bounds.{AllGoOn, Relieves, kept_all};
-ghost use Rattle.flight.specs.Waiting.{EarlyGoOn, FlightState, IsPatient, IsTimely, JoinsNone, outstanding, time_left};
+ghost use Rattle.flight.specs.Waiting.{IsPatient, IsTimely, JoinsNone, outstanding, time_left};
 ghost use Rattle.flight_sockets.specs.Accounts.{GoesOn, KeepsTime, QuestionsGoOn, fresh_worker};
 ghost use Rattle.flight_sockets.specs.Asking.{PostsBy, asking_at};
 ghost use Rattle.flight_sockets.specs.Sockets.{sockets_of};
 ghost use Rattle.flight_sockets.specs.Begun.{AllBegin, BatchBegins, IsBegun, Runs, TakesNone, arrived};
-ghost use Rattle.flight_sockets.specs.Looked.{AllLookedAt, LooksAtAll};
+ghost use Rattle.flight_sockets.specs.Looked.{AllLookedAt, EndOverdue, LooksAtAll};
 ghost use Rattle.flight_sockets.specs.Patience.{AreRead, EndsOverdue, IsReadOn, patience_of};
 ghost use Rattle.flight_sockets.specs.Taken.{IsQuery};
 
@@ -270,8 +270,7 @@ impl<'a, R: ReadyNet + Log + Elapsing + Wait, S: ServiceSocket> Turns<'a, R, S> 
         ensures read { IsRead R.passed self.old.clock self.new.clock }
         ensures patient { IsPatient PATIENCE (millis_at self.new.clock.last) questions.new }
         ensures timely { IsTimely QUESTION_PATIENCE (millis_at self.new.clock.last) questions.new }
-        ensures early { (left : FlightState) × EarlyGoOn PATIENCE (millis_at self.new.clock.last) questions.old left
-            × JoinsNone left questions.new }
+        ensures early { EndOverdue (millis_at self.new.clock.last) questions.old questions.new }
         ensures reported { self.new.reported ≡ self.old.reported }
     {
         let now = self.clock.millis();

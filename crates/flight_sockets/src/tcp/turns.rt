@@ -6,11 +6,11 @@ ghost use Rattle.clock.specs.Moments.{millis_at};
 ghost use Rattle.flight.specs.declared.table.TheConstants.{PATIENCE, QUESTION_PATIENCE};
 ghost use Rattle.flight.specs.declared.kept.TheConstants.{MOST_AT_REST};
 ghost use Rattle.flight.specs.Bounds.{AllGoOn, Relieves, kept_all};
-ghost use Rattle.flight.specs.Waiting.{EarlyGoOn, FlightState, IsPatient, IsTimely, JoinsNone};
+ghost use Rattle.flight.specs.Waiting.{IsPatient, IsTimely};
 ghost use Rattle.flight_sockets.specs.Asking.{asking_at};
 ghost use Rattle.flight_sockets.specs.Sockets.{asking_of};
 ghost use Rattle.flight_sockets.specs.Connections.{Tends};
-ghost use Rattle.flight_sockets.specs.Looked.{AllLookedAt, LooksAtAll};
+ghost use Rattle.flight_sockets.specs.Looked.{AllLookedAt, EndOverdue, LooksAtAll};
 ghost use Rattle.flight_sockets.specs.Memory.{KeepLittle};
 ghost use Rattle.flight_sockets.specs.Streaming.{BeginsClient, StreamEndsOverdue, StreamGoesOn, fresh_worker};
 
@@ -364,8 +364,7 @@ impl<'a, R: ReadyNet + Log + Elapsing + Wait, S: ClientStream, L: ClientListener
         ensures goes_on { StreamGoesOn S.reads S.writes S.drained questions.old self.old questions.new self.new }
         ensures patient { IsPatient PATIENCE (millis_at self.new.clock.last) questions.new }
         ensures timely { IsTimely QUESTION_PATIENCE (millis_at self.new.clock.last) questions.new }
-        ensures early { (left : FlightState) × EarlyGoOn PATIENCE (millis_at self.new.clock.last) questions.old left
-            × JoinsNone left questions.new }
+        ensures early { EndOverdue (millis_at self.new.clock.last) questions.old questions.new }
         ensures reported { self.new.reported ≡ self.old.reported }
     {
         let now = self.set_now();
