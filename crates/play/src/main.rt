@@ -25,6 +25,7 @@ mod books; // a book, and lines of a script for it
 mod queries; // queries to name servers, as they are written
 mod said; // what a line says that comes of one
 mod records; // a record, as it is written
+mod changes; // changes of a table that a line keeps, or takes back
 mod zones; // local zones and local data
 mod stubs; // stubs
 mod in_journal; // changes of both that can be undone

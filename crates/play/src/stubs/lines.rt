@@ -1,5 +1,6 @@
 //! A line, obeyed.
 
+use crate::changes::{Changing, obey_change};
 use crate::questions::name_in;
 use crate::stubs::change::{Change, change_in, fill, made};
 use crate::stubs::shown::{push_list, push_stub};
@@ -7,64 +8,51 @@ use dns_name::{Name, NoMemory};
 use dns_text::next_word;
 use std::alloc::Global;
 use std::mem;
-use stub_table::{StubFault, StubTable};
+use stub_table::{SavedStubs, StubFault, StubTable};
 
 fn push_fault(alloc: Global, fault: StubFault, out: &mut Vec<u8>) -> Result<(), NoMemory> {
     let text = format!(in alloc; "{fault}\n")?;
     out.extend_from_slice(text.as_str().as_bytes())
 }
 
-fn change_kept(
-    alloc: Global,
-    table: &mut StubTable,
-    new: Change,
-    out: &mut Vec<u8>,
-) -> Result<(), NoMemory> {
-    match made(table, new) {
-        Ok(saved) => {
-            drop(saved);
-            Ok(())
-        }
-        Err(fault) => push_fault(alloc, fault, out),
-    }
-}
+impl Changing for StubTable {
+    ghost use Rattle.stub_table.specs.Saved.{TakesBack};
+    ghost use Rattle.stub_table.specs.Stubs.{Stubs};
 
-fn change_and_back(
-    alloc: Global,
-    table: &mut StubTable,
-    new: Change,
-    out: &mut Vec<u8>,
-) -> Result<(), NoMemory> {
-    match made(table, new) {
-        Ok(saved) => {
-            let mut saved = saved;
-            let done = match push_list(table, out) {
-                Ok(()) => table.back(&mut saved),
-                Err(fault) => Err(fault),
-            };
-            drop(saved);
-            done
-        }
-        Err(fault) => push_fault(alloc, fault, out),
-    }
-}
+    type Change = Change;
 
-fn obey_change(
-    alloc: Global,
-    table: &mut StubTable,
-    kept: bool,
-    text: &[u8],
-    out: &mut Vec<u8>,
-) -> Result<(), NoMemory> {
-    match change_in(alloc, text) {
-        Some(new) => {
-            if kept {
-                change_kept(alloc, table, new, out)
-            } else {
-                change_and_back(alloc, table, new, out)
+    type Saved = SavedStubs;
+
+    ghost takes_back = { λ saved table. (before : Stubs) × TakesBack saved table before };
+
+    fn change_in(alloc: Global, text: &[u8]) -> Option<Change> {
+        change_in(alloc, text)
+    }
+
+    fn make(
+        &mut self,
+        alloc: Global,
+        new: Change,
+        out: &mut Vec<u8>,
+    ) -> Result<Option<SavedStubs>, NoMemory> {
+        match made(self, new) {
+            Ok(saved) => Ok(Some(saved)),
+            Err(fault) => {
+                push_fault(alloc, fault, out)?;
+                Ok(None)
             }
         }
-        None => out.extend_from_slice(b"what?\n"),
+    }
+
+    fn take_back(&mut self, saved: SavedStubs) -> Result<(), NoMemory> {
+        let mut saved = saved;
+        let done = self.back(&mut saved);
+        drop(saved);
+        done
+    }
+
+    fn push_rows(&self, _: Global, out: &mut Vec<u8>) -> Result<(), NoMemory> {
+        push_list(self, out)
     }
 }
 

@@ -1,12 +1,13 @@
 //! A line, obeyed.
 
+use crate::changes::{Changing, obey_change};
 use crate::questions::question_in;
 use crate::zones::change::{Change, change_in, made};
 use crate::zones::full::fill_zones;
 use crate::zones::shown::{push_answer, push_lists};
 use dns_name::NoMemory;
 use dns_text::next_word;
-use local_zone::{TableFault, ZoneTable};
+use local_zone::{SavedTables, TableFault, ZoneTable};
 use std::alloc::Global;
 use std::mem;
 
@@ -15,39 +16,44 @@ fn push_fault(alloc: Global, fault: TableFault, out: &mut Vec<u8>) -> Result<(),
     out.extend_from_slice(text.as_str().as_bytes())
 }
 
-fn change_kept(
-    alloc: Global,
-    table: &mut ZoneTable,
-    new: Change,
-    out: &mut Vec<u8>,
-) -> Result<(), NoMemory> {
-    match made(table, new) {
-        Ok(saved) => {
-            // A call drops it: the prover follows any other drop variant by variant.
-            drop(saved);
-            Ok(())
-        }
-        Err(fault) => push_fault(alloc, fault, out),
-    }
-}
+impl Changing for ZoneTable {
+    ghost use Rattle.local_zone.specs.Saved.{TakesBack};
+    ghost use Rattle.local_zone.specs.Tables.{Tables};
 
-fn change_and_back(
-    alloc: Global,
-    table: &mut ZoneTable,
-    new: Change,
-    out: &mut Vec<u8>,
-) -> Result<(), NoMemory> {
-    match made(table, new) {
-        Ok(saved) => {
-            let mut saved = saved;
-            let done = match push_lists(alloc, table, out) {
-                Ok(()) => table.back(&mut saved),
-                Err(fault) => Err(fault),
-            };
-            drop(saved);
-            done
+    type Change = Change;
+
+    type Saved = SavedTables;
+
+    ghost takes_back = { λ saved table. (before : Tables) × TakesBack saved table before };
+
+    fn change_in(alloc: Global, text: &[u8]) -> Option<Change> {
+        change_in(alloc, text)
+    }
+
+    fn make(
+        &mut self,
+        alloc: Global,
+        new: Change,
+        out: &mut Vec<u8>,
+    ) -> Result<Option<SavedTables>, NoMemory> {
+        match made(self, new) {
+            Ok(saved) => Ok(Some(saved)),
+            Err(fault) => {
+                push_fault(alloc, fault, out)?;
+                Ok(None)
+            }
         }
-        Err(fault) => push_fault(alloc, fault, out),
+    }
+
+    fn take_back(&mut self, saved: SavedTables) -> Result<(), NoMemory> {
+        let mut saved = saved;
+        let done = self.back(&mut saved);
+        drop(saved);
+        done
+    }
+
+    fn push_rows(&self, alloc: Global, out: &mut Vec<u8>) -> Result<(), NoMemory> {
+        push_lists(alloc, self, out)
     }
 }
 
@@ -63,25 +69,6 @@ fn push_count(
         table.records().len()
     )?;
     out.extend_from_slice(text.as_str().as_bytes())
-}
-
-fn obey_change(
-    alloc: Global,
-    table: &mut ZoneTable,
-    kept: bool,
-    text: &[u8],
-    out: &mut Vec<u8>,
-) -> Result<(), NoMemory> {
-    match change_in(alloc, text) {
-        Some(new) => {
-            if kept {
-                change_kept(alloc, table, new, out)
-            } else {
-                change_and_back(alloc, table, new, out)
-            }
-        }
-        None => out.extend_from_slice(b"what?\n"),
-    }
 }
 
 fn obey_word(
