@@ -24,7 +24,7 @@ use Rattle.table_changes.specs.Both as tables
 use Rattle.table_changes.specs.BothLaws.{clears_both, shows_both}
 use Rattle.table_changes.specs.declared.tables.SavedTable.{SavedTable}
 use Rattle.table_changes.specs.declared.tables.SavedTable.TheVariants as saved_by
-use Rattle.store.specs.SumLaws.{choice_part, sum_same, sum_clears, sum_shows, sum_admitted, sum_swept, sum_forgot, first_made, second_made, first_moved, second_moved, first_gone, second_gone, next_part, last_part, first_part, row_still}
+use Rattle.store.specs.SumLaws.{choice_part, sum_same, sum_clears, sum_shows, sum_admitted, sum_swept, sum_forgot, first_made, second_made, first_moved, second_moved, first_gone, second_gone, next_part, last_part, first_part, part_can_go_back, part_can_go_again, row_still}
 use Rattle.store.specs.World.{Shelved, KeepsFlushes, shown_face}
 use Rattle.store.specs.World as cells
 use Rattle.store.specs.WorldLaws.{shows_present, clears_by_word}
@@ -146,16 +146,7 @@ pub same_table : (saved : SavedChange) (s s' : SavedTable) → saved.way ≡ way
 same_table saved s s' e same = ap (λ (w : WayBack). record { command = saved.command; way = w }) (ap (λ (t : SavedTable). way.Table t) same ∙ sym e)
 
 pub table_can_go_back : (x : Store) (saved : SavedChange) (s : SavedTable) → saved.way ≡ way.Table s → CanGoBack store_table KeepsStore x saved → CanGoBack saved_table KeepsBoth x.tables s
-table_can_go_back x saved s e r = (
-  part of_tables r.0,
-  (
-    r.1.0,
-    (
-      part of_tables r.1.1.0,
-      last_part of_tables store_table saved_table tables_agree KeepsBoth x.tables r.0 r.1.0 saved r.1.1.0 s (ap table_way e) r.1.1.1.kept.0 r.1.1.1.uncovered,
-    ),
-  ),
-)
+table_can_go_back x saved s e r = part_can_go_back of_tables store_table saved_table tables_agree KeepsStore KeepsBoth x x.tables (λ kept keeps. keeps.0) saved s (ap table_way e) r
 
 pub table_goes_back : (x x' : Store) (saved saved' : SavedChange) (s s' : SavedTable) → saved.way ≡ way.Table s → saved'.way ≡ way.Table s' → x'.cells ≡ x.cells →
     GoesBack saved_table KeepsBoth tables.face_by x.tables s x'.tables s' → GoesBack store_table KeepsStore store_face x saved x' saved'
@@ -164,16 +155,7 @@ table_goes_back x x' saved saved' s s' e e' stays goes = λ earlier ticket later
     (goes (part of_tables earlier) ticket (part of_tables later) (last_part of_tables store_table saved_table tables_agree KeepsBoth x.tables earlier ticket saved later s (ap table_way e) at.kept.0 at.uncovered))
 
 pub table_can_go_again : (x : Store) (saved : SavedChange) (s : SavedTable) → saved.way ≡ way.Table s → CanGoAgain store_table KeepsStore x saved → CanGoAgain saved_table KeepsBoth x.tables s
-table_can_go_again x saved s e r = (
-  part of_tables r.0,
-  (
-    r.1.0,
-    (
-      part of_tables r.1.1.0,
-      first_part of_tables store_table saved_table tables_agree KeepsBoth x.tables r.0 r.1.0 saved r.1.1.0 s (ap table_way e) r.1.1.1.kept.0 r.1.1.1.founded,
-    ),
-  ),
-)
+table_can_go_again x saved s e r = part_can_go_again of_tables store_table saved_table tables_agree KeepsStore KeepsBoth x x.tables (λ kept keeps. keeps.0) saved s (ap table_way e) r
 
 pub table_goes_again : (x x' : Store) (saved saved' : SavedChange) (s s' : SavedTable) → saved.way ≡ way.Table s → saved'.way ≡ way.Table s' → x'.cells ≡ x.cells →
     GoesAgain saved_table KeepsBoth tables.face_by x.tables s x'.tables s' → GoesAgain store_table KeepsStore store_face x saved x' saved'
@@ -182,16 +164,7 @@ table_goes_again x x' saved saved' s s' e e' stays goes = λ earlier ticket late
     (goes (part of_tables earlier) ticket (part of_tables later) (first_part of_tables store_table saved_table tables_agree KeepsBoth x.tables earlier ticket saved later s (ap table_way e) at.kept.0 at.founded))
 
 pub flush_can_go_back : (x : Store) (saved : SavedChange) (s : SavedFlush) → saved.way ≡ way.Flush s → CanGoBack store_table KeepsStore x saved → CanGoBack no_table KeepsFlushes x.cells s
-flush_can_go_back x saved s e r = (
-  part of_cells r.0,
-  (
-    r.1.0,
-    (
-      part of_cells r.1.1.0,
-      last_part of_cells store_table no_table cells_agree KeepsFlushes x.cells r.0 r.1.0 saved r.1.1.0 s (ap flush_way e) r.1.1.1.kept.1 r.1.1.1.uncovered,
-    ),
-  ),
-)
+flush_can_go_back x saved s e r = part_can_go_back of_cells store_table no_table cells_agree KeepsStore KeepsFlushes x x.cells (λ kept keeps. keeps.1) saved s (ap flush_way e) r
 
 pub flush_goes_back : (x x' : Store) (saved saved' : SavedChange) (s s' : SavedFlush) → saved.way ≡ way.Flush s → saved'.way ≡ way.Flush s' → x'.tables ≡ x.tables →
     GoesBack no_table KeepsFlushes cells.face_by x.cells s x'.cells s' → GoesBack store_table KeepsStore store_face x saved x' saved'
@@ -200,16 +173,7 @@ flush_goes_back x x' saved saved' s s' e e' stays goes = λ earlier ticket later
     (goes (part of_cells earlier) ticket (part of_cells later) (last_part of_cells store_table no_table cells_agree KeepsFlushes x.cells earlier ticket saved later s (ap flush_way e) at.kept.1 at.uncovered))
 
 pub flush_can_go_again : (x : Store) (saved : SavedChange) (s : SavedFlush) → saved.way ≡ way.Flush s → CanGoAgain store_table KeepsStore x saved → CanGoAgain no_table KeepsFlushes x.cells s
-flush_can_go_again x saved s e r = (
-  part of_cells r.0,
-  (
-    r.1.0,
-    (
-      part of_cells r.1.1.0,
-      first_part of_cells store_table no_table cells_agree KeepsFlushes x.cells r.0 r.1.0 saved r.1.1.0 s (ap flush_way e) r.1.1.1.kept.1 r.1.1.1.founded,
-    ),
-  ),
-)
+flush_can_go_again x saved s e r = part_can_go_again of_cells store_table no_table cells_agree KeepsStore KeepsFlushes x x.cells (λ kept keeps. keeps.1) saved s (ap flush_way e) r
 
 pub flush_goes_again : (x x' : Store) (saved saved' : SavedChange) (s s' : SavedFlush) → saved.way ≡ way.Flush s → saved'.way ≡ way.Flush s' → x'.tables ≡ x.tables →
     GoesAgain no_table KeepsFlushes cells.face_by x.cells s x'.cells s' → GoesAgain store_table KeepsStore store_face x saved x' saved'

@@ -12,7 +12,7 @@ use Rattle.change_law.specs.declared.kept.Standing.TheVariants.{Done, Undone, Cl
 use Rattle.change_law.specs.Choice.{IsOneTable, AllowsAt, IsChoice, IsPresent, IsUncovered, IsFounded, cleared}
 use Rattle.change_law.specs.Effect.{effect}
 use Rattle.change_law.specs.Face.{Face, IsSame, IsSameAt, face_with, face_without}
-use Rattle.change_law.specs.Row.{IsRowAfter, IsRowFrom, IsNext, IsLast, IsFirst, any, same_face, where_chosen, kept_as, with_change}
+use Rattle.change_law.specs.Row.{IsRowAfter, IsRowFrom, IsNext, IsLast, IsFirst, CanGoBack, CanGoAgain, any, same_face, where_chosen, kept_as, with_change}
 use Rattle.table_changes.specs.Part.{with_part, part}
 use Rattle.table_changes.specs.PartLaws.{part_append, part_cleared, part_at, part_past, part_all, part_present}
 use Rattle.store.specs.Sum.{joined, KeepsParts, face_of_parts}
@@ -72,6 +72,18 @@ module _ {S P : Type 0} (mine : S → Option P) (table : S → Option ℕ) (own 
     kept = subst (λ (l : List (KeptChange P)). keeps world l) (part_at mine earlier Undone ticket saved later p e) kept;
     founded = founded_part saved p earlier e founded;
   }
+
+  -- what can be undone in the whole can be undone in its part
+  pub part_can_go_back : {X W : Type 0} (all : X → List (KeptChange S) → Type 0) (keeps : W → List (KeptChange P) → Type 0) (whole : X) (world : W)
+      → ((kept : List (KeptChange S)) → all whole kept → keeps world (part mine kept)) → (saved : S) (p : P) → mine saved ≡ Some p → CanGoBack table all whole saved → CanGoBack own keeps world p
+  part_can_go_back all keeps whole world keeps_part saved p e r =
+      (part mine r.0, (r.1.0, (part mine r.1.1.0, last_part keeps world r.0 r.1.0 saved r.1.1.0 p e (keeps_part _ r.1.1.1.kept) r.1.1.1.uncovered)))
+
+  -- and what can be redone, redone
+  pub part_can_go_again : {X W : Type 0} (all : X → List (KeptChange S) → Type 0) (keeps : W → List (KeptChange P) → Type 0) (whole : X) (world : W)
+      → ((kept : List (KeptChange S)) → all whole kept → keeps world (part mine kept)) → (saved : S) (p : P) → mine saved ≡ Some p → CanGoAgain table all whole saved → CanGoAgain own keeps world p
+  part_can_go_again all keeps whole world keeps_part saved p e r =
+      (part mine r.0, (r.1.0, (part mine r.1.1.0, first_part keeps world r.0 r.1.0 saved r.1.1.0 p e (keeps_part _ r.1.1.1.kept) r.1.1.1.founded)))
 
 -- ---- the rows of a part, at other names of its lists
 
