@@ -106,7 +106,7 @@ impl Book for PlainBook {
     ghost use Rattle.history.specs.Counts.{counted_of, stores_counted, same_count};
     ghost use Rattle.history.specs.Answers.{IsTimely, Answers, TellsLimit, history_after};
     ghost use Rattle.history.specs.History.{past_of};
-    ghost use Rattle.undo_book.specs.PlainBook.{settings_in, stored_in, StandsFor};
+    ghost use Rattle.undo_book.specs.PlainBook.{settings_in, stored_in, IsFullAtItsLimit, MakesRoom, StandsFor, TellsItsLimit};
     ghost use Rattle.world_book.specs.Versions.{ForgetsOldest};
 
     ghost stands_for = { StandsFor };
@@ -134,16 +134,13 @@ impl Book for PlainBook {
         ensures full { (n : ℕ) → IsErrOf result (StepFault.Full n) → stored_in self.old ≡ n }
         ensures same_store { OnErr result (stored_in self.new ≡ stored_in self.old) }
         ensures settings { settings_in self.new ≡ settings_in self.old }
-        ensures by_limit { IfErr result (λ fault. (h : List Event) → StandsFor self.old h →
-            TellsLimit (stored_in self.old) (settings_in self.old).cells event fault) }
+        ensures by_limit { IfErr result (TellsItsLimit self.old event) }
 
         // It stores each admission until its owner is forgotten, so it is full exactly where there are as many of these as there may be cells.
-        ensures full_at_the_limit { (h : List Event) → StandsFor self.old h → IsTimely (length h) event → IsTrue (is_admission event)
-            → (IsErrOf result (StepFault.Full (settings_in self.old).cells) ↔ (counted_of h ≡ (settings_in self.old).cells)) }
+        ensures full_at_the_limit { IsFullAtItsLimit self.old event result }
 
         // A forget of the name to forget first at its moment makes room: fewer cells are stored after it.
-        ensures room { OnOk result ((h : List Event) → StandsFor self.old h →
-            ForgetsOldest (past_of (settings_in self.old).journal h) event → stored_in self.new < stored_in self.old) }
+        ensures room { OnOk result (MakesRoom self.old event self.new) }
     {
         self.take_event(event)
     }
