@@ -6,7 +6,7 @@ use Rattle.dns_text.specs.declared.addr.Addr.{Addr}
 use Rattle.dns_query.specs.declared.over.Over.{Over}
 use Rattle.dns_query.specs.declared.over.Over.TheVariants.{Udp, Tcp}
 use Rattle.front_workers.specs.Framing.{framed}
-use Rattle.dns_sockets.specs.Place.{IsPlaceOf}
+use Rattle.system.specs.Place.{IsPlaceOf}
 
 -- The query left by a socket that is connected to the place, and the reply came to that socket.
 pub record ByDatagrams {S : Type 0} (opened : S → SocketAddr → Type 0) (sent came : S → List ℕ → Type 0) (place : SocketAddr) (query reply : List ℕ) : Type 0 where

@@ -1,14 +1,10 @@
 pub mod Answerable
 pub mod Asked
 pub mod Datagrams
-pub mod Descriptors
-pub mod Failures
 pub mod Fits
 pub mod Heard
 pub mod Line
 pub mod Own
-pub mod Place
-pub mod Ranges
 pub mod Reads
 pub mod Spots
 pub mod Wanting

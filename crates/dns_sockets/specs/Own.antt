@@ -9,7 +9,7 @@ use Rattle.std.specs.declared.net.ipv6_addr.Ipv6Addr.{Ipv6Addr}
 use Rattle.dns_text.specs.declared.addr.Addr.{Addr}
 use Rattle.dns_query.specs.declared.over.Over.{Over}
 use Rattle.dns_query.specs.declared.over.Over.TheVariants.{Udp, Tcp}
-use Rattle.dns_sockets.specs.Place.{IsPlaceOf}
+use Rattle.system.specs.Place.{IsPlaceOf}
 
 -- An IPv4-mapped address stands for the IPv4 address in it (RFC 4291, section 2.5.5.2), and any other for itself.
 abbrev pub StandsFor : IpAddr → IpAddr → Type 0

@@ -3,9 +3,9 @@ use Rattle.std.specs.Prelude.{◌≡◌, ◌≤◌, ◌⊎◌, Any, Option, Some
 use Rattle.dns_text.specs.declared.addr.Addr.{Addr}
 use Rattle.history.specs.declared.servers.Origin.TheVariants.{Cache}
 use Rattle.iterate.specs.declared.search.Hunt.{Hunt}
-use Rattle.dns_sockets.specs.declared.name_servers.range.AddressRange.{AddressRange}
+use Rattle.system.specs.declared.range.AddressRange.{AddressRange}
 use Rattle.dns_sockets.specs.declared.name_servers.withheld.TheConstants.{MOST_LISTED}
-use Rattle.dns_sockets.specs.Ranges.{IsInRange}
+use Rattle.system.specs.Ranges.{IsInRange}
 
 -- Strangers may have named the addresses of the list: it is of the cache, and of no stub and not the hints. An unknown list is taken for one of these.
 abbrev pub IsOfStrangers : Option Hunt → Type 0

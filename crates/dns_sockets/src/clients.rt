@@ -2,10 +2,6 @@
 
 // In the order in which to read them.
 
-// An address as the C library takes it.
-pub mod c_address;
-// Options of sockets and descriptors that std lacks.
-pub mod options;
 // The UDP sockets of the service, one for each worker.
 pub mod udp_binding;
 // The TCP sockets of the service, and the connection that wakes a worker.
@@ -18,7 +14,5 @@ pub mod spot;
 pub mod frame_reader;
 // The writer of a client's connection.
 pub mod frame_writer;
-// Errors that mean no file descriptors are left.
-pub mod descriptors;
 // The listener at which clients' connections come in.
 pub mod connections;

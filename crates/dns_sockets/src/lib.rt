@@ -5,37 +5,27 @@
 
 // The length of a message over TCP.
 mod lengths;
-// Errors of calls that never wait.
-mod call_errors;
 // Sockets at which clients' queries come in.
 mod clients;
-// Files whose octets come when another program writes them.
-mod polled_file;
 // Sockets by which queries go out to name servers.
 mod name_servers;
 
-pub use call_errors::would_wait;
 pub use clients::answerable::is_answerable;
 pub use clients::connections::Connections;
-pub use clients::descriptors::lacks_descriptors;
 pub use clients::frame_reader::FrameReader;
 pub use clients::frame_writer::{FrameWriter, StreamWriter};
-pub use clients::options::{descriptor_limit, takes_octets};
 pub use clients::tcp_binding::{bind_clients, bind_tcp, bind_with_backlog, wake_tcp};
 pub use clients::udp_binding::bind_each;
 pub use clock::{Elapsing, MonotonicClock, REST_SECONDS, StopFlag, Timeouts, glance};
-pub use name_servers::fault_line::{WITHHELD, cause_of, log_exchange, log_too_long};
+pub use name_servers::fault_line::{WITHHELD, log_exchange, log_too_long};
 pub use name_servers::fitting::{MOST_MISFITS, fits};
 pub use name_servers::framed_query::MOST_QUERY;
 pub use name_servers::framed_reply::octets_wanting;
 pub use name_servers::heard::UdpHeard;
 pub use name_servers::one_socket::OneSocket;
-pub use name_servers::place::place_of;
-pub use name_servers::range::AddressRange;
 pub use name_servers::ready_net::{ReadyConnection, ReadyNet, ReadySocket};
 pub use name_servers::server_net::ServerNet;
 pub use name_servers::socket_exchange::SocketExchange;
 pub use name_servers::tcp_line::TcpLine;
 pub use name_servers::udp_line::UdpLine;
 pub use name_servers::withheld::{MOST_LISTED, is_of_strangers, is_withheld, limits_law};
-pub use polled_file::PolledFile;

@@ -2,8 +2,6 @@
 
 // In the order in which to read them.
 
-// The place of a name server: its address and port as std has them.
-pub mod place;
 // The test whether octets may be the reply to a query.
 pub mod fitting;
 // A socket at a port that the system draws.
@@ -20,8 +18,6 @@ pub mod ready_net;
 pub mod one_socket;
 // The places that the service never asks: addresses that belong to no host, and its own.
 pub mod own;
-// A range of IP addresses.
-pub mod range;
 // Servers that are not asked, because of the list that named their address.
 pub mod withheld;
 // The log lines about a question: an exchange that failed, and a reply that no message holds.

@@ -1,6 +1,6 @@
 -- The counters of a worker, as clients are settled and exchanges begin and end.
 use Rattle.std.specs.Prelude.{◌≡◌, ◌⊎◌, ◌≤◌, ℕ, ◌-◌, ◌^◌}
-use Rattle.front_workers.specs.Counts.{Rises}
+use Rattle.system.specs.Counts.{Rises}
 use Rattle.flight.specs.declared.counts.Counts.{Counts}
 use Rattle.flight.specs.declared.outside.Listened.{Listened}
 use Rattle.flight.specs.declared.outside.Listened.TheVariants.{Nothing}

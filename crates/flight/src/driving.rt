@@ -1,7 +1,7 @@
 //! The course of a question from one exchange to the next.
 
 ghost use Rattle.std.specs.Prelude.{◌≡◌, ◌≤◌, ◌+◌, None, IfNone, IfSome, OnSome};
-ghost use Rattle.front_workers.specs.Counts.{Rises};
+ghost use Rattle.system.specs.Counts.{Rises};
 ghost use Rattle.flight.specs.Asking.{AwaitsFor, FliesFor, HasHeardFor, IsAskedBy, SettlesAsking};
 ghost use Rattle.flight.specs.declared.outside.Listened.TheVariants.{Anew};
 ghost use Rattle.flight.specs.Bounds.{IsBounded};

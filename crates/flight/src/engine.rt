@@ -1,7 +1,7 @@
 //! The questions of one worker that are in flight.
 
 ghost use Rattle.std.specs.Prelude.{◌≡◌, ◌⊎◌, ◌<◌, ◌≤◌, ◌+◌, [], ℕ, None, IfSome};
-ghost use Rattle.front_workers.specs.Counts.{Rises};
+ghost use Rattle.system.specs.Counts.{Rises};
 ghost use Rattle.flight.specs.Bounds.{AllGoOn, EachIsSmall, EndsLargest, Relieves, kept_all};
 ghost use Rattle.flight.specs.Clients.{LosesNone, SettlesOctets};
 ghost use Rattle.flight.specs.FirstLook.{HeedsLookOf, ListensAt, ListensToEach};

@@ -1,6 +1,6 @@
 -- How the counts of a worker go on.
 use Rattle.std.proofs.Common.{◌≡◌, ◌∙◌, ◌≤◌, ◌++◌, ℕ, ◌+◌, max, List, [], inl, inr, refl, subst, sym, arith}
-use Rattle.front_workers.specs.Counts.{Rises}
+use Rattle.system.specs.Counts.{Rises}
 use Rattle.front_workers.specs.Working.{HasFailed}
 use Rattle.flight.specs.declared.counts.Counts.{Counts}
 use Rattle.flight.specs.Bounds.{IsBounded}

@@ -6,7 +6,7 @@ use Rattle.std.specs.Prelude.{Option, Some, None, IfSome, IsSomeAnd}
 use Rattle.std.specs.List.{AllByRecursion}
 use Rattle.std.specs.declared.net.SocketAddr.{SocketAddr}
 use Rattle.front_workers.specs.declared.limits.TheConstants.{MOST_DATAGRAM}
-use Rattle.front_workers.specs.declared.came.Came.{Came}
+use Rattle.system.specs.declared.came.Came.{Came}
 use Rattle.flight.specs.Leaving.{End, Ends}
 use Rattle.flight.specs.Waiting.{FlightState}
 use Rattle.flight_sockets.specs.declared.client.UdpClient.{UdpClient}

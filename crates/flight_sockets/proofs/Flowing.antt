@@ -2,7 +2,7 @@
 use Rattle.std.proofs.Common.{◌≡◌, ◌∙◌, ◌≤◌, ℕ, List, [], ◌∷◌, ap, inl, inr, refl, subst, sym, arith}
 use Rattle.mio.specs.declared.event.event.Event.{Event}
 use Rattle.clock.specs.Moments.{ClockState}
-use Rattle.front_workers.specs.Counts.{Rises}
+use Rattle.system.specs.Counts.{Rises}
 use Rattle.front_workers.specs.Framing.{HasLength}
 use Rattle.flight.specs.declared.counts.Counts.{Counts}
 use Rattle.flight.specs.Bounds.{IsBounded}

@@ -1,7 +1,7 @@
 -- How a worker asks name servers, which no call changes.
 use Rattle.std.specs.Prelude.{◌≡◌, ℕ, List}
 use Rattle.std.specs.declared.net.SocketAddr.{SocketAddr}
-use Rattle.dns_sockets.specs.declared.name_servers.range.AddressRange.{AddressRange}
+use Rattle.system.specs.declared.range.AddressRange.{AddressRange}
 use Rattle.flight_sockets.specs.declared.asking.AskingTerms.{AskingTerms}
 
 -- how a worker asks name servers

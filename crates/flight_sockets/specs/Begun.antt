@@ -2,8 +2,8 @@
 use Rattle.std.specs.Prelude.{◌≡◌, ℕ, Option, Some, None, List, [], ◌∷◌, take}
 use Rattle.std.specs.List.{AllByRecursion}
 use Rattle.std.specs.declared.net.SocketAddr.{SocketAddr}
-use Rattle.front_workers.specs.declared.came.Came.{Came}
-use Rattle.front_workers.specs.Counts.{Rises}
+use Rattle.system.specs.declared.came.Came.{Came}
+use Rattle.system.specs.Counts.{Rises}
 use Rattle.flight.specs.Leaving.{Ends}
 use Rattle.flight.specs.Waiting.{FlightState, outstanding}
 use Rattle.flight_sockets.specs.declared.client.UdpClient.{UdpClient}

@@ -8,7 +8,7 @@ use Rattle.dns_query.specs.declared.over.Over.{Over}
 use Rattle.dns_query.specs.declared.over.Over.TheVariants.{Udp as OverUdp, Tcp as OverTcp}
 use Rattle.dns_sockets.specs.declared.name_servers.framed_query.TheConstants.{MOST_QUERY}
 use Rattle.dns_sockets.specs.Fits.{Fits}
-use Rattle.dns_sockets.specs.Place.{IsPlaceOf}
+use Rattle.system.specs.Place.{IsPlaceOf}
 use Rattle.front_workers.specs.Framing.{framed}
 use Rattle.dns_sockets.specs.Line.{LineState, WentFrom}
 use Rattle.dns_sockets.specs.Own.{IsNoLine}

@@ -2,7 +2,7 @@
 use Rattle.std.specs.Prelude.{◌≡◌, ◌≢◌, ◌≤◌, ℕ, IfSome, List, [], ◌∷◌}
 use Rattle.mio.specs.declared.event.event.Event.{Event}
 use Rattle.mio.specs.Event.{event_token}
-use Rattle.front_workers.specs.Counts.{Rises}
+use Rattle.system.specs.Counts.{Rises}
 use Rattle.flight.specs.declared.counts.Counts.{Counts}
 use Rattle.flight.specs.declared.kept.TheConstants.{MOST_AT_REST}
 use Rattle.flight.specs.declared.table.TheConstants.{PATIENCE}

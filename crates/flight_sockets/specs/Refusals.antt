@@ -6,7 +6,7 @@ use Rattle.dns_name.specs.Labels.{Labels}
 use Rattle.dns_text.specs.declared.addr.Addr.{Addr}
 use Rattle.dns_query.specs.declared.over.Over.{Over}
 use Rattle.dns_sockets.specs.Withheld.{IsWithheld}
-use Rattle.dns_sockets.specs.declared.name_servers.range.AddressRange.{AddressRange}
+use Rattle.system.specs.declared.range.AddressRange.{AddressRange}
 use Rattle.history.specs.declared.servers.Origin.{Origin}
 use Rattle.history.specs.declared.servers.Origin.TheVariants.{Cache}
 use Rattle.history.specs.declared.servers.Servers.{Servers}

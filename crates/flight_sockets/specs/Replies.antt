@@ -5,7 +5,7 @@ use Rattle.front_workers.specs.declared.limits.TheConstants.{MOST_DATAGRAM, MOST
 use Rattle.dns_sockets.specs.Asked.{IsAskedAt}
 use Rattle.dns_sockets.specs.Fits.{Fits}
 use Rattle.dns_sockets.specs.Line.{LineState}
-use Rattle.dns_sockets.specs.Place.{IsPlaceOf}
+use Rattle.system.specs.Place.{IsPlaceOf}
 use Rattle.front_workers.specs.Dear.{IsLong}
 use Rattle.front_workers.specs.Framing.{framed}
 use Rattle.flight.specs.declared.outside.Listened.{Listened}

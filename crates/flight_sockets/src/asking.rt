@@ -2,8 +2,8 @@
 
 use crate::permits::Permits;
 use crate::zone_shares::ZoneShares;
-use dns_sockets::AddressRange;
 use std::sync::atomic::AtomicU64;
+use system::AddressRange;
 
 /// How the workers of a service ask name servers. All of them share it.
 #[derive(Clone, Copy)]

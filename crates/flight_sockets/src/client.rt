@@ -7,10 +7,11 @@ use crate::network::network_of;
 use crate::service_socket::ServiceSocket;
 use dns_query::Over;
 use flight::{Client, Numbered};
-use front_workers::{Came, DATAGRAM_ROOM, MOST_DATAGRAM};
+use front_workers::{DATAGRAM_ROOM, MOST_DATAGRAM};
 use std::marker::PhantomData;
 use std::net::SocketAddr;
 use std::snapshot::Snapshot;
+use system::Came;
 
 /// The client of a datagram, which waits for its reply. A worker makes one client of each datagram.
 #[derive(Drop)]

@@ -9,15 +9,16 @@ ghost use Rattle.flight_sockets.specs.Taken.{IsTakenFrom, OnFault};
 
 use crate::client::UdpClient;
 use crate::service_socket::ServiceSocket;
-use dns_sockets::{is_answerable, would_wait};
+use dns_sockets::is_answerable;
 use dns_text::NoMemory;
 use flight::Numbered;
-use front_workers::{Came, DATAGRAM_ROOM, MOST_DATAGRAM};
+use front_workers::{DATAGRAM_ROOM, MOST_DATAGRAM};
 use std::alloc::Global;
 use std::io;
 use std::io::ErrorKind;
 use std::marker::PhantomData;
 use std::net::SocketAddr;
+use system::{Came, would_wait};
 
 /// The most datagrams that are taken before the first of them begins. Receiving, answering and sending are batched to keep
 /// the code of each loop in the processor's cache.

@@ -81,7 +81,6 @@ mod udp_worker;
 mod tcp;
 
 pub use asking::AskingTerms;
-pub use dns_sockets::cause_of;
 pub use limit::{
     MOST_CONNECTIONS, MOST_EXCHANGES, SPARE_DESCRIPTORS, limits_law, most_connections,
     most_exchanges,
@@ -90,6 +89,7 @@ pub use listener::{UdpListener, listen_each};
 pub use mio::Waker;
 pub use permits::{MOST_EQUAL, Permits};
 pub use service_socket::ServiceSocket;
+pub use system::cause_of;
 pub use table_seed::TableSeed;
 pub use tally::{Sums, Tally};
 pub use tcp::client_stream::ClientStream;

@@ -10,13 +10,12 @@ use crate::client::UdpClient;
 use crate::outgoing::Outgoing;
 use crate::reply_sender::ReplySender;
 use crate::service_socket::ServiceSocket;
-use dns_sockets::cause_of;
 use flight::ReplyOctets;
-use front_workers::DEVICE_FAULT;
 use log::{Log, warn};
 use std::alloc::Global;
 use std::marker::Model;
 use std::net::SocketAddr;
+use system::{DEVICE_FAULT, cause_of};
 
 /// The socket of the service, and the replies that wait to be sent by it. Contracts see both.
 #[derive(Drop)]

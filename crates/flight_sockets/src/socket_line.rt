@@ -17,7 +17,7 @@ use crate::permits::{NoPermit, Permit};
 use crate::transport::Transport;
 use dns_name::Name;
 use dns_query::Over;
-use dns_sockets::{OneSocket, ReadyNet, TcpLine, UdpLine, log_exchange, place_of};
+use dns_sockets::{OneSocket, ReadyNet, TcpLine, UdpLine, log_exchange};
 use dns_text::{Addr, Octets, Shared};
 use flight::{Counts, InFlight, Listened};
 use front_workers::is_dear;
@@ -28,6 +28,7 @@ use std::alloc::Global;
 use std::io;
 use std::marker::Model;
 use std::net::SocketAddr;
+use system::place_of;
 
 /// An exchange over a socket of its own. Contracts see the query that went out, and the token of the socket.
 ///

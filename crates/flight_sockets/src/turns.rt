@@ -2,7 +2,7 @@
 
 ghost use Rattle.std.specs.Prelude.{◌≡◌, ◌≤◌, [], false, map, max, take, IfOk, OnErr, OnOk};
 ghost use Rattle.std.specs.Duration.{as_nanos};
-ghost use Rattle.front_workers.specs.Counts.{Rises};
+ghost use Rattle.system.specs.Counts.{Rises};
 ghost use Rattle.mio.specs.Events.{items};
 ghost use Rattle.clock.specs.Moments.{millis_at, IsRead};
 ghost use Rattle.flight.specs.declared.kept.TheConstants.{MOST_AT_REST};

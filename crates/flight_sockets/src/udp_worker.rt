@@ -18,10 +18,10 @@ use crate::table_seed::TableSeed;
 use crate::tally::Tally;
 use crate::turns::Turns;
 use clock::{Clock, Elapsing, StopFlag};
-use dns_sockets::{ReadyNet, cause_of};
+use dns_sockets::ReadyNet;
 use dns_text::NoMemory;
 use flight::{Flight, Numbered};
-use front_workers::{DEVICE_FAULT, MOST_FAILURES, WORKER_ENDED, WorkEnd};
+use front_workers::{MOST_FAILURES, WorkEnd};
 use log::{Log, warn};
 use mio::net::UdpSocket;
 use rand_core::Rng;
@@ -29,6 +29,7 @@ use std::alloc::Global;
 use std::marker::Model;
 use std::sync::Wait;
 use std::time::Instant;
+use system::{DEVICE_FAULT, WORKER_ENDED, cause_of};
 
 /// A worker that takes datagrams. Contracts see how it asks name servers, its counters, its clock, the socket of the service, and
 /// the replies that wait to be sent by it.

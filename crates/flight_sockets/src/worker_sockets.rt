@@ -48,13 +48,11 @@ use crate::zone_shares::ZoneShares;
 use clock::{Clock, MonotonicClock, glance};
 use dns_name::Name;
 use dns_query::Over;
-use dns_sockets::{
-    AddressRange, OneSocket, ReadyNet, WITHHELD, cause_of, is_withheld, log_exchange, log_too_long,
-};
+use dns_sockets::{OneSocket, ReadyNet, WITHHELD, is_withheld, log_exchange, log_too_long};
 use dns_text::{Addr, NoMemory, Octets, Shared};
 use dns_wire::Rcode;
 use flight::{Cause, Client, Counts, InFlight, Listened, Numbered, Outside, ReplyOctets, Unserved};
-use front_workers::{DEVICE_FAULT, MOST_MESSAGE, wants_reply};
+use front_workers::{MOST_MESSAGE, wants_reply};
 use history::{Event, Servers};
 use iterate::{Allowance, Hunt};
 use log::{Log, warn};
@@ -65,6 +63,7 @@ use std::net::SocketAddr;
 use std::sync::Wait;
 use std::sync::atomic::{AtomicU64, Ordering};
 use std::time::Duration;
+use system::{AddressRange, DEVICE_FAULT, cause_of};
 
 /// The sockets of one worker: those by which replies leave, and those of its exchanges.
 #[derive(Drop)]

@@ -2,7 +2,7 @@
 use Rattle.std.proofs.Common.{◌≡◌, ◌≤◌, ◌+◌, ◌-◌, ◌^◌, ℕ, refl, inl, inr, arith}
 use Rattle.std.specs.Prelude.{Result, Ok, Err, IsErrOf, ◌⊎◌}
 use Rattle.streams.specs.declared.engine.TheConstants.{MOST_READS}
-use Rattle.front_workers.specs.Counts.{Rises}
+use Rattle.system.specs.Counts.{Rises}
 use Rattle.front_workers.specs.declared.fault.StreamFault.{StreamFault}
 use Rattle.front_workers.specs.declared.fault.StreamFault.TheVariants.{Read, Write, Short, NoMemory}
 use Rattle.front_workers.specs.TcpWorking.{IsExcused}

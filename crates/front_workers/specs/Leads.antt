@@ -21,8 +21,8 @@ use Rattle.iterate.specs.Exchanges.{exchanges_of}
 use Rattle.iterate.specs.Task.{IsTask, hunt_in}
 use Rattle.iterate.specs.Wanted.{MayWant, id_drawn, stream_behind}
 use Rattle.rand_core.specs.Stream.{Stream}
-use Rattle.front_workers.specs.declared.device.DeviceFault.{DeviceFault}
-use Rattle.front_workers.specs.declared.device.DeviceFault.TheVariants.{Device, NoMemory}
+use Rattle.system.specs.declared.device.DeviceFault.{DeviceFault}
+use Rattle.system.specs.declared.device.DeviceFault.TheVariants.{Device, NoMemory}
 
 -- One call of a desk: the desk before, the event, the reply or the fault, the desk after.
 abbrev pub Calls : Type 0 → Type 1

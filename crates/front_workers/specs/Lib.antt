@@ -1,4 +1,3 @@
-pub mod Counts
 pub mod Leads
 pub mod Lending
 pub mod Serves

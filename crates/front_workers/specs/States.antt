@@ -6,9 +6,9 @@ use Rattle.dns_text.specs.declared.record.Question.{Question}
 use Rattle.dns_query.specs.declared.over.Over.{Over}
 use Rattle.dns_query.specs.declared.over.Over.TheVariants.{Udp, Tcp}
 use Rattle.iterate.specs.declared.answer.Answer.{Answer}
-use Rattle.front_workers.specs.declared.device.DeviceFault.{DeviceFault}
+use Rattle.system.specs.declared.device.DeviceFault.{DeviceFault}
 use Rattle.front_workers.specs.declared.fault.StreamFault.{StreamFault}
-use Rattle.front_workers.specs.declared.came.Came.{Came}
+use Rattle.system.specs.declared.came.Came.{Came}
 use Rattle.front_workers.specs.declared.tools.Tools.{Tools}
 use Rattle.front_workers.specs.declared.work_end.WorkEnd.{WorkEnd}
 use Rattle.clock.specs.Ticks.{Ticks}

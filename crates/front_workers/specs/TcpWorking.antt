@@ -1,7 +1,7 @@
 -- The work of a worker on connections: each is served as a stream of messages.
 use Rattle.std.specs.Prelude.{◌≡◌, ℕ, ◌+◌, Option, Result, Err, List}
 use Rattle.streams.specs.Engine.{FailsToRead}
-use Rattle.front_workers.specs.declared.device.DeviceFault.{DeviceFault}
+use Rattle.system.specs.declared.device.DeviceFault.{DeviceFault}
 use Rattle.front_workers.specs.declared.fault.StreamFault.{StreamFault}
 use Rattle.front_workers.specs.declared.fault.StreamFault.TheVariants.{Read, Write}
 use Rattle.front_workers.specs.Stream.{Serving, Lacking, Streams}

@@ -5,7 +5,7 @@ use Rattle.dns_text.specs.declared.addr.Addr.{Addr}
 use Rattle.iterate.specs.declared.search.Hunt.{Hunt}
 use Rattle.iterate.specs.declared.want.Want.{Want}
 use Rattle.iterate.specs.declared.want.Want.TheVariants.{Send, Finish}
-use Rattle.front_workers.specs.declared.device.DeviceFault.TheVariants.{NoMemory}
+use Rattle.system.specs.declared.device.DeviceFault.TheVariants.{NoMemory}
 use Rattle.front_workers.specs.declared.run.WantOutcome.{WantOutcome}
 use Rattle.front_workers.specs.declared.run.WantOutcome.TheVariants.{Go, Done}
 use Rattle.front_workers.specs.Leads.{Calls, Asks, Met}

@@ -3,8 +3,8 @@ use Rattle.std.specs.Prelude.{◌≡◌, ℕ, ◌<◌, ◌≤◌, Option, Some, 
 use Rattle.std.specs.declared.net.SocketAddr.{SocketAddr}
 use Rattle.dns_wire.specs.declared.server.query.Asked.TheVariants.{Drop}
 use Rattle.dns_wire.specs.Server.Asking.{AsksFor}
-use Rattle.front_workers.specs.declared.device.DeviceFault.{DeviceFault}
-use Rattle.front_workers.specs.declared.came.Came.{Came}
+use Rattle.system.specs.declared.device.DeviceFault.{DeviceFault}
+use Rattle.system.specs.declared.came.Came.{Came}
 use Rattle.front_workers.specs.declared.limits.TheConstants.{MOST_DATAGRAM}
 use Rattle.front_workers.specs.Serves.{fault_octets}
 use Rattle.front_workers.specs.Stream.{Serving, Lacking}

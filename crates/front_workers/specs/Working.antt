@@ -1,7 +1,7 @@
 -- The work of a worker: it serves each datagram or connection that comes in.
 use Rattle.std.specs.Prelude.{◌⊎◌, ℕ, ◌+◌, ◌-◌, ◌≤◌, ◌^◌, Option, Some, None, Result, Ok, Err}
-use Rattle.front_workers.specs.declared.device.DeviceFault.{DeviceFault}
-use Rattle.front_workers.specs.declared.device.DeviceFault.TheVariants.{Device, NoMemory}
+use Rattle.system.specs.declared.device.DeviceFault.{DeviceFault}
+use Rattle.system.specs.declared.device.DeviceFault.TheVariants.{Device, NoMemory}
 use Rattle.front_workers.specs.declared.limits.TheConstants.{MOST_FAILURES}
 use Rattle.front_workers.specs.declared.work_end.WorkEnd.{WorkEnd}
 use Rattle.front_workers.specs.declared.work_end.WorkEnd.TheVariants.{Ended, Failing}

@@ -5,13 +5,13 @@ ghost use Rattle.std.specs.Option.{option_copied};
 ghost use Rattle.dns_text.specs.declared.addr.Addr.{Addr};
 ghost use Rattle.dns_query.specs.declared.over.Over.{Over};
 ghost use Rattle.iterate.specs.declared.search.Hunt.{Hunt};
-ghost use Rattle.front_workers.specs.declared.device.DeviceFault.{DeviceFault};
-ghost use Rattle.front_workers.specs.Counts.{CountsFault};
+ghost use Rattle.system.specs.declared.device.DeviceFault.{DeviceFault};
+ghost use Rattle.system.specs.Counts.{CountsFault};
 
-use crate::device::DeviceFault;
 use dns_query::Over;
 use dns_text::{Addr, Octets};
 use iterate::Hunt;
+use system::DeviceFault;
 
 /// A client of name servers.
 pub trait Exchange {

@@ -5,14 +5,8 @@
 
 // The limits of messages, of exchanges and of a worker's failures.
 mod limits;
-// Lines of the log that more than one place writes.
-mod log_lines;
-// The fault of a device.
-mod device;
 // Exchanges with name servers: a query goes out, and its response comes in.
 mod exchange;
-// A datagram that came in.
-mod came;
 // Ports, at which datagrams come in and replies go out.
 mod port;
 // Listeners, at which connections come in.
@@ -46,10 +40,8 @@ mod tcp_worker;
 // A worker that serves datagrams one after another, for tests and readers: the service has `fly_udp` of `flight_sockets`.
 mod plain_udp;
 
-pub use came::Came;
 pub use clock::PATIENCE_SECONDS;
 pub use dear::is_dear;
-pub use device::DeviceFault;
 pub use exchange::Exchange;
 pub use fault::StreamFault;
 pub use framing::{frame, size_of};
@@ -58,7 +50,6 @@ pub use limits::{
     MOST_UDP_REPLY, STEP_OCTETS, limits_law,
 };
 pub use listener::Listener;
-pub use log_lines::{DEVICE_FAULT, WORKER_ENDED};
 pub use owed::wants_reply;
 pub use plain_udp::work_udp;
 pub use port::Port;

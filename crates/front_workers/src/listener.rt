@@ -1,11 +1,11 @@
 //! Listeners, at which connections come in.
 
 ghost use Rattle.std.specs.Prelude.{◌≡◌, ℕ, Option, Result, IfOk, IfSome};
-ghost use Rattle.front_workers.specs.declared.device.DeviceFault.{DeviceFault};
-ghost use Rattle.front_workers.specs.Counts.{CountsFault};
+ghost use Rattle.system.specs.declared.device.DeviceFault.{DeviceFault};
+ghost use Rattle.system.specs.Counts.{CountsFault};
 
-use crate::device::DeviceFault;
 use streams::{Sink, Source};
+use system::DeviceFault;
 
 /// A socket at which connections come in: each gives a reader and a writer.
 pub trait Listener<S: Source, W: Sink> {

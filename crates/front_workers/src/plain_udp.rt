@@ -11,10 +11,8 @@ ghost use Rattle.front_workers.specs.States.{DatagramServed, DatagramsServed};
 ghost use Rattle.front_workers.specs.UdpWorking.{Given};
 ghost use Rattle.front_workers.specs.Working.{HasFailed};
 
-use crate::device::DeviceFault;
 use crate::exchange::Exchange;
 use crate::limits::{DATAGRAM_ROOM, MOST_DATAGRAM, MOST_FAILURES};
-use crate::log_lines::{DEVICE_FAULT, WORKER_ENDED};
 use crate::owed::wants_reply;
 use crate::port::Port;
 use crate::query::serve_query;
@@ -29,6 +27,7 @@ use rand_core::Rng;
 use std::alloc::Global;
 use std::net::SocketAddr;
 use std::sync::Wait;
+use system::{DEVICE_FAULT, DeviceFault, WORKER_ENDED};
 
 /// Hands a reply to the port. A failure here does not end a worker: it may be the client that cannot be reached.
 fn give<P: Port, R: Log>(rt: &R, port: &mut P, peer: SocketAddr, reply: &[u8])

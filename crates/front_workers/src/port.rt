@@ -2,13 +2,12 @@
 
 ghost use Rattle.std.specs.Prelude.{◌≡◌, ℕ, ◌≤◌, List, Option, Result, length, IfOk, IfSome};
 ghost use Rattle.std.specs.declared.net.SocketAddr.{SocketAddr};
-ghost use Rattle.front_workers.specs.declared.device.DeviceFault.{DeviceFault};
-ghost use Rattle.front_workers.specs.declared.came.Came.{Came};
-ghost use Rattle.front_workers.specs.Counts.{CountsFault};
+ghost use Rattle.system.specs.declared.device.DeviceFault.{DeviceFault};
+ghost use Rattle.system.specs.declared.came.Came.{Came};
+ghost use Rattle.system.specs.Counts.{CountsFault};
 
-use crate::came::Came;
-use crate::device::DeviceFault;
 use std::net::SocketAddr;
+use system::{Came, DeviceFault};
 
 /// A socket at which datagrams come in and replies go out.
 pub trait Port {

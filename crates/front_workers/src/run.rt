@@ -6,7 +6,6 @@ ghost use Rattle.iterate.specs.Told.{IsFit};
 ghost use Rattle.front_workers.specs.States.{TaskBreaksOff, TaskEnds};
 ghost use Rattle.front_workers.specs.Turning.{TakesTurn, Lacks};
 
-use crate::device::DeviceFault;
 use crate::exchange::Exchange;
 use crate::tools::Tools;
 use clock::Clock;
@@ -16,6 +15,7 @@ use history::Desk;
 use iterate::{Allowance, Answer, AskFault, Hunt, Input, Task, Want, due_law};
 use rand_core::Rng;
 use std::alloc::{AllocError, Global};
+use system::DeviceFault;
 
 /// The outcome of a want.
 pub(crate) enum WantOutcome {

@@ -8,11 +8,9 @@ ghost use Rattle.front_workers.specs.declared.work_end.WorkEnd.TheVariants.{Fail
 ghost use Rattle.front_workers.specs.States.{ConnectionServed, ConnectionsServed};
 ghost use Rattle.front_workers.specs.Working.{HasFailed};
 
-use crate::device::DeviceFault;
 use crate::exchange::Exchange;
 use crate::limits::MOST_FAILURES;
 use crate::listener::Listener;
-use crate::log_lines::{DEVICE_FAULT, WORKER_ENDED};
 use crate::stream::serve_stream;
 use crate::tools::Tools;
 use crate::work_end::WorkEnd;
@@ -23,6 +21,7 @@ use rand_core::Rng;
 use std::alloc::Global;
 use std::sync::Wait;
 use streams::{Sink, Source};
+use system::{DEVICE_FAULT, DeviceFault, WORKER_ENDED};
 
 /// Serves a connection as a stream of messages, and closes it.
 pub(crate) fn serve_connection<

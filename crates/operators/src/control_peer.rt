@@ -1,13 +1,13 @@
 //! The service to which a client's lines go.
 
 use crate::fault::CliFault;
-use dns_sockets::place_of;
 use dns_text::Addr;
 use std::alloc::Global;
 use std::io;
 use std::io::ErrorKind;
 use std::net::{Net, TcpStream};
 use std::time::Duration;
+use system::place_of;
 
 /// The service to which lines go.
 #[derive(Drop)]

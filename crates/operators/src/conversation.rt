@@ -5,7 +5,6 @@
 use crate::control_peer::Peer;
 use crate::fault::CliFault;
 use crate::replies::{Replies, is_silent};
-use dns_sockets::would_wait;
 use std::alloc::Global;
 use std::io::{BufRead, Read, Split, Stdout, Write};
 use std::net::{Shutdown, TcpStream};
@@ -15,6 +14,7 @@ use std::sync::atomic::{AtomicBool, AtomicU64, Ordering};
 use std::thread::Threads;
 use std::time::{Duration, Instant};
 use std::{io, thread};
+use system::would_wait;
 
 /// How long a read waits before the receiver looks whether a reply is overdue, in milliseconds.
 const GLANCE_MILLISECONDS: u64 = 100;

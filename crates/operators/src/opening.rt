@@ -1,11 +1,11 @@
 //! The opening of a FIFO, in a thread of its own: it waits until another program opens the FIFO for writing.
 
-use dns_sockets::PolledFile;
 use std::alloc::{AllocError, Global};
 use std::sync::Arc;
 use std::sync::atomic::{AtomicBool, Ordering};
 use std::thread::{JoinHandle, Threads};
 use std::{io, thread};
+use system::PolledFile;
 
 /// A FIFO that a thread opens. The end of the process cuts off a thread that was not joined.
 #[derive(Drop)]

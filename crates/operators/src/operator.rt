@@ -5,12 +5,12 @@ ghost use Rattle.command_text.specs.Line.{read_of};
 
 use crate::first_octet::begins_as_line;
 use command_text::{Channel, Line, read_line};
-use dns_sockets::would_wait;
 use std::alloc::Global;
 use std::cell::Cell;
 use std::io;
 use std::io::Read;
 use std::net::TcpStream;
+use system::would_wait;
 
 /// The octets of a connection at which the queue looks: more than the longest line has.
 const LOOK: usize = 2048;

@@ -5,13 +5,13 @@ ghost use Rattle.std.specs.Prelude.{◌<◌, vec_len, IfSome};
 use crate::lookout::Lookout;
 use crate::operator::Operator;
 use crate::operator_turn::TURN_SECONDS;
-use dns_sockets::would_wait;
 use std::alloc::Global;
 use std::io;
 use std::io::ErrorKind;
 use std::net::{TcpListener, TcpStream};
 use std::rt::Clock;
 use std::time::Instant;
+use system::would_wait;
 
 /// The most connections that wait here. More wait in the system's own queue.
 const MOST_WAITING: usize = 32;

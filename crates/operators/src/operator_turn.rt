@@ -7,13 +7,13 @@ ghost use Rattle.operators.specs.declared.operator_turn.TheConstants.{TURN_SECON
 use crate::first_octet::begins_as_line;
 use crate::operator::Operator;
 use crate::operator_queue::OperatorQueue;
-use dns_sockets::would_wait;
 use log::{Log, warn};
 use std::cell::{Cell, RefCell};
 use std::io;
 use std::io::{ErrorKind, Read, Write};
 use std::rt::Clock;
 use std::time::{Duration, Instant};
+use system::would_wait;
 
 /// How long an operator may complete no line while another waits, in seconds.
 pub(crate) const TURN_SECONDS: u64 = 1;

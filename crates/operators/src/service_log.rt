@@ -4,7 +4,6 @@ use crate::recent_texts::{
     MOST_TEXTS, RecentTexts, TextFate, WHILE_SECONDS, Words, known_by, words_of,
 };
 use circular_buffer::HeapCircularBuffer;
-use dns_sockets::takes_octets;
 use jiff::Timestamp;
 use log::kv::Source;
 use log::span::Spans;
@@ -15,6 +14,7 @@ use std::fmt::{Display, Formatter, Write};
 use std::rt::Clock;
 use std::sync::{Mutex, Wait};
 use std::time::{Instant, SystemTime, UNIX_EPOCH};
+use system::takes_octets;
 
 /// The most lines that wait to be written.
 const MOST_WAITING: usize = 48;

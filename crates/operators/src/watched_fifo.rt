@@ -2,7 +2,6 @@
 
 use crate::lookout::Lookout;
 use crate::opening::Opening;
-use dns_sockets::{PolledFile, would_wait};
 use std::alloc::Global;
 use std::io::{ErrorKind, Read};
 use std::rt::Clock;
@@ -10,6 +9,7 @@ use std::sync::Wait;
 use std::thread::Threads;
 use std::time::Duration;
 use std::{io, thread};
+use system::{PolledFile, would_wait};
 
 /// The time between two looks at the operators while the FIFO is being opened, in milliseconds.
 const REST_MILLISECONDS: u64 = 20;

@@ -2,7 +2,7 @@
 use Rattle.std.specs.Prelude.{ℕ, Option, Some, None, option_map}
 use Rattle.clap.specs.Walk.{Text}
 use Rattle.dns_name.specs.Options.{◌>>=◌}
-use Rattle.dns_sockets.specs.declared.name_servers.range.AddressRange.{AddressRange}
+use Rattle.system.specs.declared.range.AddressRange.{AddressRange}
 use Rattle.dns_text.specs.Addr.{ip_in}
 use Rattle.dns_text.specs.Number.{number_in}
 use Rattle.dns_text.specs.Word.{cut_at}

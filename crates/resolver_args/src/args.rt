@@ -22,10 +22,10 @@ use crate::options::{LinesHelp, command};
 use crate::range::ranges_of;
 use clap::error::ErrorKind;
 use clap::{ArgMatches, Error};
-use dns_sockets::AddressRange;
 use dns_text::{Addr, Items};
 use history::Settings;
 use std::alloc::{AllocError, Global};
+use system::AddressRange;
 
 /// The lines that `clap` writes, also for help and the version, unless it ran out of memory.
 fn usage(alloc: Global, error: &Error) -> ArgsFault

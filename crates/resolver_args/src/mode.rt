@@ -7,10 +7,10 @@ ghost use Rattle.resolver_args.specs.Blame.{BlamesHints, BlamesCount, BlamesServ
 ghost use Rattle.resolver_args.specs.Mode.{IsLoopback, HasCounts, IsService};
 
 use crate::fault::{ArgsFault, BadArgument};
-use dns_sockets::AddressRange;
 use dns_text::{Addr, Ip, Items};
 use history::{MOST_CELLS, MOST_COMMANDS, MOST_HINTS, Settings};
 use shared_book::MOST_RECORDED;
+use system::AddressRange;
 
 /// A mode of the program.
 #[derive(Drop)]

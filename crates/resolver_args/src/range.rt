@@ -9,9 +9,9 @@ ghost use Rattle.resolver_args.specs.Ranges.{ip_alone, most_bits, range_in};
 ghost use Rattle.resolver_args.specs.Says.{RefusedFor};
 
 use crate::fault::{ArgsFault, BadArgument};
-use dns_sockets::AddressRange;
 use dns_text::{Ip, read_addr, read_number};
 use std::alloc::Global;
+use system::AddressRange;
 
 /// The octets before the first such octet, and the octets after it.
 fn cut_at(octet: u8, text: &[u8]) -> Option<(&[u8], &[u8])>

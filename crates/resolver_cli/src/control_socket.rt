@@ -3,8 +3,6 @@
 use crate::operator_lines::{OperatorLines, Served};
 use crate::worker::{Lent, ServiceBook};
 use clock::{Clock, MonotonicClock, REST_SECONDS};
-use dns_sockets::cause_of;
-use front_workers::DEVICE_FAULT;
 use history::Desk;
 use log::{Log, warn};
 use operators::{Operator, OperatorQueue, OperatorTurn, TurnEnd};
@@ -15,6 +13,7 @@ use std::sync::Wait;
 use std::thread;
 use std::time::Duration;
 use streams::{CountedReader, CountedWriter, Ended, ScriptFault, run_lines};
+use system::{DEVICE_FAULT, cause_of};
 
 /// Obeys lines up to the end of the input, or up to `stop`.
 fn obey_input<

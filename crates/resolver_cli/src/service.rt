@@ -18,7 +18,6 @@ use crate::worker::{
     Lent, OverTcp, OverUdp, ServiceBook, Terms, pass_of, run_tcp, run_udp, tcp_workers, udp_workers,
 };
 use cell_store::NameSeed;
-use dns_sockets::place_of;
 use dns_text::Shared;
 use flight_sockets::{AskingTerms, Permits, Waker, ZoneShares};
 use history::{Book, MakeFault, Settings};
@@ -37,6 +36,7 @@ use std::thread;
 use std::thread::Threads;
 use std::time::Instant;
 use store::ShelfBook;
+use system::place_of;
 
 /// The parts of the first pass. Each new pass takes half of what is left, so this bounds the number of passes.
 const PARTS: u64 = 1 << 32;

@@ -3,7 +3,7 @@
 ghost use Rattle.std.specs.Prelude.{◌≡◌, ◌+◌, ◌≤◌, Ok, IfOk, vec_len};
 ghost use Rattle.resolver_args.specs.declared.mode.TheConstants.{MOST_WORKERS};
 
-use dns_sockets::{bind_tcp, bind_with_backlog, descriptor_limit, place_of};
+use dns_sockets::{bind_tcp, bind_with_backlog};
 use dns_text::Addr;
 use flight_sockets::{
     TcpPoll, UdpListener, Waker, listen_each, most_connections, most_exchanges, share_listener,
@@ -13,6 +13,7 @@ use std::alloc::Global;
 use std::io;
 use std::io::ErrorKind;
 use std::net::{Net, TcpListener, TcpStream};
+use system::{descriptor_limit, place_of};
 
 /// The sockets that all threads of a service share.
 #[derive(Drop)]

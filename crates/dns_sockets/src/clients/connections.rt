@@ -1,13 +1,12 @@
 //! The listener at which clients' connections come in.
 
 ghost use Rattle.std.specs.Prelude.{◌≡◌, IfOk, IfErr, IfSome, IsNone};
-ghost use Rattle.dns_sockets.specs.Descriptors.{LacksDescriptors};
+ghost use Rattle.system.specs.Descriptors.{LacksDescriptors};
 
-use crate::clients::descriptors::lacks_descriptors;
 use crate::clients::frame_reader::FrameReader;
 use crate::clients::frame_writer::{FrameWriter, StreamWriter};
 use clock::{REST_SECONDS, StopFlag, is_wait_over};
-use front_workers::{DEVICE_FAULT, DeviceFault, Listener};
+use front_workers::Listener;
 use log::{Log, warn};
 use std::alloc::Global;
 use std::net::{TcpListener, TcpStream};
@@ -16,6 +15,7 @@ use std::sync::Wait;
 use std::time::Duration;
 use std::{io, thread};
 use streams::CountedWriter;
+use system::{DEVICE_FAULT, DeviceFault, lacks_descriptors};
 
 /// A listener that accepts connections at a socket that several workers share, until the stop flag is set.
 ///

@@ -1,10 +1,10 @@
 //! The TCP sockets of the service, and the connection that wakes a worker.
 
-use crate::clients::options::{limit_accept, set_backlog};
 use clock::glance;
 use mio::net;
 use std::io;
 use std::net::{Net, SocketAddr, TcpListener, TcpStream};
+use system::{limit_accept, set_backlog};
 
 /// A socket at which connections come in. `[::]` takes IPv4 as well.
 pub fn bind_tcp<R: Net<Stream = TcpStream, Listener = TcpListener>>(

@@ -2,10 +2,10 @@
 
 ghost use Rattle.std.specs.Prelude.{◌≡◌, IfOk, vec_len};
 
-use crate::clients::options::{bind_beside, widen_receive_buffer};
 use std::alloc::Global;
 use std::io;
 use std::net::{Net, SocketAddr, UdpSocket};
+use system::{bind_beside, widen_receive_buffer};
 
 /// So many sockets with one address, one for each worker. Their calls do not wait, and there is room for bursts. `[::]` takes
 /// IPv4 as well. If another process has the address already, the error is the one of binding it alone.

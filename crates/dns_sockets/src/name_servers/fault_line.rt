@@ -1,32 +1,13 @@
 //! Lines of the log about a question: an exchange that failed, with its cause and server, and a reply that no message holds.
 
-use crate::clients::descriptors::lacks_descriptors;
-use crate::name_servers::place::place_of;
 use dns_text::{Addr, push_type};
 use dns_wire::{Asked, read_question};
-use front_workers::DEVICE_FAULT;
 use log::{Log, warn};
 use std::alloc::Global;
-use std::io;
-use std::io::ErrorKind;
+use system::{DEVICE_FAULT, place_of};
 
 /// The cause of an exchange with a server that is withheld.
 pub const WITHHELD: &str = "withheld";
-
-/// The cause of a failed call, in words.
-pub fn cause_of(error: &io::Error) -> &'static str {
-    if lacks_descriptors(error) {
-        return "no descriptors";
-    }
-    match error.kind() {
-        ErrorKind::OutOfMemory => "no memory",
-        ErrorKind::TimedOut => "timed out",
-        ErrorKind::ConnectionRefused => "refused",
-        ErrorKind::NetworkUnreachable | ErrorKind::HostUnreachable => "unreachable",
-        ErrorKind::AddrNotAvailable => "its address is never asked",
-        _ => "failed",
-    }
-}
 
 /// The question of a query, as text. None if there is no memory for it.
 fn question_text(alloc: Global, query: &[u8]) -> Option<String> {

@@ -5,10 +5,10 @@ ghost use Rattle.std.specs.Io.KnownBytes.{Appends};
 ghost use Rattle.arrayvec.specs.ArrayVec.{array_vec_len};
 ghost use Rattle.front_workers.specs.Framing.{framed};
 
-use crate::call_errors::{MOST_CALLS, would_wait};
 use arrayvec::ArrayVec;
 use std::io;
 use std::io::{ErrorKind, Write};
+use system::{MOST_CALLS, would_wait};
 
 /// The most octets of a query to a name server: as many as any server takes in one datagram (RFC 1035, section 4.2.1).
 pub const MOST_QUERY: usize = 512;

@@ -7,11 +7,11 @@ ghost use Rattle.front_workers.specs.declared.limits.TheConstants.{MOST_MESSAGE}
 ghost use Rattle.front_workers.specs.Framing.{framed};
 ghost use Rattle.dns_sockets.specs.Wanting.{framed_size, octets_wanting, IsWholeFrame};
 
-use crate::call_errors::{MOST_CALLS, would_wait};
 use front_workers::{MOST_MESSAGE, size_of};
 use std::alloc::Global;
 use std::io;
 use std::io::{ErrorKind, Read};
+use system::{MOST_CALLS, would_wait};
 
 /// The octets that have come of a reply preceded by its length, and none of what follows it.
 #[derive(Drop)]

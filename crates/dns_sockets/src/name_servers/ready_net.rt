@@ -5,7 +5,7 @@ ghost use Rattle.std.specs.IoError.{error_kind};
 ghost use Rattle.std.specs.declared.net.SocketAddr.{SocketAddr};
 ghost use Rattle.mio.specs.declared.token.Token.{Token};
 ghost use Rattle.dns_sockets.specs.Datagrams.{StaysAs};
-ghost use Rattle.dns_sockets.specs.Failures.{IsFailure};
+ghost use Rattle.system.specs.Failures.{IsFailure};
 
 use crate::name_servers::drawn_port::bind_for;
 use mio::net::{TcpStream, UdpSocket};

@@ -9,23 +9,20 @@ ghost use Rattle.dns_sockets.specs.Asked.{ByDatagrams, ByStream, IsAskedOf};
 ghost use Rattle.dns_sockets.specs.Fits.{Fits};
 ghost use Rattle.dns_sockets.specs.Own.{MayAskAt, MayAskServer};
 ghost use Rattle.dns_sockets.specs.Withheld.{IsWithheld};
-ghost use Rattle.front_workers.specs.Counts.{Rises};
-ghost use Rattle.front_workers.specs.declared.device.DeviceFault.TheVariants.{Device};
+ghost use Rattle.system.specs.Counts.{Rises};
+ghost use Rattle.system.specs.declared.device.DeviceFault.TheVariants.{Device};
 
-use crate::call_errors::MOST_CALLS;
 use crate::lengths::MOST_FRAMED;
-use crate::name_servers::fault_line::{WITHHELD, cause_of, log_exchange};
+use crate::name_servers::fault_line::{WITHHELD, log_exchange};
 use crate::name_servers::fitting::{MOST_MISFITS, fits};
 use crate::name_servers::own::{check_host, check_other, may_be_own};
-use crate::name_servers::place::place_of;
-use crate::name_servers::range::AddressRange;
 use crate::name_servers::server_net::ServerNet;
 use crate::name_servers::timed::Timed;
 use crate::name_servers::withheld::is_withheld;
 use clock::{Deadline, StopFlag, glance, put_off};
 use dns_query::Over;
 use dns_text::{Addr, NoMemory, Octets};
-use front_workers::{DeviceFault, Exchange, MOST_MESSAGE, is_dear};
+use front_workers::{Exchange, MOST_MESSAGE, is_dear};
 use iterate::Hunt;
 use log::Log;
 use std::alloc::Global;
@@ -33,6 +30,7 @@ use std::io;
 use std::io::{ErrorKind, Read, Write};
 use std::net::SocketAddr;
 use std::rt::Clock;
+use system::{AddressRange, DeviceFault, MOST_CALLS, cause_of, place_of};
 
 /// A client of name servers over sockets, with a new socket for each query.
 ///

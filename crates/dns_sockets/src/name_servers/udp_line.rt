@@ -9,7 +9,6 @@ ghost use Rattle.dns_sockets.specs.declared.name_servers.heard.UdpHeard.TheVaria
 ghost use Rattle.dns_sockets.specs.Datagrams.{EndsByMisfit, HearsNothing, IsStruck, StaysAs};
 ghost use Rattle.dns_sockets.specs.Own.{IsNoLine, MayAsk};
 
-use crate::call_errors::would_wait;
 use crate::name_servers::fitting::{MOST_MISFITS, fits};
 use crate::name_servers::heard::UdpHeard;
 use crate::name_servers::one_socket::OneSocket;
@@ -20,6 +19,7 @@ use mio::{Registry, Token};
 use std::io;
 use std::marker::Model;
 use std::net::SocketAddr;
+use system::would_wait;
 
 /// The socket of one exchange, connected to the server (RFC 5452, section 9.2): one query went out by it, and the reply comes to
 /// it. Contracts see the socket, and how many datagrams came that do not fit the query: fewer than `MOST_MISFITS`, since that many end the

@@ -2,15 +2,15 @@
 
 ghost use Rattle.std.specs.Prelude.{◌≡◌, ◌↔◌, IsTrue, Any};
 ghost use Rattle.std.specs.Option.{option_copied};
-ghost use Rattle.dns_sockets.specs.Ranges.{IsInRange};
+ghost use Rattle.system.specs.Ranges.{IsInRange};
 ghost use Rattle.dns_sockets.specs.Withheld.{IsAskedUp, IsOfStrangers, IsWithheld};
 
 use crate::name_servers::fitting::MOST_MISFITS;
 use crate::name_servers::framed_query::MOST_QUERY;
-use crate::name_servers::range::AddressRange;
 use dns_text::{Addr, Ip};
 use history::Origin;
 use iterate::Hunt;
+use system::AddressRange;
 
 /// The most addresses of one list of servers that are asked for one question. Whoever owns a zone may name 64 addresses of a
 /// victim: without this limit, each question about the zone would send the victim 64 packets.

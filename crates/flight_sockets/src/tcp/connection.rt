@@ -11,12 +11,12 @@ use crate::tcp::begun_message::BegunMessage;
 use crate::tcp::client_stream::ClientStream;
 use crate::tcp::owed_replies::{MOST_AT_REST, OwedReplies};
 use crate::tcp::times::Times;
-use dns_sockets::would_wait;
 use dns_text::NoMemory;
 use std::alloc::Global;
 use std::io;
 use std::io::ErrorKind;
 use std::marker::Model;
+use system::would_wait;
 
 /// The most calls that write to a connection before it is given up. A call writes one octet at least, unless a signal ends it.
 const MOST_WRITES: u32 = 70_000;

@@ -1,7 +1,7 @@
 //! The turns of a worker that takes messages by connections. In each it waits, goes on with its exchanges, and serves connections.
 
 ghost use Rattle.std.specs.Prelude.{◌≡◌, ◌≤◌, IfOk, OnOk};
-ghost use Rattle.front_workers.specs.Counts.{Rises};
+ghost use Rattle.system.specs.Counts.{Rises};
 ghost use Rattle.clock.specs.Moments.{millis_at};
 ghost use Rattle.flight.specs.declared.table.TheConstants.{PATIENCE, QUESTION_PATIENCE};
 ghost use Rattle.flight.specs.declared.kept.TheConstants.{MOST_AT_REST};
@@ -27,7 +27,7 @@ use crate::tcp::taken::TakenMessage;
 use crate::turns::{begin_anew, look_all, patience};
 use crate::worker_sockets::WorkerSockets;
 use clock::{Clock, Elapsing, MonotonicClock};
-use dns_sockets::{ReadyNet, would_wait};
+use dns_sockets::ReadyNet;
 use dns_text::NoMemory;
 use flight::{Flight, Numbered};
 use front_workers::{MOST_DATAGRAM, is_dear, wants_reply};
@@ -39,6 +39,7 @@ use std::io;
 use std::marker::Model;
 use std::sync::Wait;
 use std::time::{Duration, Instant};
+use system::would_wait;
 
 /// The most events that are handled in one turn, so that none waits after too many others.
 const MOST_READY: usize = 64;

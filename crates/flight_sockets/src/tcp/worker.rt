@@ -19,10 +19,10 @@ use crate::tcp::client_stream::ClientStream;
 use crate::tcp::listener::{ClientListener, TcpPoll};
 use crate::tcp::turns::TcpTurns;
 use clock::{Clock, Elapsing, StopFlag};
-use dns_sockets::{ReadyNet, cause_of, lacks_descriptors};
+use dns_sockets::ReadyNet;
 use dns_text::NoMemory;
 use flight::{Flight, Numbered};
-use front_workers::{DEVICE_FAULT, MOST_FAILURES, WORKER_ENDED, WorkEnd};
+use front_workers::{MOST_FAILURES, WorkEnd};
 use log::{Log, warn};
 use mio::net::{TcpListener, TcpStream};
 use rand_core::Rng;
@@ -30,6 +30,7 @@ use std::alloc::Global;
 use std::marker::Model;
 use std::sync::Wait;
 use std::time::Instant;
+use system::{DEVICE_FAULT, WORKER_ENDED, cause_of, lacks_descriptors};
 
 /// A worker that takes messages by connections. Contracts see how it asks name servers, its counters, its clock, and the connections of
 /// its clients.

@@ -9,11 +9,12 @@ use clock::Clock;
 use dns_query::Over;
 use dns_text::{Addr, Octets};
 use dns_wire::{Asked, read_question};
-use front_workers::{DeviceFault, Exchange, Tools, serve_query};
+use front_workers::{Exchange, Tools, serve_query};
 use history::Desk;
 use iterate::Hunt;
 use rand_pcg::Pcg32;
 use std::alloc::Global;
+use system::DeviceFault;
 
 /// Name servers of which none answers.
 #[derive(Drop)]

@@ -1,17 +1,18 @@
 //! What comes to a worker, as a line says.
 
-ghost use Rattle.front_workers.specs.Counts.{CountsFault};
+ghost use Rattle.system.specs.Counts.{CountsFault};
 
 use crate::serve::pieces::PieceReader;
 use crate::serve::serving::tell_octets;
 use crate::stop::Stop;
 use crate::words::octets_in;
 use dns_text::next_word;
-use front_workers::{Came, DeviceFault, Listener, Port};
+use front_workers::{Listener, Port};
 use std::io;
 use std::io::{ErrorKind, Write};
 use std::net::{IpAddr, Ipv4Addr, SocketAddr};
 use streams::{CountedReader, CountedWriter};
+use system::{Came, DeviceFault};
 
 /// Who asks.
 const PORT: u16 = 5353;

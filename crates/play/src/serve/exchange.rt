@@ -7,9 +7,10 @@ use crate::said::Said;
 use dns_name::NoMemory;
 use dns_query::Over;
 use dns_text::{Addr, Octets};
-use front_workers::{DeviceFault, Exchange};
+use front_workers::Exchange;
 use iterate::Hunt;
 use std::alloc::Global;
+use system::DeviceFault;
 
 /// Name servers that say what lines said, in order, and then nothing.
 #[derive(Drop)]

@@ -2,8 +2,8 @@ use Rattle.std.proofs.Common.{◌≡◌, ◌∙◌, ◌<◌, ℕ, List, arith, l
 use Rattle.std.specs.Prelude.{slice_index_or}
 use Rattle.std.proofs.lemmas.List.{get_or_default}
 use Rattle.dns_text.specs.declared.addr.Ip.{Ip}
-use Rattle.dns_sockets.specs.Ranges.{IsInRange}
-use Rattle.dns_sockets.specs.declared.name_servers.range.AddressRange.{AddressRange}
+use Rattle.system.specs.Ranges.{IsInRange}
+use Rattle.system.specs.declared.range.AddressRange.{AddressRange}
 use Rattle.dns_sockets.proofs.name_servers.withheld.is_in_ranges.Goals as goal
 
 -- The range at a place does not hold the address, whichever default reads it.

@@ -1,7 +1,7 @@
 use Rattle.std.proofs.Common.{◌≡◌, ◌<◌, ℕ}
 use Rattle.std.specs.Prelude.{slice_index_or}
-use Rattle.dns_sockets.specs.Ranges.{IsInRange}
-use Rattle.dns_sockets.specs.declared.name_servers.range.AddressRange.{AddressRange}
+use Rattle.system.specs.Ranges.{IsInRange}
+use Rattle.system.specs.declared.range.AddressRange.{AddressRange}
 use Rattle.dns_sockets.proofs.name_servers.withheld.is_in_ranges.Given as goal
 
 abbrev pub invariant-loop-range : goal.invariant-loop-range

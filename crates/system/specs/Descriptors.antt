@@ -2,7 +2,7 @@
 use Rattle.std.specs.Prelude.{◌≡◌, ◌⊎◌, Some}
 use Rattle.std.specs.declared.io.Error.{Error}
 use Rattle.std.specs.IoError.{raw_os_error}
-use Rattle.dns_sockets.specs.declared.clients.descriptors.TheConstants.{EMFILE, ENFILE}
+use Rattle.system.specs.declared.descriptors.TheConstants.{EMFILE, ENFILE}
 
 -- The call failed since the process has as many descriptors as it may have (EMFILE), or the system has (ENFILE).
 abbrev pub LacksDescriptors : Error → Type 0

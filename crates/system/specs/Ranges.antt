@@ -2,8 +2,8 @@
 use Rattle.std.specs.Prelude.{◌≡◌, ◌<◌, ◌≤◌, ◌+◌, ◌-◌, ◌/◌, ◌%◌, ◌^◌, ℕ, List, [], ◌∷◌, ◌++◌, slice_index, take}
 use Rattle.dns_text.specs.declared.addr.Ip.{Ip}
 use Rattle.dns_text.specs.declared.addr.Ip.TheVariants.{V4, V6}
-use Rattle.dns_sockets.specs.declared.name_servers.range.AddressRange.{AddressRange}
-use Rattle.dns_sockets.specs.declared.name_servers.range.TheConstants.{MAPPED_BITS}
+use Rattle.system.specs.declared.range.AddressRange.{AddressRange}
+use Rattle.system.specs.declared.range.TheConstants.{MAPPED_BITS}
 
 -- the octets in an IPv4-mapped IPv6 address before its IPv4 address (RFC 4291, section 2.5.5.2)
 abbrev pub mapped_front : List ℕ

@@ -1,7 +1,7 @@
 //! Errors that mean no file descriptors are left.
 
 ghost use Rattle.std.specs.Prelude.{◌↔◌, IsTrue};
-ghost use Rattle.dns_sockets.specs.Descriptors.{LacksDescriptors};
+ghost use Rattle.system.specs.Descriptors.{LacksDescriptors};
 
 use std::io;
 

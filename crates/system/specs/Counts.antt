@@ -1,7 +1,7 @@
 -- The count of failures.
 use Rattle.std.specs.Prelude.{◌≡◌, ◌⊎◌, ℕ, ◌+◌, ◌-◌, ◌^◌, Result, Ok, Err}
-use Rattle.front_workers.specs.declared.device.DeviceFault.{DeviceFault}
-use Rattle.front_workers.specs.declared.device.DeviceFault.TheVariants.{Device, NoMemory}
+use Rattle.system.specs.declared.device.DeviceFault.{DeviceFault}
+use Rattle.system.specs.declared.device.DeviceFault.TheVariants.{Device, NoMemory}
 
 -- The count rises by one, unless it is at its last value.
 abbrev pub Rises : ℕ → ℕ → Type 0

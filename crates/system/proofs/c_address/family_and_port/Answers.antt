@@ -2,7 +2,7 @@ use Rattle.std.proofs.Common.{[], w16, refl, ap, ◌∙◌, ◌++◌}
 use Rattle.std.specs.Int.{to_le_bytes}
 use Rattle.std.specs.Net.SockAddr.{in_storage}
 use Rattle.std.proofs.NetLemmas.SockAddrs.{in_storage-nil}
-use Rattle.dns_sockets.proofs.clients.c_address.family_and_port.Goals as goal
+use Rattle.system.proofs.c_address.family_and_port.Goals as goal
 
 pub returns : goal.returns
 returns c =

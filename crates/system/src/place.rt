@@ -1,6 +1,6 @@
 //! The place of a name server: its address and port as std has them.
 
-ghost use Rattle.dns_sockets.specs.Place.{IsPlaceOf};
+ghost use Rattle.system.specs.Place.{IsPlaceOf};
 
 use dns_text::{Addr, Ip};
 use std::net::{IpAddr, Ipv4Addr, Ipv6Addr, SocketAddr};

@@ -3,7 +3,7 @@
 ghost use Rattle.std.specs.Prelude.{◌↔◌, ◌≤◌, ◌≤ℤ◌, pos, length, IsOk, IfOk};
 ghost use Rattle.libc.specs.Net.{SockOption};
 
-use crate::clients::c_address::encode;
+use crate::c_address::encode;
 use libc::net as c;
 use libc::types::{pollfd, rlimit};
 use os::FromRawFd;
@@ -35,7 +35,7 @@ fn set_option(socket: &UdpSocket, name: i32, value: i32) -> io::Result<()>
 }
 
 /// Limits the time that accepting a connection waits, by the option `SO_RCVTIMEO`: a `timeval`, of seconds and microseconds.
-pub(crate) fn limit_accept(listener: &TcpListener, most: Duration) -> io::Result<()> {
+pub fn limit_accept(listener: &TcpListener, most: Duration) -> io::Result<()> {
     let mut octets = [0u8; 16];
     octets[..8].copy_from_slice(&most.as_secs().to_ne_bytes());
     octets[8..].copy_from_slice(&u64::from(most.subsec_micros()).to_ne_bytes());
@@ -51,7 +51,7 @@ pub(crate) fn limit_accept(listener: &TcpListener, most: Duration) -> io::Result
 }
 
 /// Sets how many connections may wait at a socket to be accepted (`listen(2)`). The system allows fewer if its own limit is lower.
-pub(crate) fn set_backlog(listener: &TcpListener, backlog: u16) -> io::Result<()> {
+pub fn set_backlog(listener: &TcpListener, backlog: u16) -> io::Result<()> {
     check(c::listen(listener.as_raw_fd(), i32::from(backlog)))
 }
 
@@ -97,13 +97,13 @@ pub(crate) fn read_octets(descriptor: &OwnedFd, room: &mut [u8]) -> io::Result<u
 }
 
 /// Lets more datagrams wait at a socket. The system gives less than this if it allows less.
-pub(crate) fn widen_receive_buffer(socket: &UdpSocket) -> io::Result<()> {
+pub fn widen_receive_buffer(socket: &UdpSocket) -> io::Result<()> {
     set_option(socket, c::SO_RCVBUF, RECEIVE_BUFFER)
 }
 
 /// A socket that shares its address with others that the same user bound so. The system gives each datagram to one of them,
 /// by its sender.
-pub(crate) fn bind_beside<R: Net>(_rt: &R, addr: SocketAddr) -> io::Result<UdpSocket> {
+pub fn bind_beside<R: Net>(_rt: &R, addr: SocketAddr) -> io::Result<UdpSocket> {
     let kind = c::SOCK_DGRAM | c::SOCK_CLOEXEC;
     let fd = match addr {
         SocketAddr::V4(_) => unsafe { c::socket(c::AF_INET, kind, 0) },

@@ -1,6 +1,6 @@
 //! A file whose octets come when another program writes them, as those of a FIFO.
 
-use crate::clients::options::{gives_octets, open_to_read, read_octets};
+use crate::options::{gives_octets, open_to_read, read_octets};
 use std::io;
 use std::io::{ErrorKind, Read};
 use std::os::fd::{AsRawFd, OwnedFd};

@@ -1,7 +1,7 @@
 use Rattle.std.proofs.Common.{◌+◌, ◌++◌, length, take, drop, ap, ◌∙◌, arith}
 use borrow.Rule.Slice.PartMut.{Post-is}
 use Rattle.std.proofs.NetLemmas.SockAddrs.{in_storage-append}
-use Rattle.dns_sockets.proofs.clients.c_address.put.Goals as goal
+use Rattle.system.proofs.c_address.put.Goals as goal
 
 pub returns : goal.returns
 returns c = λ front long stored.

@@ -1,5 +1,5 @@
-use Rattle.dns_sockets.specs.Ranges.{Agree}
-use Rattle.dns_sockets.proofs.name_servers.range.agree.Given as goal
+use Rattle.system.specs.Ranges.{Agree}
+use Rattle.system.proofs.range.agree.Given as goal
 
 abbrev pub invariant-loop-place : goal.invariant-loop-place
 invariant-loop-place l = Agree l.place l.octets l.others

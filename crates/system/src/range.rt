@@ -1,7 +1,7 @@
 //! A range of IP addresses (RFC 4632, section 3.1).
 
 ghost use Rattle.std.specs.Prelude.{◌≡◌, ◌≤◌, ◌<◌, ◌^◌, ◌↔◌, IsTrue, length};
-ghost use Rattle.dns_sockets.specs.Ranges.{Agree, AreMapped, IsInRange, bit_at, bits_in, octets_of};
+ghost use Rattle.system.specs.Ranges.{Agree, AreMapped, IsInRange, bit_at, bits_in, octets_of};
 
 use dns_text::Ip;
 
