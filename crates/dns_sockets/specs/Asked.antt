@@ -5,7 +5,7 @@ use Rattle.std.specs.declared.net.SocketAddr.{SocketAddr}
 use Rattle.dns_text.specs.declared.addr.Addr.{Addr}
 use Rattle.dns_query.specs.declared.over.Over.{Over}
 use Rattle.dns_query.specs.declared.over.Over.TheVariants.{Udp, Tcp}
-use Rattle.front_workers.specs.Framing.{framed}
+use Rattle.replies.specs.Framing.{framed}
 use Rattle.system.specs.Place.{IsPlaceOf}
 
 -- The query left by a socket that is connected to the place, and the reply came to that socket.

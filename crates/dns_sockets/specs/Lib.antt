@@ -7,5 +7,4 @@ pub mod Line
 pub mod Own
 pub mod Reads
 pub mod Spots
-pub mod Wanting
 pub mod Withheld

@@ -2,7 +2,7 @@
 use Rattle.std.specs.Prelude.{◌≡◌, ◌<◌, ℕ, Option, List, [], length, slice_range, take}
 use Rattle.std.specs.Io.{appended_bytes}
 use Rattle.std.specs.Io.KnownBytes.{Appends, Consumes}
-use Rattle.dns_sockets.specs.Wanting.{IsWholeFrame}
+use Rattle.replies.specs.Wanting.{IsWholeFrame}
 
 -- the state of an exchange over TCP, as contracts see it
 pub record LineState (S : Type 0) : Type 0 where

@@ -3,8 +3,6 @@
 
 // In the order in which to read them.
 
-// The length of a message over TCP.
-mod lengths;
 // Sockets at which clients' queries come in.
 mod clients;
 // Sockets by which queries go out to name servers.
@@ -20,7 +18,6 @@ pub use clock::{Elapsing, MonotonicClock, REST_SECONDS, StopFlag, Timeouts, glan
 pub use name_servers::fault_line::{WITHHELD, log_exchange, log_too_long};
 pub use name_servers::fitting::{MOST_MISFITS, fits};
 pub use name_servers::framed_query::MOST_QUERY;
-pub use name_servers::framed_reply::octets_wanting;
 pub use name_servers::heard::UdpHeard;
 pub use name_servers::one_socket::OneSocket;
 pub use name_servers::ready_net::{ReadyConnection, ReadyNet, ReadySocket};

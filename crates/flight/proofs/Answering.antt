@@ -9,8 +9,8 @@ use Rattle.dns_wire.specs.Server.Asking.{AsksFor, IsGood, good}
 use Rattle.iterate.specs.declared.answer.Answer.{Answer}
 use Rattle.iterate.specs.declared.answer.Answer.TheVariants.{Reply as Replies, Silent}
 use Rattle.clock.specs.Ticks.{Ticks}
-use Rattle.front_workers.specs.Leads.{Calls}
-use Rattle.front_workers.specs.Serves.{Tells, most_octets}
+use Rattle.replies.specs.Calls.{Calls}
+use Rattle.replies.specs.Reply.{Tells, most_octets}
 use Rattle.flight.specs.Flight.{Hears, Lands}
 use Rattle.flight.specs.Told.{IsTold, answered, IsUntold, silent}
 

@@ -22,7 +22,7 @@ use Rattle.iterate.specs.Exchanges.{exchanges_of}
 use Rattle.iterate.specs.Wanted.{MayWant, id_drawn, stream_behind}
 use Rattle.rand_core.specs.Stream.{Stream}
 use Rattle.clock.specs.Ticks.{Ticks}
-use Rattle.front_workers.specs.Leads.{Calls, Draws}
+use Rattle.replies.specs.Calls.{Calls, Draws}
 use Rattle.flight.specs.Asking.{IsAskedBy}
 use Rattle.flight.specs.Flight.{Sent, Hears, CallsSoon, Answered, replied, refused, put_off, came, failed, Flies, begins, goes_on, IsOpen, Awaits, Lands, query_to}
 

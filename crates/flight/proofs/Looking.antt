@@ -17,7 +17,7 @@ use Rattle.iterate.specs.Resolved.{IsNoAnswer, IsResolved}
 use Rattle.iterate.specs.Wanted.{id_drawn}
 use Rattle.rand_core.specs.Stream.{Stream}
 use Rattle.clock.specs.Ticks.{Ticks}
-use Rattle.front_workers.specs.Leads.{Calls, Draws}
+use Rattle.replies.specs.Calls.{Calls, Draws}
 use Rattle.flight.specs.declared.outside.Listened.{Listened}
 use Rattle.flight.specs.declared.outside.Listened.TheVariants.{Anew}
 use Rattle.flight.specs.Asking.{HasLooked}

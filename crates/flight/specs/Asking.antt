@@ -17,7 +17,7 @@ use Rattle.history.specs.declared.event.Event.{Event}
 use Rattle.history.specs.declared.event.Event.TheVariants.{Look}
 use Rattle.history.specs.declared.event.Reply.{Reply}
 use Rattle.clock.specs.Ticks.{Ticks}
-use Rattle.front_workers.specs.Leads.{Calls}
+use Rattle.replies.specs.Calls.{Calls}
 use Rattle.flight.specs.declared.asking.Asking.{Asking}
 use Rattle.flight.specs.declared.outside.Listened.{Listened}
 use Rattle.flight.specs.declared.counts.Counts.{Counts}

@@ -14,7 +14,7 @@ use Rattle.history.specs.declared.event.Seen.TheVariants.{Local as LocalSeen}
 use Rattle.iterate.specs.declared.want.Input.{Input}
 use Rattle.iterate.specs.declared.want.Input.TheVariants.{Reply as Replied}
 use Rattle.iterate.specs.Resolved.{IsNoAnswer}
-use Rattle.front_workers.specs.Leads.{Calls}
+use Rattle.replies.specs.Calls.{Calls}
 use Rattle.flight.specs.declared.outside.Listened.{Listened}
 use Rattle.flight.specs.declared.outside.Listened.TheVariants.{Anew}
 use Rattle.flight.specs.Asking.{input_of}

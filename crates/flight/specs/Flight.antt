@@ -16,7 +16,7 @@ use Rattle.iterate.specs.declared.want.Step.{Step}
 use Rattle.iterate.specs.declared.want.Want.{Want}
 use Rattle.iterate.specs.declared.want.Want.TheVariants.{Book, Send, Finish}
 use Rattle.clock.specs.Ticks.{Ticks}
-use Rattle.front_workers.specs.Leads.{Calls, Lent, Draws}
+use Rattle.replies.specs.Calls.{Calls, Lent, Draws}
 use Rattle.shared_book.specs.Calling.{asks_oldest}
 
 -- a query that went out: the server, the transport, and the octets

@@ -13,7 +13,7 @@ use Rattle.iterate.specs.declared.want.Want.TheVariants.{Book}
 use Rattle.iterate.specs.Exchanges.{Exchange, exchanges_of}
 use Rattle.shared_book.specs.Calling.{IsJustified}
 use Rattle.clock.specs.Ticks.{Ticks}
-use Rattle.front_workers.specs.Leads.{Calls}
+use Rattle.replies.specs.Calls.{Calls}
 use Rattle.flight.specs.Flight.{Hears, Answered, Lands}
 
 -- The number that a question knows of never falls.

@@ -9,8 +9,8 @@ use Rattle.iterate.specs.declared.answer.Answer.TheVariants.{Reply as Replies, S
 use Rattle.iterate.specs.declared.answer.Soa.{Soa}
 use Rattle.iterate.specs.declared.answer.AnswerSet.{AnswerSet}
 use Rattle.clock.specs.Ticks.{Ticks}
-use Rattle.front_workers.specs.Leads.{Calls}
-use Rattle.front_workers.specs.Serves.{fault_octets, reply_told, Tells, Written}
+use Rattle.replies.specs.Calls.{Calls}
+use Rattle.replies.specs.Reply.{fault_octets, reply_told, Tells, Written}
 use Rattle.flight.specs.declared.reply.ReplyOctets.{ReplyOctets}
 use Rattle.flight.specs.declared.reply.ReplyOctets.TheVariants.{Header, Message}
 use Rattle.flight.specs.declared.outside.Listened.{Listened}

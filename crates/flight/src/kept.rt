@@ -1,7 +1,7 @@
 //! What the questions that wait keep in memory, and the bounds of it.
 
 ghost use Rattle.std.specs.Prelude.{◌≡◌, ◌<◌, ◌≤◌, slice_index};
-ghost use Rattle.front_workers.specs.Sizing.{capped};
+ghost use Rattle.replies.specs.Sizing.{capped};
 ghost use Rattle.flight.specs.Kept.{count_at, find_kept, input_kept, kept_in, list_kept};
 ghost use Rattle.flight.specs.Kept.{response_kept, step_kept, want_kept};
 

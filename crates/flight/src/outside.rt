@@ -5,7 +5,7 @@ ghost use Rattle.std.specs.Option.{option_copied};
 ghost use Rattle.iterate.specs.declared.search.Hunt.{Hunt};
 ghost use Rattle.dns_wire.specs.Server.Asking.{IsGood};
 ghost use Rattle.dns_query.specs.declared.over.Over.{Over};
-ghost use Rattle.front_workers.specs.Serves.{fault_octets, most_octets};
+ghost use Rattle.replies.specs.Reply.{fault_octets, most_octets};
 ghost use Rattle.flight.specs.declared.counts.Counts.{Counts};
 ghost use Rattle.flight.specs.declared.outside.Listened.{Listened};
 ghost use Rattle.flight.specs.Clients.{Settles};

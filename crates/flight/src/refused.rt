@@ -6,7 +6,7 @@ ghost use Rattle.std.specs.VecDeque.{deque_capacity, deque_len};
 ghost use Rattle.slab.specs.Slab.{HasRoomFor};
 ghost use Rattle.dns_wire.specs.declared.server.query.Asked.TheVariants.{Good};
 ghost use Rattle.dns_wire.specs.Server.Asking.{AsksFor, IsGood};
-ghost use Rattle.front_workers.specs.Serves.{most_octets, Tells};
+ghost use Rattle.replies.specs.Reply.{most_octets, Tells};
 ghost use Rattle.history.specs.declared.event.Ask.TheVariants.{Answer as Asks};
 ghost use Rattle.history.specs.declared.event.Event.TheVariants.{Look};
 ghost use Rattle.iterate.specs.declared.search.Hunt.{Hunt};
@@ -126,7 +126,7 @@ pub(crate) fn write_answer(
     ensures short { IfOk result (λ reply. IfSome reply (λ out. length out.items ≤ most_octets over)) }
     ensures tells { IfOk result (λ reply. Tells over octets.now query.now answer.now (option_map (λ out. out.items) reply)) }
 {
-    match front_workers::write_answer(alloc, buffer, over, octets, query, answer) {
+    match replies::write_answer(alloc, buffer, over, octets, query, answer) {
         Ok(reply) => Ok(reply),
         Err(by) => Err(Refused { by }),
     }

@@ -3,7 +3,7 @@
 ghost use Rattle.std.specs.Prelude.{◌≡◌, ◌≢◌, Some, length};
 ghost use Rattle.dns_wire.specs.declared.server.query.Asked.TheVariants.{Fault, Good};
 ghost use Rattle.dns_wire.specs.Server.Asking.{AsksFor};
-ghost use Rattle.front_workers.specs.Serves.{fault_octets};
+ghost use Rattle.replies.specs.Reply.{fault_octets};
 ghost use Rattle.iterate.specs.declared.answer.Answer.TheVariants.{Silent};
 ghost use Rattle.iterate.specs.Told.{IsFit};
 ghost use Rattle.flight.specs.Asking.{IsAskedBy, LandsFor};

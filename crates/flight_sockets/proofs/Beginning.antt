@@ -5,7 +5,7 @@ use Rattle.std.proofs.Math.Logic.{∥∥₁_map}
 use Rattle.std.specs.Prelude.{Option, Some, None, IfSome, IsSomeAnd}
 use Rattle.std.specs.List.{AllByRecursion}
 use Rattle.std.specs.declared.net.SocketAddr.{SocketAddr}
-use Rattle.front_workers.specs.declared.limits.TheConstants.{MOST_DATAGRAM}
+use Rattle.replies.specs.declared.limits.TheConstants.{MOST_DATAGRAM}
 use Rattle.system.specs.declared.came.Came.{Came}
 use Rattle.flight.specs.Leaving.{End, Ends}
 use Rattle.flight.specs.Waiting.{FlightState}

@@ -3,7 +3,7 @@ use Rattle.std.proofs.Common.{◌≡◌, ◌∙◌, ◌≤◌, ℕ, List, [], �
 use Rattle.mio.specs.declared.event.event.Event.{Event}
 use Rattle.clock.specs.Moments.{ClockState}
 use Rattle.system.specs.Counts.{Rises}
-use Rattle.front_workers.specs.Framing.{HasLength}
+use Rattle.replies.specs.Framing.{HasLength}
 use Rattle.flight.specs.declared.counts.Counts.{Counts}
 use Rattle.flight.specs.Bounds.{IsBounded}
 use Rattle.flight.specs.Leaving.{Ends}

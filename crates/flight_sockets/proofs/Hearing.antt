@@ -7,7 +7,7 @@ use Rattle.mio.specs.declared.token.Token.{Token}
 use Rattle.dns_query.specs.declared.over.Over.{Over}
 use Rattle.dns_query.specs.declared.over.Over.TheVariants.{Udp as OverUdp, Tcp as OverTcp}
 use Rattle.dns_sockets.specs.Asked.{ByStream, IsAskedAt}
-use Rattle.front_workers.specs.Framing.{framed}
+use Rattle.replies.specs.Framing.{framed}
 use Rattle.dns_sockets.specs.Line.{LineState}
 use Rattle.flight.specs.declared.outside.Listened.{Listened}
 use Rattle.flight.specs.declared.outside.Listened.TheVariants.{Anew, Nothing, Came, Broken, NoMemory}

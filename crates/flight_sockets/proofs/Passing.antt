@@ -2,7 +2,7 @@
 use Rattle.std.proofs.Common.{◌≡◌, ◌∙◌, ◌++◌, ℕ, List, [], ◌∷◌, ap, refl, subst, sym, append_assoc, flat_map}
 use Rattle.std.proofs.lemmas.List.{append-nil}
 use Rattle.std.proofs.lemmas.Grind.{flat_map-append}
-use Rattle.front_workers.specs.Framing.{framed}
+use Rattle.replies.specs.Framing.{framed}
 use Rattle.flight_sockets.specs.Connections.{ConnectionState, Serves}
 use Rattle.flight_sockets.specs.Passages.{AllPassed, Passage, Passes, read, read_in, written, written_in}
 

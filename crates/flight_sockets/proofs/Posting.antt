@@ -3,7 +3,7 @@ use Rattle.std.proofs.Common.{◌≡◌, ◌∙◌, ◌<◌, ◌+◌, ◌++◌, 
 use Rattle.std.proofs.lemmas.List.{append-nil, map_more}
 use Rattle.std.specs.Prelude.{Option, Some, None}
 use Rattle.std.specs.declared.net.SocketAddr.{SocketAddr}
-use Rattle.front_workers.specs.Serves.{fault_octets}
+use Rattle.replies.specs.Reply.{fault_octets}
 use Rattle.flight.specs.Leaving.{AllLeave, End, Ends, Leaves}
 use Rattle.flight.specs.Told.{octets_of}
 use Rattle.flight_sockets.specs.declared.client.UdpClient.{UdpClient}

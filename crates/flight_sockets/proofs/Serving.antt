@@ -3,7 +3,7 @@ use Rattle.std.proofs.Common.{◌≡◌, ◌≢◌, ◌∙◌, ◌<◌, ◌+◌,
 use Rattle.std.specs.Prelude.{None, IfNone, OnOk, Result, Ok, Err}
 use Rattle.std.specs.Result.{is_ok, is_err}
 use Rattle.slab.specs.Slab.{Slab, get, Updates}
-use Rattle.front_workers.specs.Framing.{HasLength}
+use Rattle.replies.specs.Framing.{HasLength}
 use Rattle.flight_sockets.specs.Connections.{Becomes, BeginsOne, ConnectionState, ConnectionsState, EndsOne, IsFlushed, Owes, Serves, ServesOne, Tends, begins, connection_at, ended, ends, fresh, gone, owed, serves, stays}
 use Rattle.flight_sockets.specs.Passages.{Passes}
 use Rattle.flight_sockets.proofs.Passing.{serves_then}

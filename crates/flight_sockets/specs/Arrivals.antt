@@ -1,6 +1,6 @@
 -- The messages that come by a connection.
 use Rattle.std.specs.Prelude.{ℕ, List, [], ◌∷◌}
-use Rattle.front_workers.specs.Framing.{HasLength}
+use Rattle.replies.specs.Framing.{HasLength}
 use Rattle.flight_sockets.specs.declared.tcp.arrived.Arrived.{Arrived}
 use Rattle.flight_sockets.specs.declared.tcp.arrived.Arrived.TheVariants.{Message, Nothing, Part, End}
 use Rattle.flight_sockets.specs.Connections.{ConnectionState, Serves}

@@ -1,6 +1,6 @@
 -- The connections of clients, and what passes by them (RFC 7766, sections 6.2.1.1 and 7).
 use Rattle.std.specs.Prelude.{◌≡◌, ◌≢◌, ◌⊎◌, ℕ, ◌+◌, ◌<◌, Option, Some, None, List, [], ◌∷◌, ◌++◌, flat_map, slice_index_or}
-use Rattle.front_workers.specs.Framing.{framed, HasLength}
+use Rattle.replies.specs.Framing.{framed, HasLength}
 use Rattle.flight_sockets.specs.Passages.{AllPassed, Passage, Passes, read_in, written_in}
 
 -- the replies that a connection is owed

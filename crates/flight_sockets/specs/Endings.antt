@@ -3,8 +3,8 @@ use Rattle.std.specs.Prelude.{◌≡◌, ◌⊎◌, ◌<◌, ℕ, ◌+◌, Optio
 use Rattle.std.specs.declared.net.SocketAddr.{SocketAddr}
 use Rattle.dns_wire.specs.declared.server.query.Asked.TheVariants.{Drop}
 use Rattle.dns_wire.specs.Server.Asking.{AsksFor}
-use Rattle.front_workers.specs.declared.limits.TheConstants.{MOST_DATAGRAM}
-use Rattle.front_workers.specs.Serves.{fault_octets}
+use Rattle.replies.specs.declared.limits.TheConstants.{MOST_DATAGRAM}
+use Rattle.replies.specs.Reply.{fault_octets}
 use Rattle.flight.specs.Leaving.{End}
 use Rattle.flight_sockets.specs.declared.client.UdpClient.{UdpClient}
 use Rattle.flight_sockets.specs.Moves.{CameBy, Datagram, Moves, datagram_to}

@@ -9,7 +9,7 @@ use Rattle.dns_query.specs.declared.over.Over.TheVariants.{Udp as OverUdp, Tcp a
 use Rattle.dns_sockets.specs.declared.name_servers.framed_query.TheConstants.{MOST_QUERY}
 use Rattle.dns_sockets.specs.Fits.{Fits}
 use Rattle.system.specs.Place.{IsPlaceOf}
-use Rattle.front_workers.specs.Framing.{framed}
+use Rattle.replies.specs.Framing.{framed}
 use Rattle.dns_sockets.specs.Line.{LineState, WentFrom}
 use Rattle.dns_sockets.specs.Own.{IsNoLine}
 use Rattle.flight.specs.declared.outside.Listened.{Listened}

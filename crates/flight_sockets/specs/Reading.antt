@@ -1,6 +1,6 @@
 -- What a worker takes of a connection.
 use Rattle.std.specs.Prelude.{◌≡◌, ℕ, [], ◌∷◌}
-use Rattle.front_workers.specs.Framing.{HasLength}
+use Rattle.replies.specs.Framing.{HasLength}
 use Rattle.flight_sockets.specs.declared.tcp.taken.TakenMessage.{TakenMessage}
 use Rattle.flight_sockets.specs.declared.tcp.taken.TakenMessage.TheVariants.{Message, More, Nothing}
 use Rattle.flight_sockets.specs.Connections.{ConnectionsState, ServesOne, Tends}

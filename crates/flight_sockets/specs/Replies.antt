@@ -1,13 +1,13 @@
 -- The octets that may come as the reply of a name server.
 use Rattle.std.specs.Prelude.{◌≡◌, ◌<◌, ◌≤◌, ℕ, Option, Some, None, List, length}
 use Rattle.std.specs.declared.net.SocketAddr.{SocketAddr}
-use Rattle.front_workers.specs.declared.limits.TheConstants.{MOST_DATAGRAM, MOST_MESSAGE}
+use Rattle.replies.specs.declared.limits.TheConstants.{MOST_DATAGRAM, MOST_MESSAGE}
 use Rattle.dns_sockets.specs.Asked.{IsAskedAt}
 use Rattle.dns_sockets.specs.Fits.{Fits}
 use Rattle.dns_sockets.specs.Line.{LineState}
 use Rattle.system.specs.Place.{IsPlaceOf}
-use Rattle.front_workers.specs.Dear.{IsLong}
-use Rattle.front_workers.specs.Framing.{framed}
+use Rattle.replies.specs.Dear.{IsLong}
+use Rattle.replies.specs.Framing.{framed}
 use Rattle.flight.specs.declared.outside.Listened.{Listened}
 use Rattle.flight.specs.declared.outside.Listened.TheVariants.{Came}
 use Rattle.flight.specs.Flight.{Sent}

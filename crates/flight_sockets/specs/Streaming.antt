@@ -5,7 +5,7 @@ use Rattle.std.specs.declared.time.Instant.{Instant}
 use Rattle.mio.specs.declared.event.event.Event.{Event}
 use Rattle.clock.specs.Moments.{ClockState, millis_at}
 use Rattle.system.specs.Counts.{Rises}
-use Rattle.front_workers.specs.Framing.{HasLength}
+use Rattle.replies.specs.Framing.{HasLength}
 use Rattle.flight.specs.declared.counts.Counts.{Counts}
 use Rattle.flight.specs.declared.kept.TheConstants.{MOST_AT_REST}
 use Rattle.flight.specs.declared.table.TheConstants.{PATIENCE, QUESTION_PATIENCE}

@@ -5,7 +5,7 @@ use Rattle.std.specs.declared.io.Error.{Error}
 use Rattle.std.specs.declared.io.ErrorKind.TheVariants.{WouldBlock, Interrupted}
 use Rattle.dns_sockets.specs.Answerable.{IsAnswerable}
 use Rattle.system.specs.declared.came.Came.{Came}
-use Rattle.front_workers.specs.declared.limits.TheConstants.{MOST_DATAGRAM}
+use Rattle.replies.specs.declared.limits.TheConstants.{MOST_DATAGRAM}
 use Rattle.flight_sockets.specs.declared.inbox.Arrival.{Arrival}
 use Rattle.flight_sockets.specs.declared.inbox.Arrival.TheVariants.{Passed, TooLong, Query}
 

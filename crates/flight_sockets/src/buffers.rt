@@ -2,13 +2,13 @@
 
 ghost use Rattle.std.specs.Prelude.{◌≡◌, ◌≤◌, [], vec_capacity, vec_len};
 ghost use Rattle.std.specs.List.{All};
-ghost use Rattle.front_workers.specs.declared.limits.TheConstants.{MOST_DATAGRAM};
+ghost use Rattle.replies.specs.declared.limits.TheConstants.{MOST_DATAGRAM};
 ghost use Rattle.flight_sockets.specs.declared.inbox.TheConstants.{BATCH};
 
 use crate::inbox::BATCH;
 use crate::outgoing::Outgoing;
 use flight::ReplyOctets;
-use front_workers::MOST_DATAGRAM;
+use replies::MOST_DATAGRAM;
 use std::alloc::Global;
 
 /// Buffers that are kept, so that a short reply takes no memory. There are at most as many as a batch has datagrams, and none is

@@ -1,13 +1,13 @@
 //! The client of a datagram, which waits for its reply.
 
 ghost use Rattle.std.specs.Prelude.{◌≡◌, ◌≤◌};
-ghost use Rattle.front_workers.specs.declared.limits.TheConstants.{MOST_DATAGRAM};
+ghost use Rattle.replies.specs.declared.limits.TheConstants.{MOST_DATAGRAM};
 
 use crate::network::network_of;
 use crate::service_socket::ServiceSocket;
 use dns_query::Over;
 use flight::{Client, Numbered};
-use front_workers::{DATAGRAM_ROOM, MOST_DATAGRAM};
+use replies::{DATAGRAM_ROOM, MOST_DATAGRAM};
 use std::marker::PhantomData;
 use std::net::SocketAddr;
 use std::snapshot::Snapshot;

@@ -12,7 +12,7 @@ use crate::service_socket::ServiceSocket;
 use dns_sockets::is_answerable;
 use dns_text::NoMemory;
 use flight::Numbered;
-use front_workers::{DATAGRAM_ROOM, MOST_DATAGRAM};
+use replies::{DATAGRAM_ROOM, MOST_DATAGRAM};
 use std::alloc::Global;
 use std::io;
 use std::io::ErrorKind;

@@ -1,7 +1,7 @@
 //! The sender of a worker's replies.
 
 ghost use Rattle.std.specs.Prelude.{◌≡◌, ◌≤◌, ℕ, List, length};
-ghost use Rattle.front_workers.specs.Serves.{most_octets};
+ghost use Rattle.replies.specs.Reply.{most_octets};
 ghost use Rattle.flight.specs.Told.{octets_of};
 
 use flight::{Client, ReplyOctets};

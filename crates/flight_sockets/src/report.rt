@@ -1,7 +1,7 @@
 //! The replies that report a fault, by the header alone.
 
 ghost use Rattle.std.specs.Prelude.{◌≡◌, ◌≤◌, length};
-ghost use Rattle.front_workers.specs.Serves.{fault_octets};
+ghost use Rattle.replies.specs.Reply.{fault_octets};
 ghost use Rattle.flight.specs.Told.{octets_of};
 
 use dns_wire::{HEADER_OCTETS, Rcode, fault_reply};

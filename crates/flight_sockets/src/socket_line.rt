@@ -2,7 +2,7 @@
 
 ghost use Rattle.std.specs.Prelude.{◌≡◌, ◌⊎◌, false, true, length, option_map, IfOk, OnErr, OnOk, Some};
 ghost use Rattle.std.specs.Option.{option_copied};
-ghost use Rattle.front_workers.specs.declared.limits.TheConstants.{MOST_MESSAGE};
+ghost use Rattle.replies.specs.declared.limits.TheConstants.{MOST_MESSAGE};
 ghost use Rattle.dns_sockets.specs.Own.{MayAskServer};
 ghost use Rattle.flight.specs.declared.outside.Listened.TheVariants.{Anew, Broken, Nothing};
 ghost use Rattle.flight.specs.Counted.{CountsOpened};
@@ -20,10 +20,10 @@ use dns_query::Over;
 use dns_sockets::{OneSocket, ReadyNet, TcpLine, UdpLine, log_exchange};
 use dns_text::{Addr, Octets, Shared};
 use flight::{Counts, InFlight, Listened};
-use front_workers::is_dear;
 use history::Servers;
 use log::Log;
 use mio::{Registry, Token};
+use replies::is_dear;
 use std::alloc::Global;
 use std::io;
 use std::marker::Model;

@@ -3,8 +3,8 @@ use Rattle.std.proofs.Common.{◌≡◌, ◌≤◌, ◌+◌, ◌-◌, ◌^◌, �
 use Rattle.std.specs.Prelude.{Result, Ok, Err, IsErrOf, ◌⊎◌}
 use Rattle.streams.specs.declared.engine.TheConstants.{MOST_READS}
 use Rattle.system.specs.Counts.{Rises}
-use Rattle.front_workers.specs.declared.fault.StreamFault.{StreamFault}
-use Rattle.front_workers.specs.declared.fault.StreamFault.TheVariants.{Read, Write, Short, NoMemory}
+use Rattle.replies.specs.declared.fault.StreamFault.{StreamFault}
+use Rattle.replies.specs.declared.fault.StreamFault.TheVariants.{Read, Write, Short, NoMemory}
 use Rattle.front_workers.specs.TcpWorking.{IsExcused}
 use Rattle.front_workers.specs.Working.{HasFailed}
 

@@ -4,7 +4,8 @@ use Rattle.dns_wire.specs.declared.server.query.Query.{Query}
 use Rattle.dns_wire.specs.declared.server.query.Asked.TheVariants.{Drop, Good}
 use Rattle.dns_wire.specs.Server.Asking.{AsksFor, no_header, good}
 use Rattle.clock.specs.Ticks.{Ticks}
-use Rattle.front_workers.specs.Leads.{Calls, Asks, Lent}
+use Rattle.replies.specs.Calls.{Calls, Lent}
+use Rattle.front_workers.specs.Leads.{Asks}
 use Rattle.front_workers.specs.Serves.{IsUnserved, unread, broken_off, unwritten}
 
 answer_header : {m : List ℕ} {query : Query} → AsksFor m (Good query) → 12 ≤ length m

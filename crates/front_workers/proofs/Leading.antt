@@ -14,7 +14,8 @@ use Rattle.iterate.specs.Phase.{Suits}
 use Rattle.iterate.specs.Task.{IsDueAt, IsTask, hunt_in}
 use Rattle.iterate.specs.Wanted.{MayWant, id_drawn, stream_behind}
 use Rattle.clock.specs.Ticks.{Ticks}
-use Rattle.front_workers.specs.Leads.{Calls, Asks, Lent, Draws, Lists, Met, replied, refused, came, failed, StepsLead, begins, goes_on, EndsInAnswer, BreaksOff, in_an_exchange}
+use Rattle.replies.specs.Calls.{Calls, Lent, Draws}
+use Rattle.front_workers.specs.Leads.{Asks, Lists, Met, replied, refused, came, failed, StepsLead, begins, goes_on, EndsInAnswer, BreaksOff, in_an_exchange}
 use Rattle.front_workers.specs.Turning.{Lacks, lacks}
 
 suits : {D X : Type 0} {calls : Calls D} {asks : Asks X} {d d' : D} {x x' : X} {hunt : Option Hunt} {want : Want} {input : Input} → Met calls asks d x hunt want input d' x' → Suits want input

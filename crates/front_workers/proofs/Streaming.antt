@@ -6,12 +6,13 @@ use Rattle.std.specs.Prelude.{Result, Ok, Err, IsErrAnd, flat_map}
 use Rattle.std.specs.Io.KnownBytes.{Consumes, Appends}
 use Rattle.streams.specs.Laws.{Consumes-then, Appends-then}
 use Rattle.streams.specs.Transcript.{Obeying, Transcript}
-use Rattle.front_workers.specs.declared.fault.StreamFault.{StreamFault}
-use Rattle.front_workers.specs.declared.fault.StreamFault.TheVariants.{Read, Write, Short, NoMemory}
-use Rattle.front_workers.specs.Framing.{framed, length_octets, HasLength, MessageCame}
+use Rattle.replies.specs.declared.fault.StreamFault.{StreamFault}
+use Rattle.replies.specs.declared.fault.StreamFault.TheVariants.{Read, Write, Short, NoMemory}
+use Rattle.replies.specs.Framing.{framed, length_octets, HasLength, MessageCame}
 use Rattle.dns_query.specs.declared.over.Over.TheVariants.{Tcp}
 use Rattle.clock.specs.Ticks.{Ticks}
-use Rattle.front_workers.specs.Leads.{Calls, Asks, Lent}
+use Rattle.replies.specs.Calls.{Calls, Lent}
+use Rattle.front_workers.specs.Leads.{Asks}
 use Rattle.front_workers.specs.Stream.{Serving, Lacking, Served, ServedOne, Streams, serving, lacking, unread, unserved, untold}
 
 -- One message more is read.

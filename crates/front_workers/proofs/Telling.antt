@@ -8,8 +8,10 @@ use Rattle.dns_wire.specs.Server.Asking.{AsksFor}
 use Rattle.iterate.specs.declared.answer.Answer.{Answer}
 use Rattle.iterate.specs.declared.answer.Answer.TheVariants.{Reply as Replies, Silent}
 use Rattle.clock.specs.Ticks.{Ticks}
-use Rattle.front_workers.specs.Leads.{Calls, Asks, Lent, EndsInAnswer}
-use Rattle.front_workers.specs.Serves.{Serves, silent, answered, Tells}
+use Rattle.replies.specs.Calls.{Calls, Lent}
+use Rattle.front_workers.specs.Leads.{Asks, EndsInAnswer}
+use Rattle.front_workers.specs.Serves.{Serves, silent, answered}
+use Rattle.replies.specs.Reply.{Tells}
 
 pub served_by : {D X C : Type 0} {calls : Calls D} {asks : Asks X} {ticks : Ticks C} {port : ℕ} {over : Over} {m : List ℕ} {query : Query} {desk d : D} {exchange x : X} {lent l : Lent C}
     → (answer : Answer) (reply : Option (List ℕ)) → AsksFor m (Good query) → EndsInAnswer calls asks ticks port query.question desk exchange lent answer d x l

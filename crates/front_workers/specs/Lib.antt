@@ -1,12 +1,8 @@
 pub mod Leads
-pub mod Lending
 pub mod Serves
-pub mod Sizing
 pub mod Turning
-pub mod Framing
 pub mod Stream
 pub mod Working
 pub mod UdpWorking
 pub mod TcpWorking
 pub mod States
-pub mod Dear

@@ -7,12 +7,13 @@ use Rattle.dns_query.specs.declared.over.Over.{Over}
 use Rattle.dns_query.specs.declared.over.Over.TheVariants.{Udp, Tcp}
 use Rattle.iterate.specs.declared.answer.Answer.{Answer}
 use Rattle.system.specs.declared.device.DeviceFault.{DeviceFault}
-use Rattle.front_workers.specs.declared.fault.StreamFault.{StreamFault}
+use Rattle.replies.specs.declared.fault.StreamFault.{StreamFault}
 use Rattle.system.specs.declared.came.Came.{Came}
 use Rattle.front_workers.specs.declared.tools.Tools.{Tools}
 use Rattle.front_workers.specs.declared.work_end.WorkEnd.{WorkEnd}
 use Rattle.clock.specs.Ticks.{Ticks}
-use Rattle.front_workers.specs.Leads.{Calls, Asks, Lent, EndsInAnswer, BreaksOff}
+use Rattle.replies.specs.Calls.{Calls, Lent}
+use Rattle.front_workers.specs.Leads.{Asks, EndsInAnswer, BreaksOff}
 use Rattle.front_workers.specs.Serves.{Serves, IsUnserved}
 use Rattle.front_workers.specs.Stream.{serving, lacking, ServedOne, Streams}
 use Rattle.front_workers.specs.UdpWorking.{Answered, Given, datagrams, answering}

@@ -3,12 +3,13 @@ use Rattle.std.specs.Prelude.{◌≡◌, ◌⊎◌, ℕ, ◌<◌, ◌^◌, Optio
 use Rattle.std.specs.Io.KnownBytes.{Consumes, IsAtEnd, Appends}
 use Rattle.streams.specs.Transcript.{Obeying, Transcript}
 use Rattle.dns_query.specs.declared.over.Over.{Over}
-use Rattle.front_workers.specs.declared.fault.StreamFault.{StreamFault}
-use Rattle.front_workers.specs.declared.fault.StreamFault.TheVariants.{Read, Write, Short, NoMemory}
+use Rattle.replies.specs.declared.fault.StreamFault.{StreamFault}
+use Rattle.replies.specs.declared.fault.StreamFault.TheVariants.{Read, Write, Short, NoMemory}
 use Rattle.clock.specs.Ticks.{Ticks}
-use Rattle.front_workers.specs.Leads.{Calls, Asks, Lent}
+use Rattle.replies.specs.Calls.{Calls, Lent}
+use Rattle.front_workers.specs.Leads.{Asks}
 use Rattle.front_workers.specs.Serves.{Serves, IsUnserved}
-use Rattle.front_workers.specs.Framing.{framed, length_octets, HasLength, IsPartial}
+use Rattle.replies.specs.Framing.{framed, length_octets, HasLength, IsPartial}
 
 -- Octets are served: the state before, the octets, their reply or none, the state after.
 abbrev pub Serving : Type 0 → Type 1

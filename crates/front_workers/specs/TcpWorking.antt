@@ -2,8 +2,8 @@
 use Rattle.std.specs.Prelude.{◌≡◌, ℕ, ◌+◌, Option, Result, Err, List}
 use Rattle.streams.specs.Engine.{FailsToRead}
 use Rattle.system.specs.declared.device.DeviceFault.{DeviceFault}
-use Rattle.front_workers.specs.declared.fault.StreamFault.{StreamFault}
-use Rattle.front_workers.specs.declared.fault.StreamFault.TheVariants.{Read, Write}
+use Rattle.replies.specs.declared.fault.StreamFault.{StreamFault}
+use Rattle.replies.specs.declared.fault.StreamFault.TheVariants.{Read, Write}
 use Rattle.front_workers.specs.Stream.{Serving, Lacking, Streams}
 use Rattle.front_workers.specs.Working.{Coming, Handling}
 

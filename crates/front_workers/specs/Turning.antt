@@ -8,7 +8,8 @@ use Rattle.iterate.specs.declared.want.Want.TheVariants.{Send, Finish}
 use Rattle.system.specs.declared.device.DeviceFault.TheVariants.{NoMemory}
 use Rattle.front_workers.specs.declared.run.WantOutcome.{WantOutcome}
 use Rattle.front_workers.specs.declared.run.WantOutcome.TheVariants.{Go, Done}
-use Rattle.front_workers.specs.Leads.{Calls, Asks, Met}
+use Rattle.replies.specs.Calls.{Calls}
+use Rattle.front_workers.specs.Leads.{Asks, Met}
 
 -- A call met the want, or the want is an answer.
 abbrev pub TakesTurn : {D X : Type 0} → Calls D → Asks X → D → X → Option Hunt → Want → WantOutcome → D → X → Type 0

@@ -5,8 +5,8 @@ use Rattle.dns_wire.specs.declared.server.query.Asked.TheVariants.{Drop}
 use Rattle.dns_wire.specs.Server.Asking.{AsksFor}
 use Rattle.system.specs.declared.device.DeviceFault.{DeviceFault}
 use Rattle.system.specs.declared.came.Came.{Came}
-use Rattle.front_workers.specs.declared.limits.TheConstants.{MOST_DATAGRAM}
-use Rattle.front_workers.specs.Serves.{fault_octets}
+use Rattle.replies.specs.declared.limits.TheConstants.{MOST_DATAGRAM}
+use Rattle.replies.specs.Reply.{fault_octets}
 use Rattle.front_workers.specs.Stream.{Serving, Lacking}
 use Rattle.front_workers.specs.Working.{Coming, Handling}
 

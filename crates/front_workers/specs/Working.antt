@@ -2,7 +2,7 @@
 use Rattle.std.specs.Prelude.{◌⊎◌, ℕ, ◌+◌, ◌-◌, ◌≤◌, ◌^◌, Option, Some, None, Result, Ok, Err}
 use Rattle.system.specs.declared.device.DeviceFault.{DeviceFault}
 use Rattle.system.specs.declared.device.DeviceFault.TheVariants.{Device, NoMemory}
-use Rattle.front_workers.specs.declared.limits.TheConstants.{MOST_FAILURES}
+use Rattle.replies.specs.declared.limits.TheConstants.{MOST_FAILURES}
 use Rattle.front_workers.specs.declared.work_end.WorkEnd.{WorkEnd}
 use Rattle.front_workers.specs.declared.work_end.WorkEnd.TheVariants.{Ended, Failing}
 

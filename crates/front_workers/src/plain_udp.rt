@@ -4,16 +4,14 @@
 //! the same promise, for tests and readers: it answers a datagram before it takes the next.
 
 ghost use Rattle.std.specs.Prelude.{◌≡◌, ◌≤◌, length};
-ghost use Rattle.front_workers.specs.declared.limits.TheConstants.{MOST_FAILURES};
+ghost use Rattle.replies.specs.declared.limits.TheConstants.{MOST_FAILURES};
 ghost use Rattle.front_workers.specs.declared.work_end.WorkEnd.TheVariants.{Failing};
-ghost use Rattle.front_workers.specs.Serves.{fault_octets};
+ghost use Rattle.replies.specs.Reply.{fault_octets};
 ghost use Rattle.front_workers.specs.States.{DatagramServed, DatagramsServed};
 ghost use Rattle.front_workers.specs.UdpWorking.{Given};
 ghost use Rattle.front_workers.specs.Working.{HasFailed};
 
 use crate::exchange::Exchange;
-use crate::limits::{DATAGRAM_ROOM, MOST_DATAGRAM, MOST_FAILURES};
-use crate::owed::wants_reply;
 use crate::port::Port;
 use crate::query::serve_query;
 use crate::tools::Tools;
@@ -24,6 +22,7 @@ use dns_wire::{Rcode, fault_reply};
 use history::Desk;
 use log::{Log, warn};
 use rand_core::Rng;
+use replies::{DATAGRAM_ROOM, MOST_DATAGRAM, MOST_FAILURES, wants_reply};
 use std::alloc::Global;
 use std::net::SocketAddr;
 use std::sync::Wait;

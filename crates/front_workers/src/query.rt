@@ -3,13 +3,10 @@
 ghost use Rattle.std.specs.Prelude.{◌≡◌, ◌≤◌, length, option_map, IfOk, IfSome, OnErr};
 ghost use Rattle.dns_wire.specs.declared.server.query.Asked.TheVariants.{Good};
 ghost use Rattle.dns_wire.specs.Server.Asking.{AsksFor};
-ghost use Rattle.front_workers.specs.Serves.{most_octets};
+ghost use Rattle.replies.specs.Reply.{most_octets};
 ghost use Rattle.front_workers.specs.States.{QueryServed, QueryUnserved};
 
-use crate::dear::is_dear;
 use crate::exchange::Exchange;
-use crate::owed::wants_reply;
-use crate::reply::{write_answer, write_fault};
 use crate::run::run_task;
 use crate::tools::Tools;
 use clock::Clock;
@@ -19,6 +16,7 @@ use dns_text::Question;
 use dns_wire::{Asked, Query, Rcode, read_question};
 use history::Desk;
 use rand_core::Rng;
+use replies::{is_dear, wants_reply, write_answer, write_fault};
 use std::alloc::Global;
 
 /// Serves a query that asks for an answer: resolves its question, and writes the reply.

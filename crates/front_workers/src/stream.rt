@@ -4,13 +4,11 @@ ghost use Rattle.std.specs.Prelude.{◌≡◌, ◌+◌, ◌<◌, ◌≤◌, IsEr
 ghost use Rattle.streams.specs.Engine.{FailsToRead};
 ghost use Rattle.streams.specs.declared.engine.TheConstants.{MOST_READS};
 ghost use Rattle.streams.specs.declared.source.TheConstants.{MOST_COUNTED};
-ghost use Rattle.front_workers.specs.declared.fault.StreamFault.TheVariants.{Read as ReadFault, Write as WriteFault};
-ghost use Rattle.front_workers.specs.Framing.{CountsWrite};
+ghost use Rattle.replies.specs.declared.fault.StreamFault.TheVariants.{Read as ReadFault, Write as WriteFault};
+ghost use Rattle.replies.specs.Framing.{CountsWrite};
 ghost use Rattle.front_workers.specs.States.{MessageServed, StreamServed};
 
 use crate::exchange::Exchange;
-use crate::fault::StreamFault;
-use crate::framing::{frame, take_message};
 use crate::query::serve_query;
 use crate::tools::Tools;
 use clock::Clock;
@@ -18,6 +16,7 @@ use dns_query::Over;
 use dns_text::Octets;
 use history::Desk;
 use rand_core::Rng;
+use replies::{StreamFault, frame, take_message};
 use std::alloc::Global;
 use streams::{MOST_READS, Sink, Source, send};
 

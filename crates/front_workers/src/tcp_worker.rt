@@ -3,13 +3,12 @@
 ghost use Rattle.std.specs.Prelude.{◌≡◌, ◌+◌, ◌≤◌, ◌<◌};
 ghost use Rattle.streams.specs.declared.engine.TheConstants.{MOST_READS};
 ghost use Rattle.streams.specs.declared.source.TheConstants.{MOST_COUNTED};
-ghost use Rattle.front_workers.specs.declared.limits.TheConstants.{MOST_FAILURES};
+ghost use Rattle.replies.specs.declared.limits.TheConstants.{MOST_FAILURES};
 ghost use Rattle.front_workers.specs.declared.work_end.WorkEnd.TheVariants.{Failing};
 ghost use Rattle.front_workers.specs.States.{ConnectionServed, ConnectionsServed};
 ghost use Rattle.front_workers.specs.Working.{HasFailed};
 
 use crate::exchange::Exchange;
-use crate::limits::MOST_FAILURES;
 use crate::listener::Listener;
 use crate::stream::serve_stream;
 use crate::tools::Tools;
@@ -18,6 +17,7 @@ use clock::Clock;
 use history::Desk;
 use log::{Log, warn};
 use rand_core::Rng;
+use replies::MOST_FAILURES;
 use std::alloc::Global;
 use std::sync::Wait;
 use streams::{Sink, Source};

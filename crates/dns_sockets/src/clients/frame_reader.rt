@@ -10,8 +10,8 @@ ghost use Rattle.dns_sockets.specs.Reads.{Reads};
 ghost use Rattle.dns_sockets.specs.Spots.{spot_after, IsOfOneMessage};
 
 use crate::clients::spot::Spot;
-use crate::lengths::MOST_FRAMED;
 use clock::{Deadline, StopFlag, Timeouts, begin_wait, glance, is_wait_over};
+use replies::MOST_FRAMED;
 use std::alloc::Global;
 use std::io;
 use std::io::{BufRead, BufReader, ErrorKind, Read};

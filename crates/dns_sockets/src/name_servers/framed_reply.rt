@@ -3,11 +3,11 @@
 ghost use Rattle.std.specs.Prelude.{◌≡◌, ◌↔◌, ◌<◌, ◌≤◌, [], length, IsTrue, IfOk, IfSome, IsNone, OnOk};
 ghost use Rattle.std.specs.Io.{StartsWith, appended_bytes};
 ghost use Rattle.std.specs.Io.KnownBytes.{Consumes};
-ghost use Rattle.front_workers.specs.declared.limits.TheConstants.{MOST_MESSAGE};
-ghost use Rattle.front_workers.specs.Framing.{framed};
-ghost use Rattle.dns_sockets.specs.Wanting.{framed_size, octets_wanting, IsWholeFrame};
+ghost use Rattle.replies.specs.declared.limits.TheConstants.{MOST_MESSAGE};
+ghost use Rattle.replies.specs.Framing.{framed};
+ghost use Rattle.replies.specs.Wanting.{framed_size, IsWholeFrame};
 
-use front_workers::{MOST_MESSAGE, size_of};
+use replies::{MOST_MESSAGE, octets_wanting, size_of};
 use std::alloc::Global;
 use std::io;
 use std::io::{ErrorKind, Read};
@@ -18,18 +18,6 @@ use system::{MOST_CALLS, would_wait};
 pub(crate) struct FramedReply {
     octets: Vec<u8>,
     ghost within: { length octets.items ≤ framed_size octets.items },
-}
-
-/// The number of octets that a message preceded by its length still lacks, if these came of it.
-pub fn octets_wanting(came: &[u8]) -> usize
-    ensures wanting { result ≡ octets_wanting came.now }
-    ensures none { length came.now ≤ framed_size came.now → ((result ≡ 0) ↔ IsWholeFrame came.now) }
-{
-    match came {
-        [] => 2,
-        [_] => 1,
-        [high, low, message @ ..] => size_of(*high, *low).saturating_sub(message.len()),
-    }
 }
 
 /// The message in these octets, or None if they are no whole message preceded by its length.

@@ -2,9 +2,9 @@
 
 ghost use Rattle.std.specs.Prelude.{◌≡◌, ◌≤◌, ◌<◌, ◌+◌, ◌++◌, length, take, drop, vec_len, IfOk, OnOk};
 ghost use Rattle.std.specs.Io.KnownBytes.{Appends, Consumes};
-ghost use Rattle.front_workers.specs.Framing.{framed};
-ghost use Rattle.front_workers.specs.declared.limits.TheConstants.{MOST_MESSAGE};
-ghost use Rattle.dns_sockets.specs.declared.lengths.TheConstants.{MOST_FRAMED};
+ghost use Rattle.replies.specs.Framing.{framed};
+ghost use Rattle.replies.specs.declared.limits.TheConstants.{MOST_MESSAGE};
+ghost use Rattle.replies.specs.declared.limits.TheConstants.{MOST_FRAMED};
 ghost use Rattle.dns_sockets.specs.Asked.{ByDatagrams, ByStream, IsAskedOf};
 ghost use Rattle.dns_sockets.specs.Fits.{Fits};
 ghost use Rattle.dns_sockets.specs.Own.{MayAskAt, MayAskServer};
@@ -12,7 +12,6 @@ ghost use Rattle.dns_sockets.specs.Withheld.{IsWithheld};
 ghost use Rattle.system.specs.Counts.{Rises};
 ghost use Rattle.system.specs.declared.device.DeviceFault.TheVariants.{Device};
 
-use crate::lengths::MOST_FRAMED;
 use crate::name_servers::fault_line::{WITHHELD, log_exchange};
 use crate::name_servers::fitting::{MOST_MISFITS, fits};
 use crate::name_servers::own::{check_host, check_other, may_be_own};
@@ -22,9 +21,10 @@ use crate::name_servers::withheld::is_withheld;
 use clock::{Deadline, StopFlag, glance, put_off};
 use dns_query::Over;
 use dns_text::{Addr, NoMemory, Octets};
-use front_workers::{Exchange, MOST_MESSAGE, is_dear};
+use front_workers::Exchange;
 use iterate::Hunt;
 use log::Log;
+use replies::{MOST_FRAMED, MOST_MESSAGE, is_dear};
 use std::alloc::Global;
 use std::io;
 use std::io::{ErrorKind, Read, Write};

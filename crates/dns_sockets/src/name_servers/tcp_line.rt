@@ -2,11 +2,11 @@
 
 ghost use Rattle.std.specs.Prelude.{◌≡◌, ◌↔◌, ◌<◌, ◌≤◌, ◌⊎◌, [], length, IsTrue, IfOk, IfSome, IsNone, OnErr, OnOk};
 ghost use Rattle.std.specs.Io.{StartsWith};
-ghost use Rattle.front_workers.specs.declared.limits.TheConstants.{MOST_MESSAGE};
-ghost use Rattle.front_workers.specs.Framing.{framed};
+ghost use Rattle.replies.specs.declared.limits.TheConstants.{MOST_MESSAGE};
+ghost use Rattle.replies.specs.Framing.{framed};
 ghost use Rattle.dns_sockets.specs.Own.{IsNoLine, MayAsk};
 ghost use Rattle.dns_sockets.specs.Line.{IsDone, Moves, WentFrom, WentOn};
-ghost use Rattle.dns_sockets.specs.Wanting.{IsWholeFrame};
+ghost use Rattle.replies.specs.Wanting.{IsWholeFrame};
 
 use crate::name_servers::framed_query::{FramedQuery, MOST_QUERY};
 use crate::name_servers::framed_reply::FramedReply;

@@ -2,7 +2,7 @@
 
 ghost use Rattle.std.specs.Prelude.{◌≡◌, ◌≤◌, length, take, IfOk, OnErr};
 ghost use Rattle.std.specs.declared.net.SocketAddr.{SocketAddr};
-ghost use Rattle.front_workers.specs.declared.limits.TheConstants.{MOST_MESSAGE};
+ghost use Rattle.replies.specs.declared.limits.TheConstants.{MOST_MESSAGE};
 ghost use Rattle.dns_sockets.specs.Fits.{Fits};
 ghost use Rattle.dns_sockets.specs.Heard.{IfReply};
 ghost use Rattle.dns_sockets.specs.declared.name_servers.heard.UdpHeard.TheVariants.{Misfits, Nothing};
@@ -14,8 +14,8 @@ use crate::name_servers::heard::UdpHeard;
 use crate::name_servers::one_socket::OneSocket;
 use crate::name_servers::own::{check_host, check_other, may_be_own};
 use crate::name_servers::ready_net::{ReadyNet, ReadySocket};
-use front_workers::MOST_MESSAGE;
 use mio::{Registry, Token};
+use replies::MOST_MESSAGE;
 use std::io;
 use std::marker::Model;
 use std::net::SocketAddr;

@@ -1,11 +1,11 @@
 //! The message of a connection that has begun to come.
 
 ghost use Rattle.std.specs.Prelude.{◌≡◌, ◌<◌, ◌≤◌, ◌++◌, [], None, length, vec_capacity, IfOk, IfSome, OnErr};
-ghost use Rattle.front_workers.specs.Framing.{framed, HasLength};
-ghost use Rattle.dns_sockets.specs.Wanting.{framed_size, octets_wanting};
+ghost use Rattle.replies.specs.Framing.{framed, HasLength};
+ghost use Rattle.replies.specs.Wanting.{framed_size, octets_wanting};
 
-use dns_sockets::octets_wanting;
 use dns_text::NoMemory;
+use replies::octets_wanting;
 use std::alloc::{AllocError, Global};
 use std::marker::Model;
 use std::mem;
@@ -21,7 +21,7 @@ pub(crate) struct WholeMessage {
 
 impl Model for WholeMessage {
     ghost use Rattle.std.specs.Prelude.{ℕ, List, drop};
-    ghost use Rattle.dns_sockets.specs.Wanting.{IsWholeFrame};
+    ghost use Rattle.replies.specs.Wanting.{IsWholeFrame};
 
     ghost Value = { List ℕ };
 

@@ -1,7 +1,7 @@
 //! The connection of a client.
 
 ghost use Rattle.std.specs.Prelude.{◌≡◌, ◌<◌, ◌≤◌, ◌↔◌, ◌-◌, [], ◌∷◌, false, length, IfOk, IsTrue, OnOk};
-ghost use Rattle.front_workers.specs.declared.limits.TheConstants.{MOST_MESSAGE};
+ghost use Rattle.replies.specs.declared.limits.TheConstants.{MOST_MESSAGE};
 ghost use Rattle.flight_sockets.specs.Arrivals.{Arrives, OnNothing};
 ghost use Rattle.flight_sockets.specs.Connections.{IsFlushed, Serves, fresh};
 ghost use Rattle.flight_sockets.specs.declared.tcp.owed_replies.TheConstants.{MOST_AT_REST};
@@ -35,7 +35,7 @@ pub(crate) struct Connection<S: ClientStream> {
 
 impl<S: ClientStream> Model for Connection<S> {
     ghost use Rattle.std.specs.Prelude.{◌+◌, vec_capacity};
-    ghost use Rattle.front_workers.specs.Sizing.{capped};
+    ghost use Rattle.replies.specs.Sizing.{capped};
     ghost use Rattle.flight_sockets.specs.Connections.{ConnectionState};
 
     ghost Value = { ConnectionState S };

@@ -2,7 +2,7 @@
 
 ghost use Rattle.std.specs.Prelude.{◌≡◌, ◌≤◌, false, length, true, IfOk, IfSome, IsSomeAnd, IsTrue};
 ghost use Rattle.flight.specs.Told.{octets_of};
-ghost use Rattle.front_workers.specs.declared.limits.TheConstants.{MOST_MESSAGE};
+ghost use Rattle.replies.specs.declared.limits.TheConstants.{MOST_MESSAGE};
 ghost use Rattle.flight_sockets.specs.Connections.{IsFlushed, IsGone, Owes, Tends, connection_at, no_connections};
 ghost use Rattle.flight_sockets.specs.Memory.{KeepLittle, KeepsTooMuch, MayKeep};
 ghost use Rattle.flight_sockets.specs.Reading.{TakesFrom};
@@ -17,9 +17,9 @@ use crate::tcp::table::ConnectionTable;
 use crate::tcp::taken::TakenMessage;
 use dns_text::NoMemory;
 use flight::ReplyOctets;
-use front_workers::MOST_DATAGRAM;
 use log::Log;
 use mio::{Registry, Token};
+use replies::MOST_DATAGRAM;
 use std::alloc::Global;
 use std::marker::Model;
 use std::mem;

@@ -2,12 +2,12 @@
 
 ghost use Rattle.std.specs.Prelude.{◌≡◌, ◌↔◌, ◌≤◌, ◌++◌, [], drop, length, take, IfErr, IfOk, IsTrue, OnErr, OnOk};
 ghost use Rattle.std.specs.IoError.{error_kind};
-ghost use Rattle.front_workers.specs.declared.limits.TheConstants.{MOST_MESSAGE};
-ghost use Rattle.front_workers.specs.Framing.{framed};
+ghost use Rattle.replies.specs.declared.limits.TheConstants.{MOST_MESSAGE};
+ghost use Rattle.replies.specs.Framing.{framed};
 
 use crate::tcp::client_stream::ClientStream;
 use dns_text::NoMemory;
-use front_workers::MOST_MESSAGE;
+use replies::MOST_MESSAGE;
 use std::alloc::Global;
 use std::io;
 use std::io::ErrorKind;

@@ -3,7 +3,7 @@
 ghost use Rattle.std.specs.Prelude.{◌≡◌};
 
 use clock::PATIENCE_SECONDS;
-use front_workers::MOST_MESSAGE;
+use replies::MOST_MESSAGE;
 
 /// The milliseconds that a connection may be idle: a few seconds are enough for a client that asks again soon (RFC 7766, section 6.2.3).
 pub(crate) const MOST_IDLE: u64 = 10_000;

@@ -1,7 +1,7 @@
 //! A worker that serves many connections, with many questions in flight.
 
 ghost use Rattle.std.specs.Prelude.{◌≡◌, ◌≤◌, ℕ, IfOk};
-ghost use Rattle.front_workers.specs.declared.limits.TheConstants.{MOST_FAILURES};
+ghost use Rattle.replies.specs.declared.limits.TheConstants.{MOST_FAILURES};
 ghost use Rattle.front_workers.specs.declared.work_end.WorkEnd.TheVariants.{Ended, Failing};
 ghost use Rattle.front_workers.specs.Working.{HasFailed};
 ghost use Rattle.flight.specs.Bounds.{IsBounded};
@@ -22,10 +22,11 @@ use clock::{Clock, Elapsing, StopFlag};
 use dns_sockets::ReadyNet;
 use dns_text::NoMemory;
 use flight::{Flight, Numbered};
-use front_workers::{MOST_FAILURES, WorkEnd};
+use front_workers::WorkEnd;
 use log::{Log, warn};
 use mio::net::{TcpListener, TcpStream};
 use rand_core::Rng;
+use replies::MOST_FAILURES;
 use std::alloc::Global;
 use std::marker::Model;
 use std::sync::Wait;

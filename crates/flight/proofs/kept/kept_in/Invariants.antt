@@ -1,6 +1,6 @@
 use Rattle.std.proofs.Common.{◌≡◌, take}
 use Rattle.std.specs.List.{sum_by}
-use Rattle.front_workers.specs.Sizing.{capped}
+use Rattle.replies.specs.Sizing.{capped}
 use Rattle.flight.specs.Kept.{step_kept}
 use Rattle.flight.proofs.kept.kept_in.Given as goal
 

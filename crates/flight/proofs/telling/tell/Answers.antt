@@ -1,7 +1,7 @@
 use Rattle.std.proofs.Common.{inl, sym, subst}
 use Rattle.std.specs.Prelude.{None}
 use Rattle.iterate.specs.declared.answer.Answer.{Answer}
-use Rattle.front_workers.specs.Serves.{Tells}
+use Rattle.replies.specs.Reply.{Tells}
 use Rattle.flight.specs.Told.{silent}
 use Rattle.flight.proofs.telling.tell.Goals as goal
 

@@ -1,6 +1,6 @@
 use Rattle.std.specs.Prelude.{Some, None}
 use Rattle.std.proofs.Common.{refl}
-use Rattle.front_workers.specs.Serves.{fault_octets}
+use Rattle.replies.specs.Reply.{fault_octets}
 use Rattle.front_workers.specs.UdpWorking.{served, unserved, too_long, too_long_reply}
 use Rattle.front_workers.proofs.Headers.{unserved_header}
 use Rattle.front_workers.proofs.plain_udp.serve_datagram.Goals as goal

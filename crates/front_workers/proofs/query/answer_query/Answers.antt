@@ -1,5 +1,5 @@
 use Rattle.front_workers.specs.Serves.{unread, broken_off, unwritten}
-use Rattle.front_workers.proofs.Asked.{good_is_told}
+use Rattle.replies.proofs.Asked.{good_is_told}
 use Rattle.front_workers.proofs.Failing.{failing}
 use Rattle.front_workers.proofs.Telling.{served_by}
 use Rattle.front_workers.proofs.query.answer_query.Goals as goal

@@ -1,6 +1,6 @@
 use Rattle.std.proofs.Common.{length}
 use Rattle.front_workers.specs.Serves.{dropped, faulty, too_dear, unread}
-use Rattle.front_workers.proofs.Asked.{dear_is_long, fault_header, fault_is_told, good_is_read}
+use Rattle.replies.proofs.Asked.{dear_is_long, fault_header, fault_is_told, good_is_read}
 use Rattle.front_workers.proofs.Headers.{undropped_header}
 use Rattle.front_workers.proofs.Failing.{failing}
 use Rattle.front_workers.proofs.query.serve_query.Goals as goal

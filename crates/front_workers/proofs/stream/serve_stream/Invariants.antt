@@ -2,7 +2,7 @@ use Rattle.std.proofs.Common.{◌≡◌, ◌+◌, ◌^◌, ◌-◌, List, ℕ}
 use Rattle.std.specs.Prelude.{flat_map}
 use Rattle.std.specs.Io.KnownBytes.{Consumes, Appends}
 use Rattle.dns_query.specs.declared.over.Over.TheVariants.{Tcp}
-use Rattle.front_workers.specs.Framing.{framed}
+use Rattle.replies.specs.Framing.{framed}
 use Rattle.front_workers.specs.Stream.{serving, Served}
 use Rattle.front_workers.proofs.stream.serve_stream.Given as goal
 

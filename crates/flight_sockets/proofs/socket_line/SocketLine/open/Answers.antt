@@ -1,7 +1,7 @@
 use Rattle.std.proofs.Common.{◌≡◌, ◌∙◌, ◌<◌, ℕ, List, inl, inr, length, subst}
 use Rattle.std.specs.Prelude.{Result, Ok, Err, OnErr}
 use Rattle.dns_sockets.specs.declared.name_servers.framed_query.TheConstants.{MOST_QUERY}
-use Rattle.front_workers.specs.Framing.{framed}
+use Rattle.replies.specs.Framing.{framed}
 use Rattle.flight_sockets.proofs.socket_line.SocketLine.open.Goals as goal
 use Rattle.flight_sockets.proofs.socket_line.SocketLine.open.Goals.{in-Udp+in_ok-begin-in-Udp, in-Tcp+in_ok-begin-in-Tcp}
 

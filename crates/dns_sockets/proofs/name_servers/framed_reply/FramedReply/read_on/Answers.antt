@@ -1,6 +1,6 @@
 use Rattle.std.proofs.Common.{rules, ◌≡◌, ◌≤◌, length, drop, ℕ, List, arith, subst, sym}
 use Rattle.streams.specs.Laws.{Consumes-kept}
-use Rattle.dns_sockets.specs.Wanting.{framed_size, IsWholeFrame}
+use Rattle.replies.specs.Wanting.{framed_size, IsWholeFrame}
 use Rattle.dns_sockets.proofs.Passing.{came_on}
 use Rattle.dns_sockets.proofs.name_servers.framed_reply.FramedReply.read_on.Goals as goal
 use Rattle.dns_sockets.proofs.name_servers.framed_reply.FramedReply.read_on.Goals.{in-Ok+in_ok-extend_from_slice-in-Ok, in-Err+in_ok-would_wait-in-Err+else-branch}

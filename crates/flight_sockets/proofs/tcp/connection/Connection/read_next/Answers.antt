@@ -1,6 +1,6 @@
 use Rattle.std.proofs.Common.{◌≡◌, ◌∙◌, ◌++◌, [], ◌∷◌, List, ℕ, ap, drop, refl, subst, sym, take}
 use Rattle.std.proofs.lemmas.List.{append-nil, take-append-le}
-use Rattle.front_workers.specs.Framing.{framed}
+use Rattle.replies.specs.Framing.{framed}
 use Rattle.flight_sockets.proofs.Passing.{serves_read}
 use Rattle.flight_sockets.proofs.tcp.connection.Connection.read_next.Goals as goal
 

@@ -1,5 +1,5 @@
 use Rattle.std.proofs.Common.{[], ◌∷◌, Some, refl, arith, rules}
-use Rattle.front_workers.specs.Serves.{fault_octets}
+use Rattle.replies.specs.Reply.{fault_octets}
 use Rattle.flight.proofs.Settling.{accounted_settled}
 use Rattle.flight_sockets.proofs.Accounting.{latest_begun, time_at, time_on}
 use Rattle.flight_sockets.proofs.Outboxes.{asking_kept, ends_of}

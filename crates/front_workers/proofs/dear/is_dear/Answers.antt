@@ -1,5 +1,0 @@
-use Rattle.front_workers.proofs.Dearness.{quick_read}
-use Rattle.front_workers.proofs.dear.is_dear.Goals as goal
-
-pub returns-in-Ok-clause-quick : goal.returns-in-Ok-clause-quick
-returns-in-Ok-clause-quick c = λ _ _. quick_read _ c.in-Ok.ensures

@@ -1,8 +1,0 @@
-use Rattle.dns_wire.specs.declared.limits.TheConstants.{HEADER_OCTETS}
-use Rattle.front_workers.specs.Dear.{QuestionTakes}
-use Rattle.front_workers.proofs.Dearness.{Passes}
-use Rattle.front_workers.proofs.dear.pass_questions.Given as goal
-
--- So many questions were read.
-abbrev pub invariant-loop : goal.invariant-loop
-invariant-loop l = Passes (QuestionTakes l.octets) l.count HEADER_OCTETS l.counter l.at l.fn.left l.left

@@ -1,7 +1,0 @@
-use Rattle.front_workers.specs.Dear.{RecordTakes}
-use Rattle.front_workers.proofs.Dearness.{Passes}
-use Rattle.front_workers.proofs.dear.pass_records.Given as goal
-
--- So many records were read.
-abbrev pub invariant-loop : goal.invariant-loop
-invariant-loop l = Passes (RecordTakes l.octets l.copies) l.count l.start l.counter l.at l.fn.left l.left

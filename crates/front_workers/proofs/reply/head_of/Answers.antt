@@ -1,5 +1,0 @@
-use Rattle.std.proofs.Common.{arith}
-use Rattle.front_workers.proofs.reply.head_of.Goals as goal
-
-pub returns-clause-fits : goal.returns-clause-fits
-returns-clause-fits c = record { id = omega arith; opcode = omega arith; z = omega arith; rcode = omega arith }

@@ -1,4 +1,0 @@
-use Rattle.front_workers.proofs.reply.is_cut.Goals as goal
-
-pub returns-in-Udp : goal.returns-in-Udp
-returns-in-Udp c = λ yes. (c.in-Udp.is, c.must_be_cut.ensures yes)

@@ -1,6 +1,0 @@
-use Rattle.std.proofs.Common.{◌≡◌, take}
-use Rattle.front_workers.specs.Sizing.{bodies_size, capped}
-use Rattle.front_workers.proofs.sizing.bodies_size.Given as goal
-
-abbrev pub invariant-loop-body : goal.invariant-loop-body
-invariant-loop-body l = l.total ≡ capped (bodies_size l.owner (take l.body-index l.bodies))
