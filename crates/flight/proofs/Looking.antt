@@ -18,8 +18,8 @@ use Rattle.iterate.specs.Wanted.{id_drawn}
 use Rattle.rand_core.specs.Stream.{Stream}
 use Rattle.clock.specs.Ticks.{Ticks}
 use Rattle.replies.specs.Calls.{Calls, Draws}
-use Rattle.flight.specs.declared.outside.Listened.{Listened}
-use Rattle.flight.specs.declared.outside.Listened.TheVariants.{Anew}
+use Rattle.flight.specs.declared.sockets.Listened.{Listened}
+use Rattle.flight.specs.declared.sockets.Listened.TheVariants.{Anew}
 use Rattle.flight.specs.Asking.{HasLooked}
 use Rattle.flight.specs.FirstLook.{HearsOut, HeedsFirstLook, IsSilence, ListensTo}
 use Rattle.flight.specs.Flight.{Hears, Answered, Flies, begins, goes_on, Lands}

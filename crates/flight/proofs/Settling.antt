@@ -155,9 +155,9 @@ loses_as_before {counts = counts} now first old new before between so_far exchan
     }
 
 -- None is lost where nothing happens.
-pub none_lost : {W O K : Type 0} {sends : K → List ℕ → Type 0} {server_port : W → ℕ} {counts : W → Counts} {outbox : W → O} {posts : O → K → List ℕ → O → Type 0} (now : ℕ) (flight flight' : FlightState) (outside : W)
-    → flight' ≡ flight → LosesNone sends server_port counts outbox posts now flight outside flight' outside
-none_lost now flight flight' outside same =
+pub none_lost : {W O K : Type 0} {sends : K → List ℕ → Type 0} {server_port : W → ℕ} {counts : W → Counts} {outbox : W → O} {posts : O → K → List ℕ → O → Type 0} (now : ℕ) (flight flight' : FlightState) (sockets : W)
+    → flight' ≡ flight → LosesNone sends server_port counts outbox posts now flight sockets flight' sockets
+none_lost now flight flight' sockets same =
     let many : outstanding flight' ≡ outstanding flight = ap outstanding same in
     record {
       port = refl;

@@ -19,7 +19,7 @@ use Rattle.history.specs.declared.event.Reply.{Reply}
 use Rattle.clock.specs.Ticks.{Ticks}
 use Rattle.replies.specs.Calls.{Calls}
 use Rattle.flight.specs.declared.asking.Asking.{Asking}
-use Rattle.flight.specs.declared.outside.Listened.{Listened}
+use Rattle.flight.specs.declared.sockets.Listened.{Listened}
 use Rattle.flight.specs.declared.counts.Counts.{Counts}
 use Rattle.flight.specs.Clients.{SettlesOrWaits}
 use Rattle.flight.specs.Flight.{Sent, Hears, Answered, Awaits, Flies, Lands}

@@ -2,8 +2,8 @@
 use Rattle.std.specs.Prelude.{◌≡◌, ◌⊎◌, ◌≤◌, ℕ, ◌-◌, ◌^◌}
 use Rattle.system.specs.Counts.{Rises}
 use Rattle.flight.specs.declared.counts.Counts.{Counts}
-use Rattle.flight.specs.declared.outside.Listened.{Listened}
-use Rattle.flight.specs.declared.outside.Listened.TheVariants.{Nothing}
+use Rattle.flight.specs.declared.sockets.Listened.{Listened}
+use Rattle.flight.specs.declared.sockets.Listened.TheVariants.{Nothing}
 
 -- all counters at zero
 abbrev pub no_counts : Counts

@@ -15,8 +15,8 @@ use Rattle.iterate.specs.declared.want.Input.{Input}
 use Rattle.iterate.specs.declared.want.Input.TheVariants.{Reply as Replied}
 use Rattle.iterate.specs.Resolved.{IsNoAnswer}
 use Rattle.replies.specs.Calls.{Calls}
-use Rattle.flight.specs.declared.outside.Listened.{Listened}
-use Rattle.flight.specs.declared.outside.Listened.TheVariants.{Anew}
+use Rattle.flight.specs.declared.sockets.Listened.{Listened}
+use Rattle.flight.specs.declared.sockets.Listened.TheVariants.{Anew}
 use Rattle.flight.specs.Asking.{input_of}
 use Rattle.flight.specs.Origin.{zone_of}
 use Rattle.flight.specs.Waiting.{FlightState, UnderWay, exchange_at}
@@ -38,12 +38,12 @@ pub data HeedsFirstLook {D O : Type 0} (calls : Calls D) (question : Question) (
 
 -- The same of a worker's sockets, before and after.
 abbrev pub HeedsLook : {D W O : Type 0} → Calls D → (W → O) → Question → D → FlightState → W → D → FlightState → W → Type 0
-HeedsLook calls outbox question desk flight outside desk' flight' outside' = HeedsFirstLook calls question desk flight (outbox outside) desk' flight' (outbox outside')
+HeedsLook calls outbox question desk flight sockets desk' flight' sockets' = HeedsFirstLook calls question desk flight (outbox sockets) desk' flight' (outbox sockets')
 
 -- The same of the question that the octets of a client ask, if they ask one.
 abbrev pub HeedsLookOf : {D W O : Type 0} → Calls D → (W → O) → List ℕ → D → FlightState → W → D → FlightState → W → Type 0
-HeedsLookOf calls outbox octets desk flight outside desk' flight' outside' =
-    (query : Query) → AsksFor octets (Good query) → HeedsLook calls outbox query.question desk flight outside desk' flight' outside'
+HeedsLookOf calls outbox octets desk flight sockets desk' flight' sockets' =
+    (query : Query) → AsksFor octets (Good query) → HeedsLook calls outbox query.question desk flight sockets desk' flight' sockets'
 
 -- A call listened to an exchange. If its question is to begin anew, what comes of its first lookup is heeded. These are the questions in flight without it, before and after.
 pub record HearsOut {D W L O : Type 0} (calls : Calls D) (listens : W → L → Listened → W → Type 0) (outbox : W → O) (exchange : UnderWay) (desk : D) (without : FlightState) (old : W) (desk' : D) (flight' : FlightState) (new : W) : Type 0 where

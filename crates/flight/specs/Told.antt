@@ -13,8 +13,8 @@ use Rattle.replies.specs.Calls.{Calls}
 use Rattle.replies.specs.Reply.{fault_octets, reply_told, Tells, Written}
 use Rattle.flight.specs.declared.reply.ReplyOctets.{ReplyOctets}
 use Rattle.flight.specs.declared.reply.ReplyOctets.TheVariants.{Header, Message}
-use Rattle.flight.specs.declared.outside.Listened.{Listened}
-use Rattle.flight.specs.declared.outside.Listened.TheVariants.{Anew, Came, Broken, NoMemory, Nothing}
+use Rattle.flight.specs.declared.sockets.Listened.{Listened}
+use Rattle.flight.specs.declared.sockets.Listened.TheVariants.{Anew, Came, Broken, NoMemory, Nothing}
 use Rattle.flight.specs.declared.refused.HeardOrRefused.{HeardOrRefused}
 use Rattle.flight.specs.declared.refused.HeardOrRefused.TheVariants.{Anew as HeardAnew, Came as HeardCame, Broken as HeardBroken, NoMemory as HeardNoMemory, Nothing as HeardNothing}
 use Rattle.flight.specs.Flight.{Hears, Lands}

@@ -11,8 +11,8 @@ use crate::cause::Cause;
 use crate::engine::Flight;
 use crate::in_flight::InFlight;
 use crate::numbered::Numbered;
-use crate::outside::{Client, Outside};
 use crate::refused::{WorkerTask, first_look, settled};
+use crate::sockets::{Client, Sockets};
 use crate::telling::tell;
 use clock::Clock;
 use dns_wire::Query;
@@ -43,18 +43,18 @@ fn is_silence(input: &Input) -> bool
 
 impl<D: Numbered, L: InFlight, C: Clock, G: Rng, K: Client> Flight<D, L, C, G, K> {
     /// Begins a question anew, with a lookup and a task of its own. It grows no younger by it.
-    pub(crate) fn begin_again<O: Outside<D, L, C, K>>(
+    pub(crate) fn begin_again<O: Sockets<D, L, C, K>>(
         &mut self,
         desk: &mut D,
-        outside: &mut O,
+        sockets: &mut O,
         now: u64,
         asking: Asking<G, K>,
         octets: &[u8],
     )
         requires asked { IsAskedBy K.sent asking.port octets.now asking.client asking.query asking.task }
         ensures settles { SettlesAsking K.sent K.network O.server_port O.counts O.outbox O.posts now asking
-            self.old outside.old self.new outside.new }
-        ensures heeds { HeedsLook D.calls O.outbox asking.query.question desk.old self.old outside.old desk.new self.new outside.new }
+            self.old sockets.old self.new sockets.new }
+        ensures heeds { HeedsLook D.calls O.outbox asking.query.question desk.old self.old sockets.old desk.new self.new sockets.new }
     {
         let Asking {
             client,
@@ -64,16 +64,16 @@ impl<D: Numbered, L: InFlight, C: Clock, G: Rng, K: Client> Flight<D, L, C, G, K
             ..
         } = asking;
         drop(task);
-        self.begin_query(desk, outside, now, client, octets, query, began);
+        self.begin_query(desk, sockets, now, client, octets, query, began);
     }
 
     /// Begins the question of a query by its first lookup. A cached or local answer settles it at once, without a task. The question
     /// counts as begun at `began`, in milliseconds.
     #[tactic(auto, using(crate::proofs::Answering::is_good))]
-    pub(crate) fn begin_query<O: Outside<D, L, C, K>>(
+    pub(crate) fn begin_query<O: Sockets<D, L, C, K>>(
         &mut self,
         desk: &mut D,
-        outside: &mut O,
+        sockets: &mut O,
         now: u64,
         client: K,
         octets: &[u8],
@@ -83,12 +83,12 @@ impl<D: Numbered, L: InFlight, C: Clock, G: Rng, K: Client> Flight<D, L, C, G, K
         requires own { K.sent client octets.now }
         requires good { AsksFor octets.now (Good query) }
         ensures settles { SettlesQuery K.sent K.network O.server_port O.counts O.outbox O.posts now client query began
-            self.old outside.old self.new outside.new }
-        ensures heeds { HeedsLook D.calls O.outbox query.question desk.old self.old outside.old desk.new self.new outside.new }
+            self.old sockets.old self.new sockets.new }
+        ensures heeds { HeedsLook D.calls O.outbox query.question desk.old self.old sockets.old desk.new self.new sockets.new }
     {
         if desk.seen() < client.since() {
             let cause = Cause::behind(desk, &client);
-            outside.fail(client, octets, cause);
+            sockets.fail(client, octets, cause);
             drop(query);
             return;
         }
@@ -96,7 +96,7 @@ impl<D: Numbered, L: InFlight, C: Clock, G: Rng, K: Client> Flight<D, L, C, G, K
         let look = match first_look(&query.question, moment) {
             Ok(look) => look,
             Err(refused) => {
-                outside.fail(client, octets, Cause::no_memory(refused));
+                sockets.fail(client, octets, Cause::no_memory(refused));
                 drop(query);
                 return;
             }
@@ -104,15 +104,15 @@ impl<D: Numbered, L: InFlight, C: Clock, G: Rng, K: Client> Flight<D, L, C, G, K
         let mut seen = client.since();
         let came = ask::<D, L>(desk, &mut seen, look);
         self.begin_looked(
-            desk, outside, now, client, octets, query, began, moment, came, seen,
+            desk, sockets, now, client, octets, query, began, moment, came, seen,
         );
     }
 
     /// Begins a question whose first lookup, at this moment, was replied to.
-    fn begin_looked<O: Outside<D, L, C, K>>(
+    fn begin_looked<O: Sockets<D, L, C, K>>(
         &mut self,
         desk: &mut D,
-        outside: &mut O,
+        sockets: &mut O,
         now: u64,
         client: K,
         octets: &[u8],
@@ -127,20 +127,20 @@ impl<D: Numbered, L: InFlight, C: Clock, G: Rng, K: Client> Flight<D, L, C, G, K
         requires looked { HasLooked D.calls D.seen L.hears C.ticks (K.since client) query.question moment came seen }
         requires known { seen ≤ D.seen desk.old }
         ensures settles { SettlesQuery K.sent K.network O.server_port O.counts O.outbox O.posts now client query began
-            self.old outside.old self.new outside.new }
+            self.old sockets.old self.new sockets.new }
         ensures heeds { HeedsInput query.question came
-            desk.old self.old (O.outbox outside.old) desk.new self.new (O.outbox outside.new) }
+            desk.old self.old (O.outbox sockets.old) desk.new self.new (O.outbox sockets.new) }
     {
         resolved_law();
         if is_silence(&came) {
-            outside.pass_over(client, octets);
+            sockets.pass_over(client, octets);
             drop(came);
             drop(query);
             return;
         }
         match settled(self.alloc, &query.question, &came) {
             Ok(Some(answer)) => {
-                tell::<D, L, C, K, O>(self.alloc, outside, client, &query, octets, &answer);
+                tell::<D, L, C, K, O>(self.alloc, sockets, client, &query, octets, &answer);
                 // Dropped by calls: the proof then does not follow what these values may hold.
                 drop(answer);
                 drop(came);
@@ -148,11 +148,11 @@ impl<D: Numbered, L: InFlight, C: Clock, G: Rng, K: Client> Flight<D, L, C, G, K
             }
             Ok(None) => {
                 self.begin_task(
-                    desk, outside, now, client, octets, query, began, moment, came, seen,
+                    desk, sockets, now, client, octets, query, began, moment, came, seen,
                 );
             }
             Err(refused) => {
-                outside.fail(client, octets, Cause::no_memory(refused));
+                sockets.fail(client, octets, Cause::no_memory(refused));
                 drop(came);
                 drop(query);
             }
@@ -163,10 +163,10 @@ impl<D: Numbered, L: InFlight, C: Clock, G: Rng, K: Client> Flight<D, L, C, G, K
     /// because a task takes much of the stack.
     #[inline(never)]
     #[tactic(auto, using(crate::proofs::Answering::is_good))]
-    fn begin_task<O: Outside<D, L, C, K>>(
+    fn begin_task<O: Sockets<D, L, C, K>>(
         &mut self,
         desk: &mut D,
-        outside: &mut O,
+        sockets: &mut O,
         now: u64,
         client: K,
         octets: &[u8],
@@ -181,13 +181,13 @@ impl<D: Numbered, L: InFlight, C: Clock, G: Rng, K: Client> Flight<D, L, C, G, K
         requires looked { HasLooked D.calls D.seen L.hears C.ticks (K.since client) query.question moment came seen }
         requires known { seen ≤ D.seen desk.old }
         ensures { SettlesQuery K.sent K.network O.server_port O.counts O.outbox O.posts now client query began
-            self.old outside.old self.new outside.new }
+            self.old sockets.old self.new sockets.new }
     {
-        let port = outside.server_port();
+        let port = sockets.server_port();
         let task = match WorkerTask::begun(self.alloc, &query.question, port, moment) {
             Ok(task) => task,
             Err(refused) => {
-                outside.fail(client, octets, Cause::no_memory(refused));
+                sockets.fail(client, octets, Cause::no_memory(refused));
                 return;
             }
         };
@@ -199,6 +199,6 @@ impl<D: Numbered, L: InFlight, C: Clock, G: Rng, K: Client> Flight<D, L, C, G, K
             task,
             seen,
         };
-        self.drive(desk, outside, now, asking, octets, came);
+        self.drive(desk, sockets, now, asking, octets, came);
     }
 }

@@ -11,8 +11,8 @@ use crate::asking::Asking;
 use crate::in_flight::InFlight;
 use crate::kept::MOST_AT_REST;
 use crate::numbered::Numbered;
-use crate::outside::{Client, Outside};
 use crate::refused::Refused;
+use crate::sockets::{Client, Sockets};
 use crate::table::{LAST_BEGINNING, Table};
 use clock::Clock;
 use rand_core::Rng;
@@ -143,14 +143,14 @@ impl Cause {
         C: Clock,
         G: Rng,
         K: Client,
-        O: Outside<D, L, C, K>,
-    >(desk: &D, outside: &O, asking: &Asking<G, K>) -> Cause
+        O: Sockets<D, L, C, K>,
+    >(desk: &D, sockets: &O, asking: &Asking<G, K>) -> Cause
         requires sends { WantsSend D.calls D.seen L.hears C.ticks K.since asking.now }
-        requires other { (D.seen desk.now < asking.now.seen) ⊎ (asking.now.port ≢ O.server_port outside.now) }
+        requires other { (D.seen desk.now < asking.now.seen) ⊎ (asking.now.port ≢ O.server_port sockets.now) }
         ensures { result.why ≡ Elsewhere }
     {
         let _ = desk;
-        let _ = outside;
+        let _ = sockets;
         let _ = asking;
         Cause {
             why: Unserved::Elsewhere,

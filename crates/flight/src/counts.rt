@@ -3,7 +3,7 @@
 ghost use Rattle.std.specs.Prelude.{◌≡◌};
 ghost use Rattle.flight.specs.Counted.{CountsAbandoned, CountsExpired, CountsListened, CountsOpened, CountsSettled, no_counts};
 
-use crate::outside::Listened;
+use crate::sockets::Listened;
 
 /// The counters of a worker. Each stops at 2^64 - 1.
 #[derive(Clone, Copy, PartialEq, Eq)]

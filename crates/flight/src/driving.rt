@@ -3,7 +3,7 @@
 ghost use Rattle.std.specs.Prelude.{◌≡◌, ◌≤◌, ◌+◌, None, IfNone, IfSome, OnSome};
 ghost use Rattle.system.specs.Counts.{Rises};
 ghost use Rattle.flight.specs.Asking.{AwaitsFor, FliesFor, HasHeardFor, IsAskedBy, SettlesAsking};
-ghost use Rattle.flight.specs.declared.outside.Listened.TheVariants.{Anew};
+ghost use Rattle.flight.specs.declared.sockets.Listened.TheVariants.{Anew};
 ghost use Rattle.flight.specs.Bounds.{IsBounded};
 ghost use Rattle.flight.specs.FirstLook.{HearsOut, HeedsLook};
 ghost use Rattle.flight.specs.Flight.{query_to};
@@ -18,8 +18,8 @@ use crate::engine::Flight;
 use crate::in_flight::InFlight;
 use crate::job::Job;
 use crate::numbered::Numbered;
-use crate::outside::{Client, Outside};
 use crate::refused::{HeardOrRefused, hear};
+use crate::sockets::{Client, Sockets};
 use crate::telling::{conclude, refuse};
 use clock::Clock;
 use dns_query::Over;
@@ -30,22 +30,22 @@ use std::marker::PhantomData;
 
 impl<D: Numbered, L: InFlight, C: Clock, G: Rng, K: Client> Flight<D, L, C, G, K> {
     /// Ends the exchange of a question whose time is up. A reply that is there by now is still used.
-    pub(crate) fn end<O: Outside<D, L, C, K>>(
+    pub(crate) fn end<O: Sockets<D, L, C, K>>(
         &mut self,
         desk: &mut D,
-        outside: &mut O,
+        sockets: &mut O,
         now: u64,
         job: Job<D, L, C, G, K>,
     )
-        ensures port { O.server_port outside.new ≡ O.server_port outside.old }
-        ensures ends { Ends K.sent O.posts 0 (outstanding self.old + 1) (O.outbox outside.old)
-            (outstanding self.new) (O.outbox outside.new) }
-        ensures accounted { IsAccounted 0 (outstanding self.old + 1) (O.counts outside.old) (outstanding self.new) (O.counts outside.new) }
-        ensures heard { Rises (O.counts outside.old).listened (O.counts outside.new).listened }
+        ensures port { O.server_port sockets.new ≡ O.server_port sockets.old }
+        ensures ends { Ends K.sent O.posts 0 (outstanding self.old + 1) (O.outbox sockets.old)
+            (outstanding self.new) (O.outbox sockets.new) }
+        ensures accounted { IsAccounted 0 (outstanding self.old + 1) (O.counts sockets.old) (outstanding self.new) (O.counts sockets.new) }
+        ensures heard { Rises (O.counts sockets.old).listened (O.counts sockets.new).listened }
         ensures waits { WaitsFrom now (λ origin. origin ≡ job.origin) self.old self.new }
         ensures bounded { IsBounded self.old → IsBounded self.new }
         ensures limit { self.new.limit ≡ self.old.limit }
-        ensures anew { HearsOut D.calls O.listens O.outbox job desk.old self.old outside.old desk.new self.new outside.new }
+        ensures anew { HearsOut D.calls O.listens O.outbox job desk.old self.old sockets.old desk.new self.new sockets.new }
     {
         let Job {
             asking,
@@ -53,20 +53,20 @@ impl<D: Numbered, L: InFlight, C: Clock, G: Rng, K: Client> Flight<D, L, C, G, K
             mut line,
             ..
         } = job;
-        let heard = hear::<D, L, C, K, O>(outside, &mut line);
+        let heard = hear::<D, L, C, K, O>(sockets, &mut line);
         match &heard {
-            HeardOrRefused::Nothing => outside.expire(line),
+            HeardOrRefused::Nothing => sockets.expire(line),
             _ => drop(line),
         }
-        self.go_on(desk, outside, now, asking, octets, heard);
+        self.go_on(desk, sockets, now, asking, octets, heard);
     }
 
     /// Goes on with a question whose exchange ended, by what was heard of it (nothing if its time was up). The desk and the
     /// port must be those with which the question began: a caller that passes others gets SERVFAIL for its client.
-    pub(crate) fn go_on<O: Outside<D, L, C, K>>(
+    pub(crate) fn go_on<O: Sockets<D, L, C, K>>(
         &mut self,
         desk: &mut D,
-        outside: &mut O,
+        sockets: &mut O,
         now: u64,
         asking: Asking<G, K>,
         octets: Octets,
@@ -75,16 +75,16 @@ impl<D: Numbered, L: InFlight, C: Clock, G: Rng, K: Client> Flight<D, L, C, G, K
         requires asked { IsAskedBy K.sent asking.port octets asking.client asking.query asking.task }
         requires heard { HasHeardFor D.calls D.seen L.hears C.ticks K.since asking (listened_of heard) }
         ensures settles { SettlesAsking K.sent K.network O.server_port O.counts O.outbox O.posts now asking
-            self.old outside.old self.new outside.new }
+            self.old sockets.old self.new sockets.new }
 
         // A question that begins anew heeds its first lookup.
         ensures anew { listened_of heard ≡ Anew →
-            HeedsLook D.calls O.outbox asking.query.question desk.old self.old outside.old desk.new self.new outside.new }
+            HeedsLook D.calls O.outbox asking.query.question desk.old self.old sockets.old desk.new self.new sockets.new }
     {
         let input = match heard {
             HeardOrRefused::Came(reply) => {
                 let allowance = match asking.task.hunt() {
-                    Some(hunt) => outside.allowance(&hunt.servers.get().zone),
+                    Some(hunt) => sockets.allowance(&hunt.servers.get().zone),
                     None => Allowance::full(),
                 };
                 Input::Came {
@@ -96,27 +96,27 @@ impl<D: Numbered, L: InFlight, C: Clock, G: Rng, K: Client> Flight<D, L, C, G, K
             HeardOrRefused::Broken => Input::Failed,
             HeardOrRefused::NoMemory(refused) => {
                 let cause = Cause::no_memory(refused);
-                refuse::<D, L, C, G, K, O>(outside, asking, octets.as_slice(), cause);
+                refuse::<D, L, C, G, K, O>(sockets, asking, octets.as_slice(), cause);
                 return;
             }
             HeardOrRefused::Anew => {
-                self.begin_again(desk, outside, now, asking, octets.as_slice());
+                self.begin_again(desk, sockets, now, asking, octets.as_slice());
                 return;
             }
         };
-        if desk.seen() < asking.seen || outside.server_port() != asking.port {
-            let cause = Cause::elsewhere::<D, L, C, G, K, O>(desk, outside, &asking);
-            refuse::<D, L, C, G, K, O>(outside, asking, octets.as_slice(), cause);
+        if desk.seen() < asking.seen || sockets.server_port() != asking.port {
+            let cause = Cause::elsewhere::<D, L, C, G, K, O>(desk, sockets, &asking);
+            refuse::<D, L, C, G, K, O>(sockets, asking, octets.as_slice(), cause);
             return;
         }
-        self.drive(desk, outside, now, asking, octets.as_slice(), input);
+        self.drive(desk, sockets, now, asking, octets.as_slice(), input);
     }
 
     /// Goes on with a question until it waits for an exchange, or its client is settled.
-    pub(crate) fn drive<O: Outside<D, L, C, K>>(
+    pub(crate) fn drive<O: Sockets<D, L, C, K>>(
         &mut self,
         desk: &mut D,
-        outside: &mut O,
+        sockets: &mut O,
         now: u64,
         asking: Asking<G, K>,
         octets: &[u8],
@@ -124,10 +124,10 @@ impl<D: Numbered, L: InFlight, C: Clock, G: Rng, K: Client> Flight<D, L, C, G, K
     )
         requires asked { IsAskedBy K.sent asking.port octets.now asking.client asking.query asking.task }
         requires flies { FliesFor D.calls D.seen L.hears C.ticks K.since asking first }
-        requires port { asking.port ≡ O.server_port outside.old }
+        requires port { asking.port ≡ O.server_port sockets.old }
         requires known { asking.seen ≤ D.seen desk.old }
         ensures { SettlesAsking K.sent K.network O.server_port O.counts O.outbox O.posts now asking
-            self.old outside.old self.new outside.new }
+            self.old sockets.old self.new sockets.new }
     {
         due_law();
         let mut asking = asking;
@@ -138,17 +138,17 @@ impl<D: Numbered, L: InFlight, C: Clock, G: Rng, K: Client> Flight<D, L, C, G, K
                 Ok(want) => want,
                 Err(refused) => {
                     let cause = Cause::no_memory(refused);
-                    refuse::<D, L, C, G, K, O>(outside, asking, octets, cause);
+                    refuse::<D, L, C, G, K, O>(sockets, asking, octets, cause);
                     return;
                 }
             };
             match want {
                 Want::Book(event) => {
-                    outside.note(&event);
+                    sockets.note(&event);
                     input = ask_soon::<D, L>(desk, &mut asking.seen, event);
                 }
                 Want::Finish(answer) => {
-                    conclude::<D, L, C, G, K, O>(self.alloc, outside, asking, octets, answer);
+                    conclude::<D, L, C, G, K, O>(self.alloc, sockets, asking, octets, answer);
                     return;
                 }
                 Want::Send {
@@ -156,7 +156,7 @@ impl<D: Numbered, L: InFlight, C: Clock, G: Rng, K: Client> Flight<D, L, C, G, K
                     over,
                     bytes,
                 } => {
-                    let Some(unsent) = self.send(outside, now, asking, octets, &server, over, bytes)
+                    let Some(unsent) = self.send(sockets, now, asking, octets, &server, over, bytes)
                     else {
                         return;
                     };
@@ -169,9 +169,9 @@ impl<D: Numbered, L: InFlight, C: Clock, G: Rng, K: Client> Flight<D, L, C, G, K
 
     /// Begins the exchange of a query, and keeps its question, which waits for it. If there is no place for the question, its client gets
     /// SERVFAIL. Returns the question if the exchange could not begin.
-    fn send<O: Outside<D, L, C, K>>(
+    fn send<O: Sockets<D, L, C, K>>(
         &mut self,
-        outside: &mut O,
+        sockets: &mut O,
         now: u64,
         asking: Asking<G, K>,
         octets: &[u8],
@@ -182,22 +182,22 @@ impl<D: Numbered, L: InFlight, C: Clock, G: Rng, K: Client> Flight<D, L, C, G, K
         requires asked { IsAskedBy K.sent asking.port octets.now asking.client asking.query asking.task }
         requires awaits { AwaitsFor D.calls D.seen L.hears C.ticks K.since asking (query_to server.now over bytes) }
         ensures settles { IfNone result (SettlesAsking K.sent K.network O.server_port O.counts O.outbox O.posts now asking
-            self.old outside.old self.new outside.new) }
+            self.old sockets.old self.new sockets.new) }
         ensures unsent { IfSome result (λ unsent. unsent ≡ asking) }
         ensures failed { OnSome result (L.hears (query_to server.now over bytes) None) }
         ensures same { OnSome result (self.new ≡ self.old) }
-        ensures counts { OnSome result (O.counts outside.new ≡ O.counts outside.old) }
-        ensures keeps { OnSome result (Keeps O.server_port O.outbox outside.old outside.new) }
+        ensures counts { OnSome result (O.counts sockets.new ≡ O.counts sockets.old) }
+        ensures keeps { OnSome result (Keeps O.server_port O.outbox sockets.old sockets.new) }
     {
         let room = match self.table.make_room(now, &asking, octets) {
             Ok(room) => room,
             Err(cause) => {
-                refuse::<D, L, C, G, K, O>(outside, asking, octets, cause);
+                refuse::<D, L, C, G, K, O>(sockets, asking, octets, cause);
                 return None;
             }
         };
         let key = self.table.vacant_key();
-        let Some(line) = outside.open(key, server, asking.task.hunt(), over, bytes) else {
+        let Some(line) = sockets.open(key, server, asking.task.hunt(), over, bytes) else {
             return Some(asking);
         };
         let since = self.table.since(now);

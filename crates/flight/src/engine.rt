@@ -13,9 +13,9 @@ use crate::in_flight::InFlight;
 use crate::job::Job;
 use crate::kept::{MOST_ALL_KEPT, MOST_AT_REST};
 use crate::numbered::Numbered;
-use crate::outside::{Client, Outside};
 use crate::refused::{HeardOrRefused, hear, read_question};
 use crate::reply::ReplyOctets;
+use crate::sockets::{Client, Sockets};
 use crate::table::{PATIENCE, QUESTION_PATIENCE, Table};
 use crate::telling::{fault_of, give_up};
 use clock::Clock;
@@ -88,59 +88,59 @@ impl<D: Numbered, L: InFlight, C: Clock, G: Rng, K: Client> Flight<D, L, C, G, K
     }
 
     /// Takes the octets of a client. The client gets its reply at once, or waits for an exchange. `now` is in milliseconds.
-    pub fn begin<O: Outside<D, L, C, K>>(
+    pub fn begin<O: Sockets<D, L, C, K>>(
         &mut self,
         desk: &mut D,
-        outside: &mut O,
+        sockets: &mut O,
         now: u64,
         client: K,
         octets: &[u8],
     )
         requires own { K.sent client octets.now }
         ensures settles { SettlesOctets K.sent K.network O.server_port O.counts O.outbox O.posts now client octets.now
-            self.old outside.old self.new outside.new }
+            self.old sockets.old self.new sockets.new }
 
         // What the first lookup of its question settles is settled at once, and silence is kept.
-        ensures heeds { HeedsLookOf D.calls O.outbox octets.now desk.old self.old outside.old desk.new self.new outside.new }
+        ensures heeds { HeedsLookOf D.calls O.outbox octets.now desk.old self.old sockets.old desk.new self.new sockets.new }
     {
         one_verdict();
         let asked = match read_question(self.alloc, octets) {
             Ok(asked) => asked,
             Err(refused) => {
-                outside.fail(client, octets, Cause::no_memory(refused));
+                sockets.fail(client, octets, Cause::no_memory(refused));
                 return;
             }
         };
         match asked {
-            Asked::Drop => outside.pass_over(client, octets),
+            Asked::Drop => sockets.pass_over(client, octets),
             Asked::Fault(rcode) => {
                 let reply = ReplyOctets::Header(fault_of(octets, rcode));
-                outside.give(client, octets, reply);
+                sockets.give(client, octets, reply);
             }
             Asked::Good(query) => {
                 let began = self.table.since(now);
-                self.begin_query(desk, outside, now, client, octets, query, began);
+                self.begin_query(desk, sockets, now, client, octets, query, began);
             }
         }
     }
 
     /// Listens to the exchange under a key, and ends it if something came. Readiness events are only hints: nothing may have
     /// come yet, and the key may name no exchange.
-    pub fn look<O: Outside<D, L, C, K>>(
+    pub fn look<O: Sockets<D, L, C, K>>(
         &mut self,
         desk: &mut D,
-        outside: &mut O,
+        sockets: &mut O,
         now: u64,
         key: usize,
     )
-        ensures listens { IfSome (since_at self.old key) (λ _. Rises (O.counts outside.old).listened (O.counts outside.new).listened) }
-        ensures hint { since_at self.old key ≡ None → (self.new ≡ self.old) × (outside.new ≡ outside.old) }
+        ensures listens { IfSome (since_at self.old key) (λ _. Rises (O.counts sockets.old).listened (O.counts sockets.new).listened) }
+        ensures hint { since_at self.old key ≡ None → (self.new ≡ self.old) × (sockets.new ≡ sockets.old) }
         ensures others { OthersGoOn key self.old self.new }
-        ensures unexpired { (O.counts outside.new).expired ≡ (O.counts outside.old).expired }
-        ensures loses_none { LosesNone K.sent O.server_port O.counts O.outbox O.posts now self.old outside.old self.new outside.new }
+        ensures unexpired { (O.counts sockets.new).expired ≡ (O.counts sockets.old).expired }
+        ensures loses_none { LosesNone K.sent O.server_port O.counts O.outbox O.posts now self.old sockets.old self.new sockets.new }
 
         // A question that begins anew heeds its first lookup: if that shows silence, nothing leaves.
-        ensures anew { ListensAt D.calls O.listens O.outbox key desk.old self.old outside.old desk.new self.new outside.new }
+        ensures anew { ListensAt D.calls O.listens O.outbox key desk.old self.old sockets.old desk.new self.new sockets.new }
     {
         let Some(job) = self.table.take(key) else {
             return;
@@ -154,7 +154,7 @@ impl<D: Numbered, L: InFlight, C: Clock, G: Rng, K: Client> Flight<D, L, C, G, K
             desk: of,
             clock,
         } = job;
-        match hear::<D, L, C, K, O>(outside, &mut line) {
+        match hear::<D, L, C, K, O>(sockets, &mut line) {
             HeardOrRefused::Nothing => self.table.put_back(Job {
                 asking,
                 octets,
@@ -166,60 +166,60 @@ impl<D: Numbered, L: InFlight, C: Clock, G: Rng, K: Client> Flight<D, L, C, G, K
             }),
             heard => {
                 drop(line);
-                self.go_on(desk, outside, now, asking, octets, heard);
+                self.go_on(desk, sockets, now, asking, octets, heard);
             }
         }
     }
 
     /// Ends each exchange that has taken `PATIENCE` milliseconds. A reply that is there by now is still used. No question that
     /// began `QUESTION_PATIENCE` milliseconds ago waits then.
-    pub fn expire<O: Outside<D, L, C, K>>(&mut self, desk: &mut D, outside: &mut O, now: u64)
+    pub fn expire<O: Sockets<D, L, C, K>>(&mut self, desk: &mut D, sockets: &mut O, now: u64)
         ensures patient { IsPatient PATIENCE now self.new }
         ensures timely { IsTimely QUESTION_PATIENCE now self.new }
         ensures early { EarlyGoOn PATIENCE now self.old self.new }
-        ensures loses_none { LosesNone K.sent O.server_port O.counts O.outbox O.posts now self.old outside.old self.new outside.new }
+        ensures loses_none { LosesNone K.sent O.server_port O.counts O.outbox O.posts now self.old sockets.old self.new sockets.new }
 
         // So does each question here that begins anew.
-        ensures anew { ListensToEach D.calls O.listens O.outbox desk.old self.old outside.old desk.new self.new outside.new }
+        ensures anew { ListensToEach D.calls O.listens O.outbox desk.old self.old sockets.old desk.new self.new sockets.new }
     {
         while let Some(wait) = self.table.next_due(now) {
             if let Some(job) = self.table.pass(wait, now) {
-                self.end(desk, outside, now, job);
+                self.end(desk, sockets, now, job);
             }
         }
     }
 
     /// Ends the question that keeps most in memory, one after another, until all that wait keep at most `MOST_AT_REST` octets. The
     /// clients get SERVFAIL.
-    pub fn relieve<O: Outside<D, L, C, K>>(&mut self, outside: &mut O)
+    pub fn relieve<O: Sockets<D, L, C, K>>(&mut self, sockets: &mut O)
         ensures relieved { kept_all self.new ≤ MOST_AT_REST }
         ensures relieves { Relieves MOST_AT_REST self.old self.new }
         ensures go_on { AllGoOn self.old self.new }
         ensures loses_none { (now : ℕ)
-            → LosesNone K.sent O.server_port O.counts O.outbox O.posts now self.old outside.old self.new outside.new }
-        ensures unheard { (O.counts outside.new).listened ≡ (O.counts outside.old).listened }
-        ensures unexpired { (O.counts outside.new).expired ≡ (O.counts outside.old).expired }
+            → LosesNone K.sent O.server_port O.counts O.outbox O.posts now self.old sockets.old self.new sockets.new }
+        ensures unheard { (O.counts sockets.new).listened ≡ (O.counts sockets.old).listened }
+        ensures unexpired { (O.counts sockets.new).expired ≡ (O.counts sockets.old).expired }
     {
         while self.kept() > MOST_AT_REST {
-            self.end_largest(outside);
+            self.end_largest(sockets);
         }
     }
 
     /// Ends the question that keeps most.
-    fn end_largest<O: Outside<D, L, C, K>>(&mut self, outside: &mut O)
+    fn end_largest<O: Sockets<D, L, C, K>>(&mut self, sockets: &mut O)
         requires { MOST_AT_REST < kept_all self.old }
         ensures largest { EndsLargest self.old self.new }
         ensures fewer { outstanding self.new + 1 ≡ outstanding self.old }
         ensures loses_none { (now : ℕ)
-            → LosesNone K.sent O.server_port O.counts O.outbox O.posts now self.old outside.old self.new outside.new }
-        ensures unheard { (O.counts outside.new).listened ≡ (O.counts outside.old).listened }
-        ensures unexpired { (O.counts outside.new).expired ≡ (O.counts outside.old).expired }
+            → LosesNone K.sent O.server_port O.counts O.outbox O.posts now self.old sockets.old self.new sockets.new }
+        ensures unheard { (O.counts sockets.new).listened ≡ (O.counts sockets.old).listened }
+        ensures unexpired { (O.counts sockets.new).expired ≡ (O.counts sockets.old).expired }
     {
         let key = self.table.largest();
         let cause = Cause::keeps_most(&self.table, key);
         let Some(job) = self.table.take(key) else {
             unreachable!()
         };
-        give_up::<D, L, C, G, K, O>(outside, job, cause);
+        give_up::<D, L, C, G, K, O>(sockets, job, cause);
     }
 }

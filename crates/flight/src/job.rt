@@ -3,7 +3,7 @@
 use crate::asking::Asking;
 use crate::in_flight::InFlight;
 use crate::numbered::Numbered;
-use crate::outside::Client;
+use crate::sockets::Client;
 use crate::zone::zone_octets;
 use clock::Clock;
 use dns_text::Octets;

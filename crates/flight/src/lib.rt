@@ -12,8 +12,8 @@ mod in_flight;
 mod counts;
 // The octets of a reply.
 mod reply;
-// The clients of a worker, and its sockets.
-mod outside;
+// The clients of a worker, and its sockets: those of clients and those of servers.
+mod sockets;
 // The cause of a SERVFAIL that is not the answer to the question.
 mod cause;
 // The zone of a question's name.
@@ -47,7 +47,7 @@ pub use in_flight::InFlight;
 pub use kept::{MOST_ALL_KEPT, MOST_AT_REST, MOST_KEPT, kept_law};
 pub use laws::{fall_law, later_law, rise_law};
 pub use numbered::Numbered;
-pub use outside::{Client, Listened, Outside};
 pub use reply::ReplyOctets;
+pub use sockets::{Client, Listened, Sockets};
 pub use table::{PATIENCE, QUESTION_PATIENCE, limits_law};
 pub use zone::zone_octets;

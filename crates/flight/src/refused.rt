@@ -20,7 +20,7 @@ ghost use Rattle.flight.specs.Told.{listened_of, IsHeard, Keeps};
 
 use crate::in_flight::InFlight;
 use crate::numbered::Numbered;
-use crate::outside::{Client, Listened, Outside};
+use crate::sockets::{Client, Listened, Sockets};
 use crate::table::Wait;
 use clock::Clock;
 use dns_query::Over;
@@ -54,19 +54,19 @@ pub(crate) enum HeardOrRefused {
 }
 
 /// Listens to an exchange.
-pub(crate) fn hear<D: Numbered, L: InFlight, C: Clock, K: Client, O: Outside<D, L, C, K>>(
-    outside: &mut O,
+pub(crate) fn hear<D: Numbered, L: InFlight, C: Clock, K: Client, O: Sockets<D, L, C, K>>(
+    sockets: &mut O,
     line: &mut L,
 ) -> HeardOrRefused
     ensures heard { IsHeard (L.hears (L.asked line.old)) (listened_of result) }
     ensures asked { L.asked line.new ≡ L.asked line.old }
     ensures watched { L.key line.new ≡ L.key line.old }
     ensures listed { (hunt : Option Hunt) → L.listed line.old hunt → L.listed line.new hunt }
-    ensures listens { O.listens outside.old line.old (listened_of result) outside.new }
-    ensures listened { CountsListened (listened_of result) (O.counts outside.old) (O.counts outside.new) }
-    ensures keeps { Keeps O.server_port O.outbox outside.old outside.new }
+    ensures listens { O.listens sockets.old line.old (listened_of result) sockets.new }
+    ensures listened { CountsListened (listened_of result) (O.counts sockets.old) (O.counts sockets.new) }
+    ensures keeps { Keeps O.server_port O.outbox sockets.old sockets.new }
 {
-    match outside.hear(line) {
+    match sockets.hear(line) {
         Listened::Nothing => HeardOrRefused::Nothing,
         Listened::Came(octets) => HeardOrRefused::Came(octets),
         Listened::Broken => HeardOrRefused::Broken,

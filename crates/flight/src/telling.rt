@@ -17,9 +17,9 @@ use crate::cause::Cause;
 use crate::in_flight::InFlight;
 use crate::job::Job;
 use crate::numbered::Numbered;
-use crate::outside::{Client, Outside};
 use crate::refused::write_answer;
 use crate::reply::ReplyOctets;
+use crate::sockets::{Client, Sockets};
 use clock::Clock;
 use dns_wire::{Query, Rcode, fault_reply};
 use iterate::Answer;
@@ -36,16 +36,16 @@ pub(crate) fn fault_of(octets: &[u8], rcode: Rcode) -> [u8; 12]
 }
 
 /// Sends a client SERVFAIL for a cause.
-pub(crate) fn refuse<D: Numbered, L: InFlight, C: Clock, G: Rng, K: Client, O: Outside<D, L, C, K>>(
-    outside: &mut O,
+pub(crate) fn refuse<D: Numbered, L: InFlight, C: Clock, G: Rng, K: Client, O: Sockets<D, L, C, K>>(
+    sockets: &mut O,
     asking: Asking<G, K>,
     octets: &[u8],
     cause: Cause,
 )
     requires asked { IsAskedBy K.sent asking.port octets.now asking.client asking.query asking.task }
-    ensures { Settles O.server_port O.counts O.outbox O.posts asking.client (Some (fault_octets octets.now 2)) outside.old outside.new }
+    ensures { Settles O.server_port O.counts O.outbox O.posts asking.client (Some (fault_octets octets.now 2)) sockets.old sockets.new }
 {
-    outside.fail(asking.client, octets, cause);
+    sockets.fail(asking.client, octets, cause);
 }
 
 /// Ends a question that waits, because it keeps too much in memory: its exchange ends, and its client gets SERVFAIL.
@@ -55,13 +55,13 @@ pub(crate) fn give_up<
     C: Clock,
     G: Rng,
     K: Client,
-    O: Outside<D, L, C, K>,
->(outside: &mut O, job: Job<D, L, C, G, K>, cause: Cause)
-    ensures port { O.server_port outside.new ≡ O.server_port outside.old }
-    ensures ends { Ends K.sent O.posts 0 1 (O.outbox outside.old) 0 (O.outbox outside.new) }
-    ensures accounted { IsAccounted 0 1 (O.counts outside.old) 0 (O.counts outside.new) }
-    ensures unheard { (O.counts outside.new).listened ≡ (O.counts outside.old).listened }
-    ensures unexpired { (O.counts outside.new).expired ≡ (O.counts outside.old).expired }
+    O: Sockets<D, L, C, K>,
+>(sockets: &mut O, job: Job<D, L, C, G, K>, cause: Cause)
+    ensures port { O.server_port sockets.new ≡ O.server_port sockets.old }
+    ensures ends { Ends K.sent O.posts 0 1 (O.outbox sockets.old) 0 (O.outbox sockets.new) }
+    ensures accounted { IsAccounted 0 1 (O.counts sockets.old) 0 (O.counts sockets.new) }
+    ensures unheard { (O.counts sockets.new).listened ≡ (O.counts sockets.old).listened }
+    ensures unexpired { (O.counts sockets.new).expired ≡ (O.counts sockets.old).expired }
 {
     let Job {
         asking,
@@ -69,15 +69,15 @@ pub(crate) fn give_up<
         line,
         ..
     } = job;
-    outside.abandon(line);
-    outside.fail(asking.client, octets.as_slice(), cause);
+    sockets.abandon(line);
+    sockets.fail(asking.client, octets.as_slice(), cause);
 }
 
 /// Sends a client the answer to its question, which is no silence, or SERVFAIL if there is no memory to write it.
 #[tactic(auto, using(crate::proofs::Answering::is_good))]
-fn tell_reply<D: Numbered, L: InFlight, C: Clock, K: Client, O: Outside<D, L, C, K>>(
+fn tell_reply<D: Numbered, L: InFlight, C: Clock, K: Client, O: Sockets<D, L, C, K>>(
     alloc: Global,
-    outside: &mut O,
+    sockets: &mut O,
     client: K,
     query: &Query,
     octets: &[u8],
@@ -85,17 +85,17 @@ fn tell_reply<D: Numbered, L: InFlight, C: Clock, K: Client, O: Outside<D, L, C,
 )
     requires own { K.sent client octets.now }
     requires good { AsksFor octets.now (Good query.now) }
-    requires lands { Lands D.calls D.seen L.hears C.ticks (K.since client) (O.server_port outside.old) query.now.question answer.now }
+    requires lands { Lands D.calls D.seen L.hears C.ticks (K.since client) (O.server_port sockets.old) query.now.question answer.now }
     requires fit { IsFit answer.now }
     requires loud { answer.now ≢ Silent }
-    ensures { SettlesBy K.over O.server_port O.counts O.outbox O.posts client octets.now query.now answer.now outside.old outside.new }
+    ensures { SettlesBy K.over O.server_port O.counts O.outbox O.posts client octets.now query.now answer.now sockets.old sockets.new }
 {
     let over = client.over();
-    let buffer = outside.buffer();
+    let buffer = sockets.buffer();
     match write_answer(alloc, buffer, over, octets, query, answer) {
-        Ok(Some(reply)) => outside.give(client, octets, ReplyOctets::Message(reply)),
-        Ok(None) => outside.pass_over(client, octets),
-        Err(refused) => outside.fail(client, octets, Cause::no_memory(refused)),
+        Ok(Some(reply)) => sockets.give(client, octets, ReplyOctets::Message(reply)),
+        Ok(None) => sockets.pass_over(client, octets),
+        Err(refused) => sockets.fail(client, octets, Cause::no_memory(refused)),
     }
 }
 
@@ -106,12 +106,12 @@ pub(crate) fn conclude<
     C: Clock,
     G: Rng,
     K: Client,
-    O: Outside<D, L, C, K>,
->(alloc: Global, outside: &mut O, asking: Asking<G, K>, octets: &[u8], answer: Answer)
+    O: Sockets<D, L, C, K>,
+>(alloc: Global, sockets: &mut O, asking: Asking<G, K>, octets: &[u8], answer: Answer)
     requires asked { IsAskedBy K.sent asking.port octets.now asking.client asking.query asking.task }
-    requires lands { LandsFor D.calls D.seen L.hears C.ticks K.since (O.server_port outside.old) asking answer }
+    requires lands { LandsFor D.calls D.seen L.hears C.ticks K.since (O.server_port sockets.old) asking answer }
     requires fit { IsFit answer }
-    ensures { SettlesBy K.over O.server_port O.counts O.outbox O.posts asking.client octets.now asking.query answer outside.old outside.new }
+    ensures { SettlesBy K.over O.server_port O.counts O.outbox O.posts asking.client octets.now asking.query answer sockets.old sockets.new }
 {
     let Asking {
         client,
@@ -119,7 +119,7 @@ pub(crate) fn conclude<
         task,
         ..
     } = asking;
-    tell::<D, L, C, K, O>(alloc, outside, client, &query, octets, &answer);
+    tell::<D, L, C, K, O>(alloc, sockets, client, &query, octets, &answer);
     // Dropped by calls: the proof then does not follow what these values may hold.
     drop(answer);
     drop(query);
@@ -127,9 +127,9 @@ pub(crate) fn conclude<
 }
 
 /// Sends a client the answer to its question, or nothing if the answer is silence.
-pub(crate) fn tell<D: Numbered, L: InFlight, C: Clock, K: Client, O: Outside<D, L, C, K>>(
+pub(crate) fn tell<D: Numbered, L: InFlight, C: Clock, K: Client, O: Sockets<D, L, C, K>>(
     alloc: Global,
-    outside: &mut O,
+    sockets: &mut O,
     client: K,
     query: &Query,
     octets: &[u8],
@@ -137,14 +137,14 @@ pub(crate) fn tell<D: Numbered, L: InFlight, C: Clock, K: Client, O: Outside<D, 
 )
     requires own { K.sent client octets.now }
     requires good { AsksFor octets.now (Good query.now) }
-    requires lands { Lands D.calls D.seen L.hears C.ticks (K.since client) (O.server_port outside.old) query.now.question answer.now }
+    requires lands { Lands D.calls D.seen L.hears C.ticks (K.since client) (O.server_port sockets.old) query.now.question answer.now }
     requires fit { IsFit answer.now }
-    ensures { SettlesBy K.over O.server_port O.counts O.outbox O.posts client octets.now query.now answer.now outside.old outside.new }
+    ensures { SettlesBy K.over O.server_port O.counts O.outbox O.posts client octets.now query.now answer.now sockets.old sockets.new }
 {
     match answer {
-        Answer::Silent => outside.pass_over(client, octets),
+        Answer::Silent => sockets.pass_over(client, octets),
         Answer::Reply { .. } => {
-            tell_reply::<D, L, C, K, O>(alloc, outside, client, query, octets, answer);
+            tell_reply::<D, L, C, K, O>(alloc, sockets, client, query, octets, answer);
         }
     }
 }

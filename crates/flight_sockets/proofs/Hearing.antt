@@ -9,8 +9,8 @@ use Rattle.dns_query.specs.declared.over.Over.TheVariants.{Udp as OverUdp, Tcp a
 use Rattle.dns_sockets.specs.Asked.{ByStream, IsAskedAt}
 use Rattle.replies.specs.Framing.{framed}
 use Rattle.dns_sockets.specs.Line.{LineState}
-use Rattle.flight.specs.declared.outside.Listened.{Listened}
-use Rattle.flight.specs.declared.outside.Listened.TheVariants.{Anew, Nothing, Came, Broken, NoMemory}
+use Rattle.flight.specs.declared.sockets.Listened.{Listened}
+use Rattle.flight.specs.declared.sockets.Listened.TheVariants.{Anew, Nothing, Came, Broken, NoMemory}
 use Rattle.flight.specs.Told.{IsHeard}
 use Rattle.flight_sockets.specs.declared.transport.Transport.{Transport}
 use Rattle.flight_sockets.specs.declared.transport.Transport.TheVariants.{Udp, Tcp, Waiting, Closed}

@@ -12,8 +12,8 @@ use Rattle.system.specs.Place.{IsPlaceOf}
 use Rattle.replies.specs.Framing.{framed}
 use Rattle.dns_sockets.specs.Line.{LineState, WentFrom}
 use Rattle.dns_sockets.specs.Own.{IsNoLine}
-use Rattle.flight.specs.declared.outside.Listened.{Listened}
-use Rattle.flight.specs.declared.outside.Listened.TheVariants.{Anew, Broken, Came, Nothing}
+use Rattle.flight.specs.declared.sockets.Listened.{Listened}
+use Rattle.flight.specs.declared.sockets.Listened.TheVariants.{Anew, Broken, Came, Nothing}
 use Rattle.flight.specs.Flight.{Sent}
 use Rattle.flight_sockets.specs.Replies.{IsTooDear}
 use Rattle.flight_sockets.specs.declared.transport.Transport.{Transport}

@@ -7,8 +7,8 @@ use Rattle.dns_text.specs.declared.addr.Addr.{Addr}
 use Rattle.dns_query.specs.declared.over.Over.{Over}
 use Rattle.dns_query.specs.declared.over.Over.TheVariants.{Udp, Tcp}
 use Rattle.iterate.specs.declared.search.Hunt.{Hunt}
-use Rattle.flight.specs.declared.outside.Listened.{Listened}
-use Rattle.flight.specs.declared.outside.Listened.TheVariants.{Anew, Nothing, Came, Broken, NoMemory}
+use Rattle.flight.specs.declared.sockets.Listened.{Listened}
+use Rattle.flight.specs.declared.sockets.Listened.TheVariants.{Anew, Nothing, Came, Broken, NoMemory}
 use Rattle.flight_sockets.specs.contracts.server.ServerPartialEq.TheImpl as server_impl
 use Rattle.flight_sockets.specs.contracts.server.QuestionAtPartialEq.TheImpl as question_at_impl
 use Rattle.flight_sockets.specs.declared.flaw.Flaw.{Flaw}

@@ -11,8 +11,8 @@ use Rattle.history.specs.declared.servers.Origin.{Origin}
 use Rattle.history.specs.declared.servers.Origin.TheVariants.{Cache}
 use Rattle.history.specs.declared.servers.Servers.{Servers}
 use Rattle.iterate.specs.declared.search.Hunt.{Hunt}
-use Rattle.flight.specs.declared.outside.Listened.{Listened}
-use Rattle.flight.specs.declared.outside.Listened.TheVariants.{Came}
+use Rattle.flight.specs.declared.sockets.Listened.{Listened}
+use Rattle.flight.specs.declared.sockets.Listened.TheVariants.{Came}
 use Rattle.flight_sockets.specs.contracts.server.ZoneAtPartialEq.TheImpl as zone_at_impl
 use Rattle.flight_sockets.specs.declared.pause.Pause.{Pause}
 use Rattle.flight_sockets.specs.declared.refusals.Refusals.{Refusals}

@@ -8,8 +8,8 @@ use Rattle.dns_sockets.specs.Line.{LineState}
 use Rattle.system.specs.Place.{IsPlaceOf}
 use Rattle.replies.specs.Dear.{IsLong}
 use Rattle.replies.specs.Framing.{framed}
-use Rattle.flight.specs.declared.outside.Listened.{Listened}
-use Rattle.flight.specs.declared.outside.Listened.TheVariants.{Came}
+use Rattle.flight.specs.declared.sockets.Listened.{Listened}
+use Rattle.flight.specs.declared.sockets.Listened.TheVariants.{Came}
 use Rattle.flight.specs.Flight.{Sent}
 
 -- Octets that take too long to read: they are longer than a datagram, and take more than `MOST_STEPS` steps.

@@ -4,7 +4,7 @@ ghost use Rattle.std.specs.Prelude.{◌≡◌, ◌⊎◌, false, true, length, o
 ghost use Rattle.std.specs.Option.{option_copied};
 ghost use Rattle.replies.specs.declared.limits.TheConstants.{MOST_MESSAGE};
 ghost use Rattle.dns_sockets.specs.Own.{MayAskServer};
-ghost use Rattle.flight.specs.declared.outside.Listened.TheVariants.{Anew, Broken, Nothing};
+ghost use Rattle.flight.specs.declared.sockets.Listened.TheVariants.{Anew, Broken, Nothing};
 ghost use Rattle.flight.specs.Counted.{CountsOpened};
 ghost use Rattle.flight.specs.Flight.{query_to};
 ghost use Rattle.flight.specs.Told.{IsHeard};

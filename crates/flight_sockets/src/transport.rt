@@ -2,7 +2,7 @@
 
 ghost use Rattle.std.specs.Prelude.{◌≡◌, ◌≢◌, ◌<◌, ◌⊎◌, length, true, Some, IfSome, IsNone};
 ghost use Rattle.replies.specs.declared.limits.TheConstants.{MOST_MESSAGE};
-ghost use Rattle.flight.specs.declared.outside.Listened.TheVariants.{Anew, Broken, Nothing};
+ghost use Rattle.flight.specs.declared.sockets.Listened.TheVariants.{Anew, Broken, Nothing};
 ghost use Rattle.flight.specs.Told.{IsHeard};
 ghost use Rattle.flight_sockets.specs.Exchanges.{ExchangeState, HasMisfit, HasNoneYet, IsCutOff, IsUnderWay, OnUnbroken, WentOn, is_ended};
 ghost use Rattle.flight_sockets.specs.Replies.{IfCame, IsWholeReply, MayCome};

@@ -51,7 +51,7 @@ use dns_query::Over;
 use dns_sockets::{OneSocket, ReadyNet, WITHHELD, is_withheld, log_exchange, log_too_long};
 use dns_text::{Addr, NoMemory, Octets, Shared};
 use dns_wire::Rcode;
-use flight::{Cause, Client, Counts, InFlight, Listened, Numbered, Outside, ReplyOctets, Unserved};
+use flight::{Cause, Client, Counts, InFlight, Listened, Numbered, ReplyOctets, Sockets, Unserved};
 use history::{Event, Servers};
 use iterate::{Allowance, Hunt};
 use log::{Log, warn};
@@ -377,7 +377,7 @@ impl<'a, R: ReadyNet + Log, B: Drop> WorkerSockets<'a, R, B> {
     }
 }
 
-impl<'a, D: Numbered, C: Clock, R: ReadyNet + Log + Wait, K: Client, B: ReplySender<K>> Outside<
+impl<'a, D: Numbered, C: Clock, R: ReadyNet + Log + Wait, K: Client, B: ReplySender<K>> Sockets<
     D,
     SocketLine<R>,
     C,
@@ -424,7 +424,7 @@ impl<'a, D: Numbered, C: Clock, R: ReadyNet + Log + Wait, K: Client, B: ReplySen
         over: Over,
         query: Shared<Octets>,
     ) -> Option<SocketLine<R>>
-        // As for any `Outside`. Also, the server is not withheld and has not refused the zone lately, and if a query left, the service
+        // As for any `Sockets`. Also, the server is not withheld and has not refused the zone lately, and if a query left, the service
         // may ask that server. There is an exchange unless that is so, the server is passed over, for every question or for this one, the
         // network failed, the address belongs to no host, the server is the service itself, or over TCP the query is too long.
         ensures asked { IfSome result (λ line. line.asked ≡ query_to server.now over query) }
@@ -488,7 +488,7 @@ impl<'a, D: Numbered, C: Clock, R: ReadyNet + Log + Wait, K: Client, B: ReplySen
     }
 
     fn hear(&mut self, line: &mut SocketLine<R>) -> Listened
-        // As for any `Outside`. Also, what is told of the exchange is so, and a server that answered is not passed over any more.
+        // As for any `Sockets`. Also, what is told of the exchange is so, and a server that answered is not passed over any more.
         ensures heard { IsHeard (MayCome R.Datagrams.opened R.Datagrams.sent R.Datagrams.came
             R.Connection.connected R.Connection.contents R.Connection.remaining line.old.asked) result }
         ensures asked { line.new.asked ≡ line.old.asked }
@@ -528,7 +528,7 @@ impl<'a, D: Numbered, C: Clock, R: ReadyNet + Log + Wait, K: Client, B: ReplySen
     }
 
     fn expire(&mut self, line: SocketLine<R>)
-        // As for any `Outside`. Also, the server let a query go unanswered, unless none was sent.
+        // As for any `Sockets`. Also, the server let a query go unanswered, unless none was sent.
         ensures expired { CountsExpired self.old.counts self.new.counts }
         ensures keeps { Keeps (λ sockets. sockets.server_port) sockets_of self.old self.new }
         ensures unsent { line.waits ≡ true → self.new.pauses ≡ self.old.pauses }
@@ -552,7 +552,7 @@ impl<'a, D: Numbered, C: Clock, R: ReadyNet + Log + Wait, K: Client, B: ReplySen
     }
 
     fn abandon(&mut self, line: SocketLine<R>)
-        // As for any `Outside`. Also, nothing is noted of the server.
+        // As for any `Sockets`. Also, nothing is noted of the server.
         ensures abandoned { CountsAbandoned self.old.counts self.new.counts }
         ensures keeps { Keeps (λ sockets. sockets.server_port) sockets_of self.old self.new }
         ensures unnoted { (self.new.pauses ≡ self.old.pauses) × (self.new.refusals ≡ self.old.refusals) }

@@ -17,14 +17,14 @@ use system::{descriptor_limit, place_of};
 
 /// The sockets that all threads of a service share.
 #[derive(Drop)]
-pub(crate) struct Sockets {
+pub(crate) struct SharedSockets {
     pub control: TcpListener,
 }
 
 /// All sockets of a service: the shared ones, and for each worker a listener of its own, with the waker of its poll.
 #[derive(Drop)]
 pub(crate) struct Bound {
-    pub sockets: Sockets,
+    pub sockets: SharedSockets,
     pub udp: Vec<UdpListener>,
     pub tcp: Vec<TcpPoll>,
     pub wakers: Vec<Waker>,
@@ -70,7 +70,7 @@ impl Bound {
         }
         let control = listening(alloc, control, bind_tcp(rt, place_of(control)))?;
         Ok(Bound {
-            sockets: Sockets { control },
+            sockets: SharedSockets { control },
             udp,
             tcp,
             wakers,

@@ -4,7 +4,7 @@ ghost use Rattle.std.specs.Prelude.{◌≡◌, ◌+◌, ◌≤◌, vec_len};
 ghost use Rattle.resolver_args.specs.declared.mode.TheConstants.{MOST_WORKERS};
 
 use crate::gauges::Gauges;
-use crate::sockets::{DescriptorShares, Sockets};
+use crate::sockets::{DescriptorShares, SharedSockets};
 use clock::MonotonicClock;
 use flight_sockets::{
     AskingTerms, TableSeed, Tally, TcpPoll, TcpWorker, UdpListener, UdpWorker, fly_tcp, fly_udp,
@@ -51,7 +51,7 @@ pub(crate) struct Terms<'a> {
 pub(crate) struct Lent<'a, L: CallLedger> {
     pub book: &'a SharedBook<ServiceBook, L>,
     pub gauges: &'a Gauges,
-    pub sockets: &'a Sockets,
+    pub sockets: &'a SharedSockets,
     pub stop: &'a AtomicBool,
     pub terms: Terms<'a>,
 }

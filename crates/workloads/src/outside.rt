@@ -10,7 +10,7 @@ use clock::Clock;
 use dns_name::Name;
 use dns_query::Over;
 use dns_text::{Addr, Octets, Shared};
-use flight::{Cause, Client, Counts, InFlight, Listened, Numbered, Outside, ReplyOctets, Unserved};
+use flight::{Cause, Client, Counts, InFlight, Listened, Numbered, ReplyOctets, Sockets, Unserved};
 use history::Event;
 use iterate::{Allowance, Hunt};
 use std::alloc::Global;
@@ -149,7 +149,7 @@ impl Network {
     }
 }
 
-impl<D: Numbered> Outside<D, Wire, SetClock, Asker> for Network {
+impl<D: Numbered> Sockets<D, Wire, SetClock, Asker> for Network {
     ghost server_port = { λ s. s.port };
 
     ghost counts = { λ s. s.counts };

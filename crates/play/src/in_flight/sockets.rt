@@ -11,7 +11,7 @@ use crate::said::Said;
 use dns_name::{Name, NoMemory};
 use dns_query::Over;
 use dns_text::{Addr, Octets, Shared};
-use flight::{Cause, Client, Counts, InFlight, Listened, Numbered, Outside, ReplyOctets, Unserved};
+use flight::{Cause, Client, Counts, InFlight, Listened, Numbered, ReplyOctets, Sockets, Unserved};
 use history::Event;
 use iterate::{Allowance, Hunt};
 use std::alloc::Global;
@@ -72,7 +72,7 @@ impl InFlight for Wire {
 
 /// Clients and lines: what they are told is written down.
 #[derive(Drop)]
-pub struct Sockets {
+pub struct PlayedSockets {
     alloc: Global,
     port: u16,
     told: Vec<u8>,
@@ -86,9 +86,9 @@ pub struct Sockets {
 /// Room for what is told of one line, so that writing it down takes no memory.
 const ROOM: usize = 1 << 20;
 
-impl Sockets {
-    pub fn new(alloc: Global, port: u16) -> Result<Sockets, NoMemory> {
-        Ok(Sockets {
+impl PlayedSockets {
+    pub fn new(alloc: Global, port: u16) -> Result<PlayedSockets, NoMemory> {
+        Ok(PlayedSockets {
             alloc,
             port,
             told: Vec::with_capacity(alloc, ROOM)?,
@@ -169,7 +169,7 @@ fn heard_of(said: &Said, alloc: Global, query: &[u8]) -> Listened {
     }
 }
 
-impl<D: Numbered> Outside<D, Wire, LineClock, Peer> for Sockets {
+impl<D: Numbered> Sockets<D, Wire, LineClock, Peer> for PlayedSockets {
     ghost server_port = { λ s. s.port };
 
     ghost counts = { λ s. s.counts };

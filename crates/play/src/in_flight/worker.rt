@@ -2,7 +2,7 @@
 
 use crate::books::DNS_PORT;
 use crate::in_flight::desk::LineDesk;
-use crate::in_flight::sockets::{Peer, Sockets, Wire};
+use crate::in_flight::sockets::{Peer, PlayedSockets, Wire};
 use crate::stop::Stop;
 use clock::Clock;
 use dns_text::Addr;
@@ -35,7 +35,7 @@ pub type LineFlight<D> = Flight<D, Wire, LineClock, Pcg32, Peer>;
 pub struct Worker<D: LineDesk> {
     pub desk: D,
     pub flight: LineFlight<D>,
-    pub sockets: Sockets,
+    pub sockets: PlayedSockets,
     /// How many exchanges may be under way.
     pub limit: usize,
     /// In milliseconds.
@@ -66,7 +66,7 @@ impl<D: LineDesk> Worker<D> {
         Ok(Worker {
             desk,
             flight,
-            sockets: Sockets::new(alloc, DNS_PORT)?,
+            sockets: PlayedSockets::new(alloc, DNS_PORT)?,
             limit,
             now: 0,
             network: 0,

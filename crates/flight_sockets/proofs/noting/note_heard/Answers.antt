@@ -1,5 +1,5 @@
 use Rattle.std.proofs.Common.{subst, sym}
-use Rattle.flight.specs.declared.outside.Listened.{Listened}
+use Rattle.flight.specs.declared.sockets.Listened.{Listened}
 use Rattle.flight_sockets.specs.Pauses.{NotesHeard}
 use Rattle.flight_sockets.proofs.noting.note_heard.Goals as goal
 

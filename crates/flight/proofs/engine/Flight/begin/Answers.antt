@@ -45,5 +45,5 @@ pub returns-in-Good-clause-heeds : goal.returns-in-Good-clause-heeds
 returns-in-Good-clause-heeds g c = λ query asks.
     let read = rw c.in-Good.is at c.in-Ok.ensures.asked in
     let same = c.one_verdict.ensures c.args.octets.now (Good c.in-Good.query) (Good query) read asks in
-    let outbox = g.O.Outside.outbox in
-    subst (λ (question : Question). HeedsFirstLook g.D.Desk.calls question c.args.desk.now c.args.self.now (outbox c.args.outside.now) c.begin_query.new.desk c.begin_query.new.self (outbox c.begin_query.new.outside)) same.2 c.begin_query.ensures.heeds
+    let outbox = g.O.Sockets.outbox in
+    subst (λ (question : Question). HeedsFirstLook g.D.Desk.calls question c.args.desk.now c.args.self.now (outbox c.args.sockets.now) c.begin_query.new.desk c.begin_query.new.self (outbox c.begin_query.new.sockets)) same.2 c.begin_query.ensures.heeds

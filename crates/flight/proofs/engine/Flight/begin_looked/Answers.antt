@@ -9,19 +9,19 @@ use Rattle.flight.proofs.engine.Flight.begin_looked.Goals as goal
 -- No number was drawn, so the words may be any.
 pub pass_over-requires-clause-untold : goal.pass_over-requires-clause-untold
 pass_over-requires-clause-untold g c =
-    let port = g.O.Outside.server_port c.args.outside.now in
+    let port = g.O.Sockets.server_port c.args.sockets.now in
     let words : Stream = record { u32_after = λ calls. 0; u64_after = λ calls. 0; bytes_after = λ calls count. [] } in
     silent c.requires.good (looked_silent c.requires.looked port words (c.is_silence.ensures.0 c.if-is_silence.true))
 
 pub tell-requires-clause-lands : goal.tell-requires-clause-lands
 tell-requires-clause-lands g c =
-    let port = g.O.Outside.server_port c.args.outside.now in
+    let port = g.O.Sockets.server_port c.args.sockets.now in
     let resolves = looked_resolves c.requires.looked port c.in-Ok-Some.answer c.in-Ok-Some.field-0 c.in-Ok-Some.field-0-is c.in-Ok-Some.ensures in
     looked_lands c.requires.looked port (g.G.Rng.stream c.self.inside.ids) c.in-Ok-Some.answer resolves
 
 pub tell-requires-clause-fit : goal.tell-requires-clause-fit
 tell-requires-clause-fit g c =
-    let port = g.O.Outside.server_port c.args.outside.now in
+    let port = g.O.Sockets.server_port c.args.sockets.now in
     let resolves = looked_resolves c.requires.looked port c.in-Ok-Some.answer c.in-Ok-Some.field-0 c.in-Ok-Some.field-0-is c.in-Ok-Some.ensures in
     c.resolved_law.ensures port _ _ c.in-Ok-Some.answer resolves
 
@@ -58,7 +58,7 @@ returns-in-Err-clause-heeds g c = record {
 -- A task begins only if the lookup settled nothing.
 pub returns-in-Ok-None-clause-heeds : goal.returns-in-Ok-None-clause-heeds
 returns-in-Ok-None-clause-heeds g c =
-    let port = g.O.Outside.server_port c.args.outside.now in
+    let port = g.O.Sockets.server_port c.args.sockets.now in
     let unsettled = looked_unsettled c.requires.looked port c.in-Ok-None.field-0 c.in-Ok-None.field-0-is c.in-Ok-None.ensures in
     record {
       settled = λ settled. absurd (settled unsettled);

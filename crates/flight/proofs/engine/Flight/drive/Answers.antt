@@ -68,18 +68,18 @@ conclude-requires-clause-lands g c =
 pub returns-in-Finish : goal.returns-in-Finish
 returns-in-Finish g c =
     let before = c.loop-want.invariant in
-    own_client before.client_kept (settled_there c.args.now c.args.self.now _ c.args.outside.now c.loop-want.outside c.conclude.new.outside c.args.octets.now before.asked.own before.keeps before.counts_kept
+    own_client before.client_kept (settled_there c.args.now c.args.self.now _ c.args.sockets.now c.loop-want.sockets c.conclude.new.sockets c.args.octets.now before.asked.own before.keeps before.counts_kept
     (c.self.view_is ∙ before.same) c.conclude.ensures.2)
 
 pub returns-in-Err : goal.returns-in-Err
 returns-in-Err g c =
     let before = c.loop-want.invariant in
-    own_client before.client_kept (settled_there c.args.now c.args.self.now _ c.args.outside.now c.loop-want.outside c.refuse.new.outside c.args.octets.now before.asked.own before.keeps before.counts_kept
+    own_client before.client_kept (settled_there c.args.now c.args.self.now _ c.args.sockets.now c.loop-want.sockets c.refuse.new.sockets c.args.octets.now before.asked.own before.keeps before.counts_kept
     (c.self.view_is ∙ before.same) c.refuse.ensures)
 
 -- The question waits for its exchange, or found no place.
 pub returns-in_default : goal.returns-in_default
 returns-in_default g c =
     let before = c.loop-want.invariant in
-    own_client before.client_kept (said_less (settles_later c.args.self.now _ c.send.new.self c.args.outside.now c.loop-want.outside c.send.new.outside before.keeps before.counts_kept
+    own_client before.client_kept (said_less (settles_later c.args.self.now _ c.send.new.self c.args.sockets.now c.loop-want.sockets c.send.new.sockets before.keeps before.counts_kept
     (c.self.view_is ∙ before.same) c.in_default.ensures.settles) (λ origin is. is ∙ before.origin_kept))

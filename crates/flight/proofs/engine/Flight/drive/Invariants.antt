@@ -9,12 +9,12 @@ abbrev pub invariant-loop-want : goal.invariant-loop-want
 invariant-loop-want g l = record {
   asked : IsAskedBy g.K.Client.sent l.asking.port l.octets l.asking.client l.asking.query l.asking.task;
   flies : FliesFor g.D.Desk.calls g.D.Numbered.seen g.L.InFlight.hears g.C.Clock.ticks g.K.Client.since l.asking l.input;
-  port : l.asking.port ≡ g.O.Outside.server_port l.outside;
+  port : l.asking.port ≡ g.O.Sockets.server_port l.sockets;
   known : l.asking.seen ≤ g.D.Numbered.seen l.desk;
   client_kept : l.asking.client ≡ l.fn.asking.client;
   origin_kept : origin_in g.K.Client.network l.asking ≡ origin_in g.K.Client.network l.fn.asking;
-  keeps : Keeps g.O.Outside.server_port g.O.Outside.outbox l.fn.outside l.outside;
-  counts_kept : g.O.Outside.counts l.outside ≡ g.O.Outside.counts l.fn.outside;
+  keeps : Keeps g.O.Sockets.server_port g.O.Sockets.outbox l.fn.sockets l.sockets;
+  counts_kept : g.O.Sockets.counts l.sockets ≡ g.O.Sockets.counts l.fn.sockets;
   same : l.self ≡ l.fn.self;
 }
 

@@ -9,9 +9,9 @@ use Rattle.flight.proofs.engine.Flight.end.Goals.{in-Nothing, in_default}
 
 pub returns-clause-ends : goal.returns-clause-ends
 returns-clause-ends g c =
-    let silent : g.O.Outside.outbox c.match-heard.outside ≡ g.O.Outside.outbox c.args.outside.now = elim c.match-heard.branch [
-      | in-Nothing w ↦ rw w.outside-is (w.expire.ensures.keeps.silent ∙ c.hear-heard.ensures.keeps.silent)
-      | in_default w ↦ rw w.outside-is c.hear-heard.ensures.keeps.silent
+    let silent : g.O.Sockets.outbox c.match-heard.sockets ≡ g.O.Sockets.outbox c.args.sockets.now = elim c.match-heard.branch [
+      | in-Nothing w ↦ rw w.sockets-is (w.expire.ensures.keeps.silent ∙ c.hear-heard.ensures.keeps.silent)
+      | in_default w ↦ rw w.sockets-is c.hear-heard.ensures.keeps.silent
     ] in
     ends_of 0 _ (omega arith) (ends_behind silent c.go_on.ensures.settles.ends)
 
@@ -20,12 +20,12 @@ returns-clause-waits g c = subst (λ (job : UnderWay). WaitsFrom c.args.now (λ 
 
 pub returns-clause-anew : goal.returns-clause-anew
 returns-clause-anew g c =
-    let silent : g.O.Outside.outbox c.match-heard.outside ≡ g.O.Outside.outbox c.args.outside.now = elim c.match-heard.branch [
-      | in-Nothing w ↦ rw w.outside-is (w.expire.ensures.keeps.silent ∙ c.hear-heard.ensures.keeps.silent)
-      | in_default w ↦ rw w.outside-is c.hear-heard.ensures.keeps.silent
+    let silent : g.O.Sockets.outbox c.match-heard.sockets ≡ g.O.Sockets.outbox c.args.sockets.now = elim c.match-heard.branch [
+      | in-Nothing w ↦ rw w.sockets-is (w.expire.ensures.keeps.silent ∙ c.hear-heard.ensures.keeps.silent)
+      | in_default w ↦ rw w.sockets-is c.hear-heard.ensures.keeps.silent
     ] in
     let question = c.job.inside.asking.query.question in
     let of : UnderWay → Type 0 = λ job. job.origin.zone ≡ zone_of question.owner in
-    hears_out g.D.Desk.calls g.O.Outside.listens g.O.Outside.outbox c.args.job c.args.desk.now c.go_on.new.desk c.args.self.now c.go_on.new.self
-    c.args.outside.now c.hear-heard.new.outside c.match-heard.outside c.go_on.new.outside question c.job.inside.line (listened_of c.hear-heard.result)
+    hears_out g.D.Desk.calls g.O.Sockets.listens g.O.Sockets.outbox c.args.job c.args.desk.now c.go_on.new.desk c.args.self.now c.go_on.new.self
+    c.args.sockets.now c.hear-heard.new.sockets c.match-heard.sockets c.go_on.new.sockets question c.job.inside.line (listened_of c.hear-heard.result)
     (subst of c.job.view_is refl) c.hear-heard.ensures.listens silent c.go_on.ensures.anew

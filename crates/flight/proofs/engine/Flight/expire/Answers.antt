@@ -10,7 +10,7 @@ use Rattle.flight.proofs.Settling.{loses_as_before, none_lost}
 use Rattle.flight.proofs.engine.Flight.expire.Goals as goal
 
 pub loop-wait-init : goal.loop-wait-init
-loop-wait-init g c = record { early = λ key since here left. here; anew = stays; so_far = none_lost c.args.now c.args.self.now c.args.self.now c.args.outside.now refl }
+loop-wait-init g c = record { early = λ key since here left. here; anew = stays; so_far = none_lost c.args.now c.args.self.now c.args.self.now c.args.sockets.now refl }
 
 pub loop-wait-smaller-in-Some-pass : goal.loop-wait-smaller-in-Some-pass
 loop-wait-smaller-in-Some-pass g c =
@@ -26,7 +26,7 @@ loop-wait-preserved g c =
     record {
       early = λ key since here left. ap (λ (list : List (Option UnderWay)). since_in list key) exchanges ∙ before.early key since here left;
       anew = passes before.anew exchanges;
-      so_far = loses_as_before c.args.now c.args.self.now c.loop-wait.self _ c.args.outside.now c.loop-wait.outside before.so_far exchanges
+      so_far = loses_as_before c.args.now c.args.self.now c.loop-wait.self _ c.args.sockets.now c.loop-wait.sockets before.so_far exchanges
           (c.pass.ensures.latest ∙ ap (λ (state : FlightState). state.latest) was) (c.pass.ensures.limit ∙ ap (λ (state : FlightState). state.limit) was);
     }
 
@@ -37,13 +37,13 @@ loop-wait-preserved-in-Some-pass g c =
     let key = c.in-Some.wait.key in
     let due = c.in-Some-pass.ensures.due in
     let fewer = c.in-Some-pass.ensures.len ∙ ap outstanding was in
-    let after = subst (λ (waiting : ℕ). IsAccounted 0 waiting (g.O.Outside.counts c.loop-wait.outside) (outstanding c.end.new.self) (g.O.Outside.counts c.end.new.outside)) fewer c.end.ensures.accounted in
+    let after = subst (λ (waiting : ℕ). IsAccounted 0 waiting (g.O.Sockets.counts c.loop-wait.sockets) (outstanding c.end.new.self) (g.O.Sockets.counts c.end.new.sockets)) fewer c.end.ensures.accounted in
     let others = λ (other : ℕ) (differs : other ≢ key). c.in-Some-pass.ensures.taken.others other differs ∙ ap (λ (state : FlightState). exchange_at state other) was in
     let here = ap (λ (state : FlightState). exchange_at state key) (sym was) ∙ due.0 in
     let waits = c.end.ensures.waits in
     let table = c.pass.new.self in
     let without : FlightState = record { exchanges = table.jobs.slots; begun = map (λ wait. wait.since) table.waits.items; latest = table.latest; limit = table.limit } in
-    let there : ListensTo g.D.Desk.calls g.O.Outside.listens g.O.Outside.outbox key c.in-Some-pass.job c.loop-wait.desk c.loop-wait.self c.loop-wait.outside c.end.new.desk c.end.new.self c.end.new.outside =
+    let there : ListensTo g.D.Desk.calls g.O.Sockets.listens g.O.Sockets.outbox key c.in-Some-pass.job c.loop-wait.desk c.loop-wait.self c.loop-wait.sockets c.end.new.desk c.end.new.self c.end.new.sockets =
     record { without = without; gone = c.in-Some-pass.ensures.taken.changed; others = others; hears = c.end.ensures.anew }
     in
     let out = taken_out c.args.now key c.loop-wait.self _ c.in-Some-pass.ensures.taken.changed others

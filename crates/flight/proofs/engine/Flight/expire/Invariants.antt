@@ -8,8 +8,8 @@ use Rattle.flight.proofs.engine.Flight.expire.Given as goal
 abbrev pub invariant-loop-wait : goal.invariant-loop-wait
 invariant-loop-wait g l = record {
   early : EarlyGoOn 2000 l.now l.fn.self l.self;
-  anew : ListensToEach g.D.Desk.calls g.O.Outside.listens g.O.Outside.outbox l.fn.desk l.fn.self l.fn.outside l.desk l.self l.outside;
-  so_far : LosesNone g.K.Client.sent g.O.Outside.server_port g.O.Outside.counts g.O.Outside.outbox g.O.Outside.posts l.now l.fn.self l.fn.outside l.self l.outside;
+  anew : ListensToEach g.D.Desk.calls g.O.Sockets.listens g.O.Sockets.outbox l.fn.desk l.fn.self l.fn.sockets l.desk l.self l.sockets;
+  so_far : LosesNone g.K.Client.sent g.O.Sockets.server_port g.O.Sockets.counts g.O.Sockets.outbox g.O.Sockets.posts l.now l.fn.self l.fn.sockets l.self l.sockets;
 }
 
 abbrev pub decreases-loop-wait : goal.decreases-loop-wait

@@ -6,7 +6,7 @@ use Rattle.flight.specs.Kept.{kept_in}
 use Rattle.flight.specs.Table.{OneMore}
 use Rattle.flight.specs.Asking.{origin_in}
 use Rattle.flight.specs.Origin.{Origin, zone_of}
-use Rattle.flight.specs.declared.outside.Listened.TheVariants.{Nothing}
+use Rattle.flight.specs.declared.sockets.Listened.TheVariants.{Nothing}
 use Rattle.flight.specs.Waiting.{FlightState, UnderWay, exchange_at, outstanding, waiting_for}
 use Rattle.flight.proofs.Bounds.{may_keep_again}
 use Rattle.flight.proofs.Flights.{as_it_was, begun_or_not, no_more_then, on_or_begun_then, origins_same, origins_then, put_back_same, taken_out, waits_as}
@@ -103,11 +103,11 @@ returns-in-Nothing-clause-anew g c =
     let without : FlightState = record { exchanges = table.jobs.slots; begun = map (λ wait. wait.since) table.waits.items; latest = table.latest; limit = table.limit } in
     let back = c.put_back.new.self in
     let new : FlightState = record { exchanges = back.jobs.slots; begun = map (λ wait. wait.since) back.waits.items; latest = back.latest; limit = back.limit } in
-    let outbox = g.O.Outside.outbox in
-    let hears = hears_out g.D.Desk.calls g.O.Outside.listens outbox c.in-Some.job c.args.desk.now c.args.desk.now without new c.args.outside.now c.hear.new.outside c.hear.new.outside c.hear.new.outside
+    let outbox = g.O.Sockets.outbox in
+    let hears = hears_out g.D.Desk.calls g.O.Sockets.listens outbox c.in-Some.job c.args.desk.now c.args.desk.now without new c.args.sockets.now c.hear.new.sockets c.hear.new.sockets c.hear.new.sockets
     question c.job.inside.line Nothing (subst of c.job.view_is refl) c.in-Nothing.ensures.listens c.hear.ensures.keeps.silent (λ anew. absurd (cc anew))
     in
-    listens_there g.D.Desk.calls g.O.Outside.listens outbox c.args.key c.in-Some.job c.args.desk.now c.args.desk.now c.args.self.now without new c.args.outside.now c.hear.new.outside
+    listens_there g.D.Desk.calls g.O.Sockets.listens outbox c.args.key c.in-Some.job c.args.desk.now c.args.desk.now c.args.self.now without new c.args.sockets.now c.hear.new.sockets
     (ap (λ (state : FlightState). exchange_at state c.args.key) (sym was) ∙ sym c.in-Some.ensures.job)
     updates.changed (λ other differs. updates.others other differs ∙ ap (λ (state : FlightState). exchange_at state other) was) hears
 
@@ -119,10 +119,10 @@ returns-in_default-hear-clause-anew g c =
     let of : UnderWay → Type 0 = λ job. job.origin.zone ≡ zone_of question.owner in
     let table = c.take.new.self in
     let without : FlightState = record { exchanges = table.jobs.slots; begun = map (λ wait. wait.since) table.waits.items; latest = table.latest; limit = table.limit } in
-    let outbox = g.O.Outside.outbox in
-    let hears = hears_out g.D.Desk.calls g.O.Outside.listens outbox c.in-Some.job c.args.desk.now c.go_on.new.desk without c.go_on.new.self c.args.outside.now c.hear.new.outside c.hear.new.outside c.go_on.new.outside
+    let outbox = g.O.Sockets.outbox in
+    let hears = hears_out g.D.Desk.calls g.O.Sockets.listens outbox c.in-Some.job c.args.desk.now c.go_on.new.desk without c.go_on.new.self c.args.sockets.now c.hear.new.sockets c.hear.new.sockets c.go_on.new.sockets
     question c.job.inside.line _ (subst of c.job.view_is refl) c.hear.ensures.listens c.hear.ensures.keeps.silent c.go_on.ensures.anew
     in
-    listens_there g.D.Desk.calls g.O.Outside.listens outbox c.args.key c.in-Some.job c.args.desk.now c.go_on.new.desk c.args.self.now without c.go_on.new.self c.args.outside.now c.go_on.new.outside
+    listens_there g.D.Desk.calls g.O.Sockets.listens outbox c.args.key c.in-Some.job c.args.desk.now c.go_on.new.desk c.args.self.now without c.go_on.new.self c.args.sockets.now c.go_on.new.sockets
     (ap (λ (state : FlightState). exchange_at state c.args.key) (sym was) ∙ sym c.in-Some.ensures.job)
     updates.changed (λ other differs. updates.others other differs ∙ ap (λ (state : FlightState). exchange_at state other) was) hears

@@ -9,7 +9,7 @@ pub loop-self-init : goal.loop-self-init
 loop-self-init g c = record {
   relieves = stays;
   go_on = λ key exchange here. here;
-  so_far = λ now. none_lost now c.args.self.now c.args.self.now c.args.outside.now refl;
+  so_far = λ now. none_lost now c.args.self.now c.args.self.now c.args.sockets.now refl;
   unheard = refl;
   unexpired = refl;
 }

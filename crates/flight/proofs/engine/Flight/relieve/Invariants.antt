@@ -10,9 +10,9 @@ abbrev pub invariant-loop-self : goal.invariant-loop-self
 invariant-loop-self g l = record {
   relieves : Relieves MOST_AT_REST l.fn.self l.self;
   go_on : AllGoOn l.fn.self l.self;
-  so_far : (now : ℕ) → LosesNone g.K.Client.sent g.O.Outside.server_port g.O.Outside.counts g.O.Outside.outbox g.O.Outside.posts now l.fn.self l.fn.outside l.self l.outside;
-  unheard : (g.O.Outside.counts l.outside).listened ≡ (g.O.Outside.counts l.fn.outside).listened;
-  unexpired : (g.O.Outside.counts l.outside).expired ≡ (g.O.Outside.counts l.fn.outside).expired;
+  so_far : (now : ℕ) → LosesNone g.K.Client.sent g.O.Sockets.server_port g.O.Sockets.counts g.O.Sockets.outbox g.O.Sockets.posts now l.fn.self l.fn.sockets l.self l.sockets;
+  unheard : (g.O.Sockets.counts l.sockets).listened ≡ (g.O.Sockets.counts l.fn.sockets).listened;
+  unexpired : (g.O.Sockets.counts l.sockets).expired ≡ (g.O.Sockets.counts l.fn.sockets).expired;
 }
 
 abbrev pub decreases-loop-self : goal.decreases-loop-self

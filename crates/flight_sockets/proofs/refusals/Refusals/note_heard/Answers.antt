@@ -1,8 +1,8 @@
 use Rattle.std.proofs.Common.{Bor, List, Option, Some, inl, subst, sym, ℕ}
 use Rattle.std.specs.Option.{option_copied}
 use Rattle.dns_name.specs.Labels.{Labels}
-use Rattle.flight.specs.declared.outside.Listened.{Listened}
-use Rattle.flight.specs.declared.outside.Listened.TheVariants.{Came}
+use Rattle.flight.specs.declared.sockets.Listened.{Listened}
+use Rattle.flight.specs.declared.sockets.Listened.TheVariants.{Came}
 use Rattle.flight_sockets.specs.Refusals.{IsRefusal, NotesAnswer}
 use Rattle.flight_sockets.proofs.refusals.Refusals.note_heard.Goals as goal
 

@@ -20,7 +20,7 @@ returns-clause-goes_on g c =
     let clock = c.millis-now.new.self in
     let now_is : c.millis-now.result ≤ millis_at clock.last = omega (arith, c.millis-now.ensures.millis) in
     let before = worker_of (asking_of c.set_now.new.self) inside.taken inside.failures c.set_now.new.self.outbox c.set_now.new.self.counts clock inside.events.inner.items in
-    let after = worker_of (asking_of c.expire.new.outside) inside.taken inside.failures c.expire.new.outside.outbox c.expire.new.outside.counts clock inside.events.inner.items in
+    let after = worker_of (asking_of c.expire.new.sockets) inside.taken inside.failures c.expire.new.sockets.outbox c.expire.new.sockets.counts clock inside.events.inner.items in
     let last = worker_of (asking_of c.begin_anew.new.sockets) inside.taken inside.failures c.begin_anew.new.sockets.outbox c.begin_anew.new.sockets.counts clock inside.events.inner.items in
     rw (← c.self.view_is) (gone_on between between done _ before last (stayed between _ before (endings_none (posts_none c.set_now.ensures.kept) refl) refl c.set_now.ensures.counts refl c.set_now.ensures.asks (onward_by inside.clock clock c.millis-now.ensures.read))
     (gone_on between left done before after last (looked_on between left before after refl ends.accounted (endings_of (ends_of ends.ends)) ends.no_more ends.bounded ends.limit refl (asking_kept ends.ends)
@@ -39,7 +39,7 @@ returns-clause-takes_none g c =
     let done = c.begin_anew.new.questions in
     let clock = c.millis-now.new.self in
     let before = worker_of (asking_of c.set_now.new.self) inside.taken inside.failures c.set_now.new.self.outbox c.set_now.new.self.counts clock inside.events.inner.items in
-    let after = worker_of (asking_of c.expire.new.outside) inside.taken inside.failures c.expire.new.outside.outbox c.expire.new.outside.counts clock inside.events.inner.items in
+    let after = worker_of (asking_of c.expire.new.sockets) inside.taken inside.failures c.expire.new.sockets.outbox c.expire.new.sockets.counts clock inside.events.inner.items in
     let last = worker_of (asking_of c.begin_anew.new.sockets) inside.taken inside.failures c.begin_anew.new.sockets.outbox c.begin_anew.new.sockets.counts clock inside.events.inner.items in
     rw (← c.self.view_is) (takes_none_then between between done _ before last (rests between _ before c.set_now.ensures.kept refl)
     (takes_none_then between left done before after last (record { taken = refl; ends = endings_of (ends_of c.expire.ensures.loses_none.ends) })

@@ -10,7 +10,7 @@ returns-clause-goes_on g c =
     let inside = c.self.inside in
     let loses = c.relieve.ensures.loses_none 0 in
     let before = worker_of (asking_of inside.sockets) inside.taken inside.failures inside.sockets.outbox inside.sockets.counts inside.clock inside.events.inner.items in
-    let after = worker_of (asking_of c.relieve.new.outside) inside.taken inside.failures c.relieve.new.outside.outbox c.relieve.new.outside.counts inside.clock inside.events.inner.items in
+    let after = worker_of (asking_of c.relieve.new.sockets) inside.taken inside.failures c.relieve.new.sockets.outbox c.relieve.new.sockets.counts inside.clock inside.events.inner.items in
     rw (← c.self.view_is) (looked_on c.args.questions.now c.relieve.new.self before after refl loses.accounted (endings_of (ends_of loses.ends)) loses.no_more loses.bounded loses.limit refl (asking_kept loses.ends)
     (time_at 0 c.args.questions.now c.relieve.new.self inside.clock (omega arith) (latest_on 0 c.args.questions.now c.relieve.new.self loses.begins)))
 

@@ -7,7 +7,7 @@ ghost use Rattle.dns_wire.specs.Server.Asking.{IsGood};
 ghost use Rattle.dns_query.specs.declared.over.Over.{Over};
 ghost use Rattle.replies.specs.Reply.{fault_octets, most_octets};
 ghost use Rattle.flight.specs.declared.counts.Counts.{Counts};
-ghost use Rattle.flight.specs.declared.outside.Listened.{Listened};
+ghost use Rattle.flight.specs.declared.sockets.Listened.{Listened};
 ghost use Rattle.flight.specs.Clients.{Settles};
 ghost use Rattle.flight.specs.Counted.{CountsAbandoned, CountsExpired, CountsListened, CountsOpened};
 ghost use Rattle.flight.specs.Flight.{query_to};
@@ -67,7 +67,7 @@ pub enum Listened {
 }
 
 /// The sockets of a worker: those by which replies leave, and those of exchanges.
-pub trait Outside<D: Numbered, L: InFlight, C: Clock, K: Client> {
+pub trait Sockets<D: Numbered, L: InFlight, C: Clock, K: Client> {
     /// The port of name servers that are known by name.
     ghost server_port: { Self → ℕ };
 

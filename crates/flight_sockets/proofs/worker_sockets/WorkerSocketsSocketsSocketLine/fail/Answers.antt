@@ -1,6 +1,6 @@
 use Rattle.std.proofs.Common.{rules}
 use Rattle.flight.proofs.Answering.{header_fits}
-use Rattle.flight_sockets.proofs.worker_sockets.WorkerSocketsOutsideSocketLine.fail.Goals as goal
+use Rattle.flight_sockets.proofs.worker_sockets.WorkerSocketsSocketsSocketLine.fail.Goals as goal
 
 pub report_of-requires : goal.report_of-requires
 report_of-requires g c = c.requires.good.query.header

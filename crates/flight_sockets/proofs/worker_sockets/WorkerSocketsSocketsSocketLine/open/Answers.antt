@@ -8,7 +8,7 @@ use Rattle.flight_sockets.specs.Pauses.{IsPassedOver}
 use Rattle.flight_sockets.specs.Pauses.HeedsPause.{passed_over}
 use Rattle.flight_sockets.specs.Refusals.{LooksUpList}
 use Rattle.flight_sockets.proofs.Remembering.{refuted}
-use Rattle.flight_sockets.proofs.worker_sockets.WorkerSocketsOutsideSocketLine.open.Goals as goal
+use Rattle.flight_sockets.proofs.worker_sockets.WorkerSocketsSocketsSocketLine.open.Goals as goal
 
 -- The same of equal addresses and of an equal query.
 passed_by : (addr : Addr) (others others' : List Addr) (over : Over) (octets query : List ℕ) (now : ℕ) (pauses : Pauses) → others ≡ others' → octets ≡ query
