@@ -5,6 +5,4 @@ pub mod Fits
 pub mod Heard
 pub mod Line
 pub mod Own
-pub mod Reads
-pub mod Spots
 pub mod Withheld

@@ -9,12 +9,8 @@ mod clients;
 mod name_servers;
 
 pub use clients::answerable::is_answerable;
-pub use clients::connections::Connections;
-pub use clients::frame_reader::FrameReader;
-pub use clients::frame_writer::{FrameWriter, StreamWriter};
-pub use clients::tcp_binding::{bind_clients, bind_tcp, bind_with_backlog, wake_tcp};
+pub use clients::tcp_binding::{bind_tcp, bind_with_backlog};
 pub use clients::udp_binding::bind_each;
-pub use clock::{Elapsing, MonotonicClock, REST_SECONDS, StopFlag, Timeouts, glance};
 pub use name_servers::fault_line::{WITHHELD, log_exchange, log_too_long};
 pub use name_servers::fitting::{MOST_MISFITS, fits};
 pub use name_servers::framed_query::MOST_QUERY;

@@ -1,6 +1,16 @@
-mod Counting
-mod Failing
-pub mod Headers
-pub mod Leading
-mod Streaming
-mod Telling
+mod Accounting
+mod Beginning
+mod Durations
+mod Filling
+mod Flowing
+mod Hearing
+mod Memory
+mod Moving
+mod Outboxes
+mod Passing
+mod Posting
+mod Reading
+mod Relieving
+mod Remembering
+mod Serving
+mod Watching

@@ -1,37 +1,104 @@
-//! Engines that serve questions, over any desk, exchange, clock and port.
+//! Workers that keep many questions in flight over sockets: they drive the sockets of clients and of name servers.
 #![tactic(auto)]
 
 // In the order in which to read them.
 
-// Exchanges with name servers: a query goes out, and its response comes in.
-mod exchange;
-// Ports, at which datagrams come in and replies go out.
-mod port;
-// Listeners, at which connections come in.
+// The counters of a worker that others read while it works.
+mod tally;
+// The limit of exchanges that a worker may have under way.
+mod limit;
+// The socket of the service: queries come in at it, and replies go out by it.
+mod service_socket;
+// The listener of one worker: its socket of the service, and its poll.
 mod listener;
-// The tools of a task.
-mod tools;
-// A task, from its question to its answer.
-mod run;
-// A query, from its octets to its reply.
-mod query;
-// A stream of messages.
-mod stream;
-// The end of a worker.
-mod work_end;
-// A worker that serves connections.
-mod tcp_worker;
-// A worker that serves datagrams one after another, for tests and readers: the service has `fly_udp` of `flight_sockets`.
-mod plain_udp;
+// The network of an address.
+mod network;
+// The client of a datagram, which waits for its reply.
+mod client;
+// What is wrong with what came of an exchange.
+mod flaw;
+// The transport of an exchange.
+mod transport;
+// An exchange over a socket of its own.
+mod socket_line;
+// The sender of a worker's replies.
+mod reply_sender;
+// The datagrams that have come in.
+mod inbox;
+// A reply that waits to be sent.
+mod outgoing;
+// The buffers of sent replies, kept for later replies.
+mod buffers;
+// The outbox of a worker: the socket of the service, and the replies that wait to be sent.
+mod outbox;
+// A name server over one transport, and a question to it.
+mod server;
+// A pause: for how long, and until when.
+mod pause;
+// The names that a server left unanswered.
+mod missed;
+// The silence of a server: since when, and to how many names.
+mod silence;
+// Tables of bounded size.
+mod kept;
+// The silences of the servers that were asked lately.
+mod servers;
+// The pauses of questions to servers.
+mod questions;
+// The other servers of a list.
+mod others;
+// The question of a query.
+mod asked;
+// The servers that a worker passes over.
+mod pauses;
+// What an exchange says of its server.
+mod noting;
+// The permits of exchanges: a few for each question, over all workers.
+mod permits;
+// The permits of one worker's exchanges.
+mod worker_permits;
+// The cells that the workers filled, by zone.
+mod filled_cells;
+// The shares of zones in the cache.
+mod zone_shares;
+// How the workers of a service ask name servers.
+mod asking;
+// The seed of a worker's tables.
+mod table_seed;
+// The replies that report a fault.
+mod report;
+// The zones that servers refused lately, each at its server.
+mod refused_zones;
+// The refusals that a worker remembers.
+mod refusals;
+// The sockets of one worker.
+mod worker_sockets;
+// The turns of a worker.
+mod turns;
+// A worker that keeps many questions in flight.
+mod udp_worker;
+// Messages that come by connections of clients.
+mod tcp;
 
-pub use clock::PATIENCE_SECONDS;
-pub use exchange::Exchange;
-pub use listener::Listener;
-pub use plain_udp::work_udp;
-pub use port::Port;
-pub use query::serve_query;
-pub use run::run_task;
-pub use stream::serve_stream;
-pub use tcp_worker::work_tcp;
-pub use tools::Tools;
-pub use work_end::WorkEnd;
+pub use asking::AskingTerms;
+pub use limit::{
+    MOST_CONNECTIONS, MOST_EXCHANGES, SPARE_DESCRIPTORS, limits_law, most_connections,
+    most_exchanges,
+};
+pub use listener::{UdpListener, listen_each};
+pub use mio::Waker;
+pub use permits::{MOST_EQUAL, Permits};
+pub use plain_workers::{
+    Exchange, Listener, Port, Tools, WorkEnd, run_task, serve_query, serve_stream, work_tcp,
+    work_udp,
+};
+pub use replies::StreamFault;
+pub use service_socket::ServiceSocket;
+pub use system::{Came, DeviceFault};
+pub use table_seed::TableSeed;
+pub use tally::{Sums, Tally};
+pub use tcp::client_stream::ClientStream;
+pub use tcp::listener::{ClientListener, TcpPoll, share_listener};
+pub use tcp::worker::{TcpWorker, fly_tcp};
+pub use udp_worker::{UdpWorker, fly_udp};
+pub use zone_shares::ZoneShares;

@@ -1,23 +1,53 @@
-//! Listeners, at which connections come in.
+//! The listener of one worker: its socket of the service, and its poll.
 
-ghost use Rattle.std.specs.Prelude.{◌≡◌, ℕ, Option, Result, IfOk, IfSome};
-ghost use Rattle.system.specs.declared.device.DeviceFault.{DeviceFault};
-ghost use Rattle.system.specs.Counts.{CountsFault};
+ghost use Rattle.std.specs.Prelude.{◌≡◌, IfOk, vec_len};
 
-use streams::{Sink, Source};
-use system::DeviceFault;
+use dns_sockets::bind_each;
+use mio::net::UdpSocket;
+use mio::{Interest, Poll, Token, Waker};
+use std::alloc::Global;
+use std::io;
+use std::net::{Net, SocketAddr};
 
-/// A socket at which connections come in: each gives a reader and a writer.
-pub trait Listener<S: Source, W: Sink> {
-    /// One call: the listener before, the connection, None or the fault, the listener after.
-    ghost accepts: { Self → Result (Option (S × W)) DeviceFault → Self → Type 0 };
+/// The token of the service's socket. Exchanges are reported under their keys, which are small.
+pub(crate) const SERVICE: Token = Token(usize::MAX);
 
-    /// The count of calls that failed, up to 2^64 - 1.
-    ghost failures: { Self → ℕ };
+/// The token of a wake.
+pub(crate) const WAKE: Token = Token(usize::MAX - 1);
 
-    /// The next connection, or None once the listener has ended.
-    fn accept(&mut self) -> Result<Option<(S, W)>, DeviceFault>
-        ensures accepted { accepts self.old result self.new }
-        ensures fresh { IfOk result (λ came. IfSome came (λ c. (S.calls c.0 ≡ 0) × (W.failures c.1 ≡ 0))) }
-        ensures counted { CountsFault result (failures self.old) (failures self.new) };
+/// The socket of the service that one worker reads, and the poll that watches it and the worker's exchanges.
+#[derive(Drop)]
+pub struct UdpListener<S = UdpSocket> {
+    pub(crate) poll: Poll,
+    pub(crate) socket: S,
+    /// The address at which the service listens.
+    pub(crate) place: SocketAddr,
+}
+
+/// Opens `count` listeners at one address, each for a worker of its own, and a waker for each. `[::]` takes IPv4 as well.
+/// It fails if another process listens there.
+pub fn listen_each<R: Net>(
+    rt: &R,
+    alloc: Global,
+    addr: SocketAddr,
+    count: u8,
+) -> io::Result<(Vec<UdpListener>, Vec<Waker>)>
+    ensures { IfOk result (λ made. (vec_len made.0 ≡ count) × (vec_len made.1 ≡ count)) }
+{
+    let mut listeners = Vec::new(alloc);
+    let mut wakers = Vec::new(alloc);
+    for socket in bind_each(rt, alloc, addr, count)? {
+        let poll = Poll::new(rt)?;
+        let place = socket.local_addr()?;
+        let mut socket = UdpSocket::from_std(socket);
+        poll.registry()
+            .register(&mut socket, SERVICE, Interest::READABLE)?;
+        wakers.push(Waker::new(poll.registry(), WAKE)?)?;
+        listeners.push(UdpListener {
+            poll,
+            socket,
+            place,
+        })?;
+    }
+    Ok((listeners, wakers))
 }

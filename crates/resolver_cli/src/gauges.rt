@@ -1,7 +1,7 @@
 //! What an operator can read of a service while it runs: the replies to `status` and `stats`.
 
 use dns_text::Shared;
-use flight_sockets::{Sums, Tally};
+use front_workers::{Sums, Tally};
 use history::Settings;
 use operators::{BookFigures, read_figure};
 use resolver_args::VERSION;

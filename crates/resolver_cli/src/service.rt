@@ -19,7 +19,7 @@ use crate::worker::{
 };
 use cell_store::NameSeed;
 use dns_text::Shared;
-use flight_sockets::{AskingTerms, Permits, Waker, ZoneShares};
+use front_workers::{AskingTerms, Permits, Waker, ZoneShares};
 use history::{Book, MakeFault, Settings};
 use log::{Log, info};
 use operators::{BookFigures, CliFault, OperatorQueue, ServiceLog, ServiceRuntime, WatchedBook};

@@ -5,7 +5,7 @@ ghost use Rattle.resolver_args.specs.declared.mode.TheConstants.{MOST_WORKERS};
 
 use dns_sockets::{bind_tcp, bind_with_backlog};
 use dns_text::Addr;
-use flight_sockets::{
+use front_workers::{
     TcpPoll, UdpListener, Waker, listen_each, most_connections, most_exchanges, share_listener,
 };
 use operators::CliFault;

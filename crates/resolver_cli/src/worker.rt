@@ -6,7 +6,7 @@ ghost use Rattle.resolver_args.specs.declared.mode.TheConstants.{MOST_WORKERS};
 use crate::gauges::Gauges;
 use crate::sockets::{DescriptorShares, SharedSockets};
 use clock::MonotonicClock;
-use flight_sockets::{
+use front_workers::{
     AskingTerms, TableSeed, Tally, TcpPoll, TcpWorker, UdpListener, UdpWorker, fly_tcp, fly_udp,
 };
 use log::Log;

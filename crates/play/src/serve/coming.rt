@@ -7,7 +7,7 @@ use crate::serve::serving::tell_octets;
 use crate::stop::Stop;
 use crate::words::octets_in;
 use dns_text::next_word;
-use front_workers::{Listener, Port};
+use plain_workers::{Listener, Port};
 use std::io;
 use std::io::{ErrorKind, Write};
 use std::net::{IpAddr, Ipv4Addr, SocketAddr};

@@ -7,8 +7,8 @@ use crate::said::Said;
 use dns_name::NoMemory;
 use dns_query::Over;
 use dns_text::{Addr, Octets};
-use front_workers::Exchange;
 use iterate::Hunt;
+use plain_workers::Exchange;
 use std::alloc::Global;
 use system::DeviceFault;
 

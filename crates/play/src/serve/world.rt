@@ -6,7 +6,7 @@ use crate::books::{CELLS, DNS_PORT, book_with};
 use crate::serve::exchange::Servers;
 use crate::stop::Stop;
 use clock::Clock;
-use front_workers::Tools;
+use plain_workers::Tools;
 use rand_pcg::Pcg32;
 use std::alloc::Global;
 use undo_book::PlainBook;

@@ -1,5 +1,0 @@
-use Rattle.flight_sockets.specs.Connections.{stays}
-use Rattle.flight_sockets.proofs.tcp.turns.TcpTurns.end_overdue.Goals as goal
-
-pub returns-then-now-self-clause-tends : goal.returns-then-now-self-clause-tends
-returns-then-now-self-clause-tends g c = stays

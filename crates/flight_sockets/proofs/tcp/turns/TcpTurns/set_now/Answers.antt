@@ -1,5 +1,0 @@
-use Rattle.flight_sockets.proofs.Reading.{onward_by}
-use Rattle.flight_sockets.proofs.tcp.turns.TcpTurns.set_now.Goals as goal
-
-pub returns-clause-onward : goal.returns-clause-onward
-returns-clause-onward g c = rw (← c.self.view_is) (onward_by c.self.inside.clock c.millis-now.new.self c.millis-now.ensures.read)

@@ -1,6 +1,0 @@
-use Rattle.std.proofs.Common.{refl, rules}
-use Rattle.flight_sockets.proofs.Outboxes.{as_one}
-use Rattle.flight_sockets.proofs.worker_sockets.WorkerSocketsSocketsSocketLine.buffer.Goals as goal
-
-pub returns : goal.returns
-returns g c = record { counts = search rules; keeps = record { port = search rules; silent = as_one _ _ _ _ c.reply_buffer.ensures refl } }

@@ -1,0 +1,7 @@
+mod Counting
+mod Failing
+pub mod Headers
+pub mod Leading
+mod Reading
+mod Streaming
+mod Telling
