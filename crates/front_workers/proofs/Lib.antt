@@ -3,7 +3,6 @@ mod Beginning
 mod Durations
 mod Filling
 mod Flowing
-mod Hearing
 mod Memory
 mod Moving
 mod Outboxes
@@ -11,6 +10,5 @@ mod Passing
 mod Posting
 mod Reading
 mod Relieving
-mod Remembering
 mod Serving
 mod Watching

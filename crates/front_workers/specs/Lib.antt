@@ -5,9 +5,6 @@ pub mod Begun
 pub mod Connections
 pub mod Descriptors
 pub mod Endings
-pub mod Exchanges
-pub mod Hashing
-pub mod Kept
 pub mod Looked
 pub mod Memory
 pub mod Moves
@@ -15,12 +12,7 @@ pub mod Networks
 pub mod Outgoing
 pub mod Patience
 pub mod Passages
-pub mod Pauses
 pub mod Reading
-pub mod Refusals
-pub mod Replies
-pub mod Servers
-pub mod Silences
 pub mod Sockets
 pub mod Streaming
 pub mod Taken

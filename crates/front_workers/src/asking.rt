@@ -1,7 +1,7 @@
 //! How the workers of a service ask name servers.
 
-use crate::permits::Permits;
 use crate::zone_shares::ZoneShares;
+use outside::Permits;
 use std::sync::atomic::AtomicU64;
 use system::AddressRange;
 

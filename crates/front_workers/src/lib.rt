@@ -15,12 +15,6 @@ mod listener;
 mod network;
 // The client of a datagram, which waits for its reply.
 mod client;
-// What is wrong with what came of an exchange.
-mod flaw;
-// The transport of an exchange.
-mod transport;
-// An exchange over a socket of its own.
-mod socket_line;
 // The sender of a worker's replies.
 mod reply_sender;
 // The datagrams that have come in.
@@ -31,30 +25,6 @@ mod outgoing;
 mod buffers;
 // The outbox of a worker: the socket of the service, and the replies that wait to be sent.
 mod outbox;
-// A name server over one transport, and a question to it.
-mod server;
-// A pause: for how long, and until when.
-mod pause;
-// The names that a server left unanswered.
-mod missed;
-// The silence of a server: since when, and to how many names.
-mod silence;
-// Tables of bounded size.
-mod kept;
-// The silences of the servers that were asked lately.
-mod servers;
-// The pauses of questions to servers.
-mod questions;
-// The other servers of a list.
-mod others;
-// The question of a query.
-mod asked;
-// The servers that a worker passes over.
-mod pauses;
-// What an exchange says of its server.
-mod noting;
-// The permits of exchanges: a few for each question, over all workers.
-mod permits;
 // The permits of one worker's exchanges.
 mod worker_permits;
 // The cells that the workers filled, by zone.
@@ -67,10 +37,6 @@ mod asking;
 mod table_seed;
 // The replies that report a fault.
 mod report;
-// The zones that servers refused lately, each at its server.
-mod refused_zones;
-// The refusals that a worker remembers.
-mod refusals;
 // The sockets of one worker.
 mod worker_sockets;
 // The turns of a worker.
@@ -87,7 +53,6 @@ pub use limit::{
 };
 pub use listener::{UdpListener, listen_each};
 pub use mio::Waker;
-pub use permits::{MOST_EQUAL, Permits};
 pub use plain_workers::{
     Exchange, Listener, Port, Tools, WorkEnd, run_task, serve_query, serve_stream, work_tcp,
     work_udp,

@@ -2,11 +2,11 @@
 
 ghost use Rattle.std.specs.Prelude.{◌≡◌, ◌<◌, vec_len, IfOk, MatchResult};
 ghost use Rattle.front_workers.specs.declared.limit.TheConstants.{MOST_EXCHANGES};
-ghost use Rattle.front_workers.specs.declared.permits.TheConstants.{COUNTERS};
+ghost use Rattle.outside.specs.declared.permits.TheConstants.{COUNTERS};
 
 use crate::limit::MOST_EXCHANGES;
-use crate::permits::{COUNTERS, NoPermit, Permit, Permits};
 use dns_text::NoMemory;
+use outside::{COUNTERS, NoPermit, Permit, Permits};
 use std::alloc::Global;
 
 /// The milliseconds after which an exchange that waits is looked at again: another worker may have given a permit back.

@@ -19,10 +19,11 @@ use crate::worker::{
 };
 use cell_store::NameSeed;
 use dns_text::Shared;
-use front_workers::{AskingTerms, Permits, Waker, ZoneShares};
+use front_workers::{AskingTerms, Waker, ZoneShares};
 use history::{Book, MakeFault, Settings};
 use log::{Log, info};
 use operators::{BookFigures, CliFault, OperatorQueue, ServiceLog, ServiceRuntime, WatchedBook};
+use outside::Permits;
 use resolver_args::Service;
 use shared_book::{Blank, CallLedger, Pass, Seat, SharedBook};
 use std::alloc::Global;

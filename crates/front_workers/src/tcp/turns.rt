@@ -16,7 +16,6 @@ ghost use Rattle.front_workers.specs.Streaming.{BeginsClient, StreamEndsOverdue,
 
 use crate::asking::AskingTerms;
 use crate::listener::SERVICE;
-use crate::socket_line::SocketLine;
 use crate::table_seed::TableSeed;
 use crate::tally::Tally;
 use crate::tcp::client::TcpClient;
@@ -27,11 +26,11 @@ use crate::tcp::taken::TakenMessage;
 use crate::turns::{begin_anew, look_all, patience};
 use crate::worker_sockets::WorkerSockets;
 use clock::{Clock, Elapsing, MonotonicClock};
-use dns_sockets::ReadyNet;
 use dns_text::NoMemory;
 use flight::{Flight, Numbered};
 use log::Log;
 use mio::Events;
+use outside::{ReadyNet, SocketLine};
 use rand_core::Rng;
 use replies::{MOST_DATAGRAM, is_dear, wants_reply};
 use std::alloc::Global;

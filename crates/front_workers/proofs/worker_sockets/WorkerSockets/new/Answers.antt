@@ -1,5 +1,5 @@
 use Rattle.std.proofs.Common.{ℕ, subst}
-use Rattle.front_workers.specs.Hashing.{IsSeeded}
+use Rattle.outside.specs.Hashing.{IsSeeded}
 use Rattle.front_workers.proofs.worker_sockets.WorkerSockets.new.Goals as goal
 
 pub returns-clause-seed : goal.returns-clause-seed

@@ -3,11 +3,11 @@ use Rattle.std.specs.Prelude.{IfSome}
 use Rattle.dns_query.specs.declared.over.Over.{Over}
 use Rattle.dns_text.specs.declared.addr.Addr.{Addr}
 use Rattle.history.specs.declared.servers.Servers.{Servers}
-use Rattle.front_workers.specs.declared.pauses.Pauses.{Pauses}
-use Rattle.front_workers.specs.Pauses.{IsPassedOver}
-use Rattle.front_workers.specs.Pauses.HeedsPause.{passed_over}
-use Rattle.front_workers.specs.Refusals.{LooksUpList}
-use Rattle.front_workers.proofs.Remembering.{refuted}
+use Rattle.outside.specs.declared.pauses.Pauses.{Pauses}
+use Rattle.outside.specs.Pauses.{IsPassedOver}
+use Rattle.outside.specs.Pauses.HeedsPause.{passed_over}
+use Rattle.outside.specs.Refusals.{LooksUpList}
+use Rattle.outside.proofs.Remembering.{refuted}
 use Rattle.front_workers.proofs.worker_sockets.WorkerSocketsSocketsSocketLine.open.Goals as goal
 
 -- The same of equal addresses and of an equal query.

@@ -1,9 +1,0 @@
--- What a call hears of an exchange over UDP.
-use Rattle.std.specs.Prelude.{ℕ}
-use Rattle.dns_sockets.specs.declared.name_servers.heard.UdpHeard.{UdpHeard}
-use Rattle.dns_sockets.specs.declared.name_servers.heard.UdpHeard.TheVariants.{Reply}
-
--- If it was the reply, this is so of the number of its octets.
-abbrev pub IfReply : UdpHeard → (ℕ → Type 0) → Type 0
-IfReply (Reply count) fact = fact count
-IfReply _ fact = Unit {0}

@@ -1,5 +1,0 @@
-use Rattle.std.proofs.Common.{refl}
-use Rattle.front_workers.proofs.pauses.Pauses.note_closed.Goals as goal
-
-pub returns : goal.returns
-returns c = record { server = c.close.ensures.remembers; questions = refl }

@@ -1,0 +1,4 @@
+mod Hearing
+mod Passing
+pub mod Remembering
+mod Striking

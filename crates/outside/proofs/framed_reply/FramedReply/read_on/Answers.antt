@@ -1,0 +1,25 @@
+use Rattle.std.proofs.Common.{rules, ◌≡◌, ◌≤◌, length, drop, ℕ, List, arith, subst, sym}
+use Rattle.streams.specs.Laws.{Consumes-kept}
+use Rattle.replies.specs.Wanting.{framed_size, IsWholeFrame}
+use Rattle.outside.proofs.Passing.{came_on}
+use Rattle.outside.proofs.framed_reply.FramedReply.read_on.Goals as goal
+use Rattle.outside.proofs.framed_reply.FramedReply.read_on.Goals.{in-Ok+in_ok-extend_from_slice-in-Ok, in-Err+in_ok-would_wait-in-Err+else-branch}
+
+pub returns-then-most-eq0-clause-whole : goal.returns-then-most-eq0-clause-whole
+returns-then-most-eq0-clause-whole g c =
+    let none : c.octets_wanting.result ≡ 0 = omega (arith, c.requires) in
+    let is = c.octets_wanting.ensures.none (subst (λ (l : List ℕ). length l ≤ framed_size l) (sym c.deref.ensures.value) c.loop.self.within) in
+    (λ _. subst IsWholeFrame c.deref.ensures.value (is.0 none), λ _. search rules)
+
+pub loop-preserved : goal.loop-preserved
+loop-preserved g c =
+    let so_far = c.loop.invariant in
+    elim c.match-read.branch [
+      | in-Ok+in_ok-extend_from_slice-in-Ok w ↦
+          let old = c.args.self.now.octets.items in
+          let mid = c.loop.self.octets.items in
+          let new = w.extend_from_slice.new.self.items in
+          let came = came_on _ _ _ old mid new c.read.new.buf (drop c.min-most.result c.loop.room) w.in-Ok.count so_far.came so_far.read w.in-Ok.ensures.bound.0 w.in-Ok.ensures.bytes.0 w.in_ok-extend_from_slice-in-Ok.ensures.items in
+          rw w.self-is (record { came = came.0; read = came.1 })
+      | in-Err+in_ok-would_wait-in-Err+else-branch w ↦ rw w.self-is (record { came = so_far.came; read = Consumes-kept _ _ _ _ so_far.read w.in-Err.ensures.bytes })
+    ]

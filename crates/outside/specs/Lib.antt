@@ -1,0 +1,15 @@
+pub mod Asked
+pub mod Datagrams
+pub mod Exchanges
+pub mod Fits
+pub mod Hashing
+pub mod Heard
+pub mod Kept
+pub mod Line
+pub mod Own
+pub mod Pauses
+pub mod Refusals
+pub mod Replies
+pub mod Servers
+pub mod Silences
+pub mod Withheld

@@ -1,0 +1,53 @@
+//! The right to open one socket.
+
+ghost use Rattle.std.specs.Prelude.{IfOk, OnErr};
+
+use crate::ready_net::ReadyNet;
+use mio::{Registry, Token};
+use std::io;
+use std::net::SocketAddr;
+
+/// The right to open one socket to a server, for which a permit was given up. It cannot be cloned, and opening a socket consumes it. An
+/// exchange that begins gets one, so its query leaves by no second socket.
+#[derive(Drop)]
+pub struct OneSocket<'a, N, P> {
+    net: &'a N,
+    permit: P,
+}
+
+impl<'a, N: ReadyNet, P: Drop> OneSocket<'a, N, P> {
+    /// The right to open one socket of this network, for this permit. If a permit cannot be cloned either, there is one socket for each.
+    pub fn new(net: &'a N, permit: P) -> OneSocket<'a, N, P> {
+        OneSocket { net, permit }
+    }
+
+    /// Opens a socket for datagrams, as `ReadyNet` does.
+    pub fn open_socket(
+        self,
+        registry: &Registry,
+        token: Token,
+        place: SocketAddr,
+        may_be_own: bool,
+    ) -> io::Result<N::Datagrams>
+        ensures opened { IfOk result (λ socket. N.Datagrams.opened socket place) }
+        ensures reported { IfOk result (λ socket. N.Datagrams.reported socket token) }
+        ensures unused { IfOk result N.Datagrams.unused }
+        ensures failed { OnErr result N.failed }
+    {
+        self.net.open_socket(registry, token, place, may_be_own)
+    }
+
+    /// Begins a connection, as `ReadyNet` does.
+    pub fn begin_connection(
+        self,
+        registry: &Registry,
+        token: Token,
+        place: SocketAddr,
+    ) -> io::Result<N::Connection>
+        ensures connected { IfOk result (λ connection. N.Connection.connected connection place) }
+        ensures reported { IfOk result (λ connection. N.Connection.reported connection token) }
+        ensures failed { OnErr result N.failed }
+    {
+        self.net.begin_connection(registry, token, place)
+    }
+}
