@@ -12,9 +12,10 @@ use Rattle.front_workers.specs.Asking.{AskingState}
 use Rattle.front_workers.specs.Endings.{Endings}
 use Rattle.mio.specs.declared.event.event.Event.{Event}
 use Rattle.clock.specs.Moments.{ClockState, millis_at}
-use Rattle.front_workers.specs.Moves.{AllMoved, Datagram, Moves}
-use Rattle.front_workers.specs.Outgoing.{OutboxState, Posts}
-use Rattle.front_workers.proofs.Posting.{clients_then, endings_none, leaving_then, posts_none, posts_taken, posts_then}
+use Rattle.front.specs.Moves.{AllMoved, Datagram, Moves}
+use Rattle.front.specs.Outgoing.{OutboxState, Posts}
+use Rattle.front_workers.proofs.Posting.{clients_then, endings_none, leaving_then}
+use Rattle.front.proofs.Sending.{posts_none, posts_taken, posts_then}
 
 pub none_fell : (old mid new : Counts) → NeverFall old mid → NeverFall mid new → NeverFall old new
 none_fell old mid new before after = record {

@@ -1,22 +1,23 @@
 -- What a worker does with datagrams, one after another.
 use Rattle.std.proofs.Common.{◌≡◌, ◌∙◌, ◌<◌, ◌+◌, ◌++◌, ℕ, List, [], ◌∷◌, get_or, length, map, take, ap, sym, refl, subst}
-use Rattle.std.proofs.lemmas.List.{map-append, map_more}
+use Rattle.std.proofs.lemmas.List.{map_more}
 use Rattle.std.proofs.Math.Logic.{∥∥₁_map}
-use Rattle.std.specs.Prelude.{Option, Some, None, IfSome, IsSomeAnd}
+use Rattle.std.specs.Prelude.{Option, Some, IfSome}
 use Rattle.std.specs.List.{AllByRecursion}
 use Rattle.std.specs.declared.net.SocketAddr.{SocketAddr}
 use Rattle.replies.specs.declared.limits.TheConstants.{MOST_DATAGRAM}
 use Rattle.system.specs.declared.came.Came.{Came}
 use Rattle.flight.specs.Leaving.{End, Ends}
 use Rattle.flight.specs.Waiting.{FlightState}
-use Rattle.front_workers.specs.declared.client.UdpClient.{UdpClient}
+use Rattle.front.specs.declared.client.UdpClient.{UdpClient}
 use Rattle.front_workers.specs.Accounts.{WorkerState}
-use Rattle.front_workers.specs.Begun.{AllBegin, Arrived, BatchBegins, IsBegun, OwnEnds, Runs, TakesNone, fronts_of, goes_on, stays, takes_batch, with_front}
+use Rattle.front_workers.specs.Begun.{AllBegin, BatchBegins, IsBegun, OwnEnds, Runs, TakesNone, goes_on, stays, takes_batch}
+use Rattle.front.specs.Rooms.{Arrived, fronts_of}
 use Rattle.front_workers.specs.Endings.{IsTooLong}
-use Rattle.front_workers.specs.Moves.{AllMoved, CameBy, Datagram, Moves, datagram_to}
-use Rattle.front_workers.specs.Outgoing.{IsSentBy, OutboxState, Posts, PostsTo}
-use Rattle.front_workers.proofs.Moving.{all_moved_then}
-use Rattle.front_workers.proofs.Posting.{endings_none, endings_then, posts_none}
+use Rattle.front.specs.Moves.{AllMoved, CameBy, Moves}
+use Rattle.front.specs.Outgoing.{IsSentBy, OutboxState, Posts, PostsTo}
+use Rattle.front_workers.proofs.Posting.{endings_none, endings_then}
+use Rattle.front.proofs.Sending.{posts_none}
 
 -- The front of a datagram that is too long came from its peer.
 pub too_long : {S : Type 0} (takes : Moves S) {peer : SocketAddr} {front : List ℕ} {came : Option Came} → ∥ IfSome came (λ (c : Came). CameBy takes c.peer (take c.count front)) ∥₁
@@ -31,20 +32,6 @@ sent_by takes client {room = room} so room_is came_is = (
   ap (take client.came.count) (sym room_is),
   ∥∥₁_map so (λ is. subst (λ (o : Option Came). IfSome o (λ (c : Came). CameBy takes c.peer (take c.count room))) came_is is),
 )
-
-with_front_then : (came : Option Came) (room : List ℕ) (first second all : List Datagram) → all ≡ first ++ second → with_front came room all ≡ with_front came room first ++ second
-with_front_then None room first second all is = is
-with_front_then (Some came) room first second all is = ap (λ (rest : List Datagram). datagram_to came.peer (take came.count room) ∷ rest) is
-
--- The datagrams of two lists of rooms, in order.
-fronts_then : (first second : List Arrived) → fronts_of (first ++ second) ≡ fronts_of first ++ fronts_of second
-fronts_then [] second = refl
-fronts_then (one ∷ first) second = with_front_then one.came one.room (fronts_of first) (fronts_of second) (fronts_of (first ++ second)) (fronts_then first second)
-
-module _ {S : Type 0} (takes : Moves S) where
-  front_moved : (came : Option Came) (room : List ℕ) (old new : S) → IsSomeAnd came (λ (c : Came). takes old c.peer (take c.count room) new) → AllMoved takes (with_front came room []) old new
-  front_moved None room old new none = absurd none
-  front_moved (Some came) room old new took = (new, took, refl)
 
 module _ {S : Type 0} (takes sends : Moves S) where
   all_begin_then : (first second : List Arrived) (a b c : FlightState) (old mid new : WorkerState S) → AllBegin takes sends first a old b mid → AllBegin takes sends second b mid c new
@@ -90,12 +77,3 @@ module _ {S : Type 0} {takes sends : Moves S} where
   runs_then first stays = first
   runs_then first (goes_on second step) = goes_on (runs_then first second) step
   runs_then first (takes_batch second step) = takes_batch (runs_then first second) step
-
-module _ {X : Type 0} {S : Type 0} (takes : Moves S) (view : X → Arrived) where
-  -- One datagram more was taken, into the room behind those so far.
-  pub taken_on : (slots slots' : List X) (i : ℕ) (slot : X) (old mid new : S) → AllMoved takes (fronts_of (map view (take i slots))) old mid → IsSomeAnd (view slot).came (λ (c : Came). takes mid c.peer (take c.count (view slot).room) new)
-      → take (i + 1) slots' ≡ take i slots ++ slot ∷ [] → AllMoved takes (fronts_of (map view (take (i + 1) slots'))) old new
-  taken_on slots slots' i slot old mid new before next is =
-      let list = ap (λ (xs : List X). fronts_of (map view xs)) is ∙ ap fronts_of (map-append view (take i slots) (slot ∷ [])) ∙ fronts_then (map view (take i slots)) (view slot ∷ []) in
-      subst (λ (datagrams : List Datagram). AllMoved takes datagrams old new) (sym list)
-      (all_moved_then takes (fronts_of (map view (take i slots))) (fronts_of (view slot ∷ [])) old mid new before (front_moved takes (view slot).came (view slot).room mid new next))

@@ -8,9 +8,9 @@ use Rattle.flight.specs.declared.counts.Counts.{Counts}
 use Rattle.flight.specs.Bounds.{IsBounded}
 use Rattle.flight.specs.Leaving.{Ends}
 use Rattle.flight.specs.Waiting.{FlightState, IsAccounted, outstanding}
-use Rattle.front_workers.specs.declared.tcp.client.TcpClient.{TcpClient}
-use Rattle.front_workers.specs.Connections.{ConnectionsState, ServesOne, Tends}
-use Rattle.front_workers.specs.Passages.{Passes}
+use Rattle.front.specs.declared.tcp.client.TcpClient.{TcpClient}
+use Rattle.front.specs.Connections.{ConnectionsState, ServesOne, Tends}
+use Rattle.front.specs.Passages.{Passes}
 use Rattle.front_workers.specs.Streaming.{AreAccounted, BeginsClient, IsMessageOf, MessageBegins, OwesTo, StreamGoesOn, StreamRuns, StreamWorker, begins, settles, stays, tends}
 use Rattle.front_workers.specs.Accounts.{KeepsTime}
 use Rattle.front_workers.specs.Asking.{AskingState}

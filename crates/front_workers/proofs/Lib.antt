@@ -3,12 +3,8 @@ mod Beginning
 mod Durations
 mod Filling
 mod Flowing
-mod Memory
-mod Moving
 mod Outboxes
-mod Passing
 mod Posting
 mod Reading
 mod Relieving
-mod Serving
 mod Watching

@@ -10,8 +10,8 @@ use Rattle.flight.specs.Leaving.{Ends}
 use Rattle.flight.specs.Waiting.{FlightState, IsAccounted, outstanding}
 use Rattle.front_workers.specs.Asking.{AskingState}
 use Rattle.front_workers.specs.Endings.{Ending, clients_in, leaving_for}
-use Rattle.front_workers.specs.Moves.{Datagram, Moves}
-use Rattle.front_workers.specs.Outgoing.{OutboxState, Posts}
+use Rattle.front.specs.Moves.{Datagram, Moves}
+use Rattle.front.specs.Outgoing.{OutboxState, Posts}
 
 -- the visible state of a worker; each counter stops at 2^64 - 1
 pub record WorkerState (S : Type 0) : Type 0 where

@@ -1,18 +1,19 @@
 -- What a worker does with the datagrams that it took.
-use Rattle.std.specs.Prelude.{◌≡◌, ℕ, Option, Some, None, List, [], ◌∷◌, take}
+use Rattle.std.specs.Prelude.{◌≡◌, ℕ, Option, List, [], ◌∷◌}
 use Rattle.std.specs.List.{AllByRecursion}
 use Rattle.std.specs.declared.net.SocketAddr.{SocketAddr}
 use Rattle.system.specs.declared.came.Came.{Came}
 use Rattle.system.specs.Counts.{Rises}
 use Rattle.flight.specs.Leaving.{Ends}
 use Rattle.flight.specs.Waiting.{FlightState, outstanding}
-use Rattle.front_workers.specs.declared.client.UdpClient.{UdpClient}
-use Rattle.front_workers.specs.declared.inbox.Arrival.TheVariants.{Passed, TooLong, Query}
+use Rattle.front.specs.declared.client.UdpClient.{UdpClient}
+use Rattle.front.specs.declared.inbox.Arrival.TheVariants.{Passed, TooLong, Query}
 use Rattle.front_workers.specs.Accounts.{WorkerState}
 use Rattle.front_workers.specs.Endings.{Endings, Refuses}
-use Rattle.front_workers.specs.Moves.{AllMoved, Datagram, Moves, datagram_to}
-use Rattle.front_workers.specs.Outgoing.{IsSentBy, OutboxState, Posts, PostsTo}
-use Rattle.front_workers.specs.Taken.{IsTakenFrom}
+use Rattle.front.specs.Moves.{AllMoved, Moves}
+use Rattle.front.specs.Outgoing.{IsSentBy, OutboxState, Posts, PostsTo}
+use Rattle.front.specs.Rooms.{Arrived, fronts_of}
+use Rattle.front.specs.Taken.{IsTakenFrom}
 
 -- This client comes, and is settled or waits. Nothing leaves but its reply. So many clients waited, and so many wait now.
 pub record OwnEnds {S : Type 0} (takes sends : Moves S) (client : UdpClient S) (waiting : ℕ) (old : OutboxState S) (waiting' : ℕ) (new : OutboxState S) : Type 0 where
@@ -26,25 +27,6 @@ pub data IsBegun {S : Type 0} (takes sends : Moves S) (seen : ℕ) (came : Optio
       → IsBegun takes sends seen came room flight old flight' new
   begun : {client : UdpClient S} → IsTakenFrom room came seen (Query client) → Rises old.taken new.taken → OwnEnds takes sends client (outstanding flight) old.outbox (outstanding flight') new.outbox
       → IsBegun takes sends seen came room flight old flight' new
-
--- a room, and the datagram at its front
-pub record Arrived : Type 0 where
-  pub came : Option Came
-  pub room : List ℕ
-
--- this room with this datagram at its front
-abbrev pub arrived : Option Came → List ℕ → Arrived
-arrived came room = record { came = came; room = room }
-
--- the datagram at the front of a room, if there is one, and these
-abbrev pub with_front : Option Came → List ℕ → List Datagram → List Datagram
-with_front None room rest = rest
-with_front (Some came) room rest = datagram_to came.peer (take came.count room) ∷ rest
-
--- the datagrams at the fronts of these rooms
-abbrev pub fronts_of : List Arrived → List Datagram
-fronts_of [] = []
-fronts_of (one ∷ rest) = with_front one.came one.room (fronts_of rest)
 
 -- Each of these datagrams begins once, one after another.
 abbrev pub AllBegin : {S : Type 0} → Moves S → Moves S → List Arrived → FlightState → WorkerState S → FlightState → WorkerState S → Type 0

@@ -6,9 +6,9 @@ use Rattle.dns_wire.specs.Server.Asking.{AsksFor}
 use Rattle.replies.specs.declared.limits.TheConstants.{MOST_DATAGRAM}
 use Rattle.replies.specs.Reply.{fault_octets}
 use Rattle.flight.specs.Leaving.{End}
-use Rattle.front_workers.specs.declared.client.UdpClient.{UdpClient}
-use Rattle.front_workers.specs.Moves.{CameBy, Datagram, Moves, datagram_to}
-use Rattle.front_workers.specs.Outgoing.{IsSentBy, OutboxState, Posts}
+use Rattle.front.specs.declared.client.UdpClient.{UdpClient}
+use Rattle.front.specs.Moves.{CameBy, Datagram, Moves, datagram_to}
+use Rattle.front.specs.Outgoing.{IsSentBy, OutboxState, Posts}
 
 -- A datagram that is too long came from this peer, and has this front.
 abbrev pub IsTooLong : {S : Type 0} → Moves S → SocketAddr → List ℕ → Type 0

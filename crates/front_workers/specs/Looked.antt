@@ -8,7 +8,7 @@ use Rattle.flight.specs.declared.kept.TheConstants.{MOST_AT_REST}
 use Rattle.flight.specs.declared.table.TheConstants.{PATIENCE}
 use Rattle.flight.specs.Bounds.{Relieves, kept_all}
 use Rattle.flight.specs.Waiting.{EarlyGoOn, FlightState, JoinsNone, OthersGoOn, since_at}
-use Rattle.front_workers.specs.declared.listener.TheConstants.{SERVICE}
+use Rattle.front.specs.declared.listener.TheConstants.{SERVICE}
 
 -- The poll reported this. If it is an exchange, it is listened to once. Each other exchange goes on.
 pub record IsLookedAt (event : Event) (flight : FlightState) (old : Counts) (flight' : FlightState) (new : Counts) : Type 0 where

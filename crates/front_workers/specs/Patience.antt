@@ -10,7 +10,7 @@ use Rattle.flight.specs.Waiting.{FlightState, IsPatient, IsTimely}
 use Rattle.front_workers.specs.Accounts.{WorkerState}
 use Rattle.front_workers.specs.Begun.{Runs}
 use Rattle.front_workers.specs.Looked.{LooksAtAll}
-use Rattle.front_workers.specs.Moves.{Moves}
+use Rattle.front.specs.Moves.{Moves}
 
 -- the nanoseconds until the time of an exchange is up that has so many milliseconds left, but no more than so many
 abbrev pub patience_of : ℕ → Option ℕ → ℕ

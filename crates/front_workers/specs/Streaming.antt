@@ -15,10 +15,10 @@ use Rattle.flight.specs.Leaving.{Ends}
 use Rattle.flight.specs.Waiting.{FlightState, IsPatient, IsTimely, outstanding}
 use Rattle.front_workers.specs.Accounts.{KeepsTime}
 use Rattle.front_workers.specs.Asking.{AskingState}
-use Rattle.front_workers.specs.declared.tcp.client.TcpClient.{TcpClient}
-use Rattle.front_workers.specs.Connections.{ConnectionsState, Owes, ServesOne, Tends, no_connections}
+use Rattle.front.specs.declared.tcp.client.TcpClient.{TcpClient}
+use Rattle.front.specs.Connections.{ConnectionsState, Owes, ServesOne, Tends, no_connections}
 use Rattle.front_workers.specs.Looked.{LooksAtAll}
-use Rattle.front_workers.specs.Passages.{Passes}
+use Rattle.front.specs.Passages.{Passes}
 
 -- the visible state of a worker that takes messages by connections; each counter stops at 2^64 - 1
 pub record StreamWorker (S : Type 0) : Type 0 where

@@ -3,9 +3,9 @@
 ghost use Rattle.std.specs.Prelude.{◌≡◌, ◌*◌, ◌+◌, ◌-◌, ◌/◌, ◌≤◌, min};
 ghost use Rattle.front_workers.specs.declared.filled_cells.TheConstants.{FREE_FOR_ZONE, LEAST_SHARE};
 ghost use Rattle.outside.specs.declared.permits.TheConstants.{MOST_EQUAL};
-ghost use Rattle.front_workers.specs.declared.tcp.front.TheConstants.{MOST_KEPT, NETWORK_PART};
-ghost use Rattle.front_workers.specs.declared.tcp.marks.TheConstants.{MOST_WAITING};
-ghost use Rattle.front_workers.specs.declared.tcp.times.TheConstants.{MOST_IDLE, MOST_STUCK};
+ghost use Rattle.front.specs.declared.tcp.tcp_front.TheConstants.{MOST_KEPT, NETWORK_PART};
+ghost use Rattle.front.specs.declared.tcp.marks.TheConstants.{MOST_WAITING};
+ghost use Rattle.front.specs.declared.tcp.times.TheConstants.{MOST_IDLE, MOST_STUCK};
 ghost use Rattle.outside.specs.declared.pause.TheConstants.{FIRST_PAUSE, LONGEST_PAUSE};
 ghost use Rattle.outside.specs.declared.silence.TheConstants.{CLOSED_PAUSE, SILENT};
 ghost use Rattle.outside.specs.declared.refused_zones.TheConstants.{MOST_REFUSALS, REFUSED_PAUSE};

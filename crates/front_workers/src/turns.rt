@@ -12,24 +12,23 @@ ghost use Rattle.flight.specs.Waiting.{IsPatient, IsTimely, JoinsNone, outstandi
 ghost use Rattle.front_workers.specs.Accounts.{GoesOn, KeepsTime, QuestionsGoOn, fresh_worker};
 ghost use Rattle.front_workers.specs.Asking.{PostsBy, asking_at};
 ghost use Rattle.front_workers.specs.Sockets.{sockets_of};
-ghost use Rattle.front_workers.specs.Begun.{AllBegin, BatchBegins, IsBegun, Runs, TakesNone, arrived};
+ghost use Rattle.front_workers.specs.Begun.{AllBegin, BatchBegins, IsBegun, Runs, TakesNone};
+ghost use Rattle.front.specs.Rooms.{arrived};
 ghost use Rattle.front_workers.specs.Looked.{AllLookedAt, EndOverdue, LooksAtAll};
 ghost use Rattle.front_workers.specs.Patience.{AreRead, EndsOverdue, IsReadOn, patience_of};
-ghost use Rattle.front_workers.specs.Taken.{IsQuery};
+ghost use Rattle.front.specs.Taken.{IsQuery};
 
 use crate::asking::AskingTerms;
-use crate::client::UdpClient;
-use crate::inbox::{Arrival, BATCH, Inbox, InboxSlot};
-use crate::listener::{SERVICE, UdpListener};
-use crate::outbox::Outbox;
-use crate::reply_sender::ReplySender;
-use crate::service_socket::ServiceSocket;
 use crate::table_seed::TableSeed;
 use crate::tally::Tally;
 use crate::worker_sockets::WorkerSockets;
 use clock::{Clock, Elapsing, MonotonicClock};
 use dns_text::NoMemory;
 use flight::{Client, Flight, Numbered};
+use front::{
+    Arrival, BATCH, Inbox, InboxSlot, Outbox, ReplySender, SERVICE, ServiceSocket, UdpClient,
+    UdpListener,
+};
 use log::Log;
 use mio::Events;
 use outside::{ReadyNet, SocketLine};

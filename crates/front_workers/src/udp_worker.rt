@@ -11,15 +11,13 @@ ghost use Rattle.front_workers.specs.Asking.{asking_at};
 ghost use Rattle.front_workers.specs.Begun.{Runs, none_in_flight};
 
 use crate::asking::AskingTerms;
-use crate::inbox::Inbox;
-use crate::listener::UdpListener;
-use crate::service_socket::ServiceSocket;
 use crate::table_seed::TableSeed;
 use crate::tally::Tally;
 use crate::turns::Turns;
 use clock::{Clock, Elapsing, StopFlag};
 use dns_text::NoMemory;
 use flight::{Flight, Numbered};
+use front::{Inbox, ServiceSocket, UdpListener};
 use log::{Log, warn};
 use mio::net::UdpSocket;
 use outside::ReadyNet;

@@ -15,27 +15,20 @@ ghost use Rattle.flight.specs.Flight.{query_to};
 ghost use Rattle.flight.specs.Told.{octets_of, IsHeard, Keeps};
 ghost use Rattle.outside.specs.Exchanges.{IsNotToBeHad, TellsOf};
 ghost use Rattle.front_workers.specs.Endings.{IsTooLong, Refuses};
-ghost use Rattle.front_workers.specs.Begun.{arrived, fronts_of};
-ghost use Rattle.front_workers.specs.Connections.{Tends};
+ghost use Rattle.front.specs.Rooms.{arrived, fronts_of};
+ghost use Rattle.front.specs.Connections.{Tends};
 ghost use Rattle.outside.specs.Hashing.{IsSeeded};
-ghost use Rattle.front_workers.specs.Moves.{AllMoved, datagram_to};
-ghost use Rattle.front_workers.specs.Outgoing.{Posts};
+ghost use Rattle.front.specs.Moves.{AllMoved, datagram_to};
+ghost use Rattle.front.specs.Outgoing.{Posts};
 ghost use Rattle.outside.specs.Pauses.{others_in, HeedsPause, IsPassedOver, Loses, NotesHeard};
 ghost use Rattle.outside.specs.Refusals.{IsLeftAlone, LooksUpList, NotesAnswer, list_of_strangers};
 ghost use Rattle.outside.specs.Replies.{IsTooDear, MayCome};
-ghost use Rattle.front_workers.specs.declared.inbox.TheConstants.{BATCH};
+ghost use Rattle.front.specs.declared.inbox.TheConstants.{BATCH};
 
 use crate::asking::AskingTerms;
-use crate::inbox::{BATCH, Inbox};
-use crate::network::network_of;
-use crate::outbox::Outbox;
-use crate::reply_sender::ReplySender;
 use crate::report::{is_too_long, report_of};
-use crate::service_socket::ServiceSocket;
 use crate::table_seed::TableSeed;
 use crate::tally::Tally;
-use crate::tcp::client_stream::ClientStream;
-use crate::tcp::front::TcpFront;
 use crate::worker_permits::{PERMIT_GLANCE, WorkerPermits};
 use crate::zone_shares::ZoneShares;
 use clock::{Clock, MonotonicClock, glance};
@@ -44,6 +37,7 @@ use dns_query::Over;
 use dns_text::{Addr, NoMemory, Octets, Shared};
 use dns_wire::Rcode;
 use flight::{Cause, Client, Counts, InFlight, Listened, Numbered, ReplyOctets, Sockets, Unserved};
+use front::{BATCH, ClientStream, Inbox, Outbox, ReplySender, ServiceSocket, TcpFront, network_of};
 use history::{Event, Servers};
 use iterate::{Allowance, Hunt};
 use log::{Log, warn};
@@ -282,7 +276,7 @@ impl<'a, R: Log, S: ServiceSocket> WorkerSockets<'a, R, Outbox<S>> {
         ensures full { IfOk result (λ more. more ≡ true → S.interrupted ⊎ (inbox.new.filled ≡ BATCH)) }
         ensures failed { OnErr result S.failed }
     {
-        inbox.fill(&mut self.outbox.socket)
+        self.outbox.receive(inbox)
     }
 
     /// Sends FORMERR to the sender of a datagram that is too long, unless the datagram is itself a reply.

@@ -3,11 +3,9 @@
 ghost use Rattle.std.specs.Prelude.{◌≡◌, ◌+◌, ◌≤◌, Ok, IfOk, vec_len};
 ghost use Rattle.resolver_args.specs.declared.mode.TheConstants.{MOST_WORKERS};
 
-use dns_sockets::{bind_tcp, bind_with_backlog};
 use dns_text::Addr;
-use front_workers::{
-    TcpPoll, UdpListener, Waker, listen_each, most_connections, most_exchanges, share_listener,
-};
+use front::{TcpPoll, UdpListener, bind_tcp, bind_with_backlog, listen_each, share_listener};
+use front_workers::{Waker, most_connections, most_exchanges};
 use operators::CliFault;
 use std::alloc::Global;
 use std::io;

@@ -6,9 +6,8 @@ ghost use Rattle.resolver_args.specs.declared.mode.TheConstants.{MOST_WORKERS};
 use crate::gauges::Gauges;
 use crate::sockets::{DescriptorShares, SharedSockets};
 use clock::MonotonicClock;
-use front_workers::{
-    AskingTerms, TableSeed, Tally, TcpPoll, TcpWorker, UdpListener, UdpWorker, fly_tcp, fly_udp,
-};
+use front::{TcpPoll, UdpListener};
+use front_workers::{AskingTerms, TableSeed, Tally, TcpWorker, UdpWorker, fly_tcp, fly_udp};
 use log::Log;
 use operators::{CliFault, WatchedBook};
 use rand::rngs::StdRng;

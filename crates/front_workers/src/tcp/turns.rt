@@ -9,25 +9,22 @@ ghost use Rattle.flight.specs.Bounds.{AllGoOn, Relieves, kept_all};
 ghost use Rattle.flight.specs.Waiting.{IsPatient, IsTimely};
 ghost use Rattle.front_workers.specs.Asking.{asking_at};
 ghost use Rattle.front_workers.specs.Sockets.{asking_of};
-ghost use Rattle.front_workers.specs.Connections.{Tends};
+ghost use Rattle.front.specs.Connections.{Tends};
 ghost use Rattle.front_workers.specs.Looked.{AllLookedAt, EndOverdue, LooksAtAll};
-ghost use Rattle.front_workers.specs.Memory.{KeepLittle};
+ghost use Rattle.front.specs.Memory.{KeepLittle};
 ghost use Rattle.front_workers.specs.Streaming.{BeginsClient, StreamEndsOverdue, StreamGoesOn, fresh_worker};
 
 use crate::asking::AskingTerms;
-use crate::listener::SERVICE;
 use crate::table_seed::TableSeed;
 use crate::tally::Tally;
-use crate::tcp::client::TcpClient;
-use crate::tcp::client_stream::ClientStream;
-use crate::tcp::front::{TcpFront, key_of};
-use crate::tcp::listener::{ClientListener, TcpPoll};
-use crate::tcp::taken::TakenMessage;
 use crate::turns::{begin_anew, look_all, patience};
 use crate::worker_sockets::WorkerSockets;
 use clock::{Clock, Elapsing, MonotonicClock};
 use dns_text::NoMemory;
 use flight::{Flight, Numbered};
+use front::{
+    ClientListener, ClientStream, SERVICE, TakenMessage, TcpClient, TcpFront, TcpPoll, key_of,
+};
 use log::Log;
 use mio::Events;
 use outside::{ReadyNet, SocketLine};

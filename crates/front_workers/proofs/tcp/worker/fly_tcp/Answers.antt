@@ -6,7 +6,7 @@ use Rattle.front_workers.specs.Begun.{none_in_flight}
 use Rattle.front_workers.specs.Streaming.{StreamWorker, stays, tends}
 use Rattle.front_workers.proofs.Accounting.{failed_more, not_failed, time_on, time_then}
 use Rattle.front_workers.proofs.Flowing.{accounts_then, runs_on}
-use Rattle.front_workers.proofs.Serving.{tends_none}
+use Rattle.front.proofs.Serving.{tends_none}
 use Rattle.front_workers.proofs.tcp.worker.fly_tcp.Goals as goal
 
 pub loop-init : goal.loop-init

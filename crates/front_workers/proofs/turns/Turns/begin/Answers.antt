@@ -5,7 +5,8 @@ use Rattle.front_workers.specs.Begun.{begun as begun_now, passed, refused}
 use Rattle.front_workers.proofs.Accounting.{begun, latest_begun, stayed, time_at}
 use Rattle.front_workers.proofs.Outboxes.{asking_kept, ends_of}
 use Rattle.front_workers.proofs.Beginning.{own_ends, sent_by, too_long}
-use Rattle.front_workers.proofs.Posting.{endings_none, endings_of, endings_refused, endings_within, posts_none}
+use Rattle.front_workers.proofs.Posting.{endings_none, endings_of, endings_refused, endings_within}
+use Rattle.front.proofs.Sending.{posts_none}
 use Rattle.front_workers.proofs.turns.Turns.begin.Goals as goal
 
 pub returns-in-Passed-clause-goes_on : goal.returns-in-Passed-clause-goes_on

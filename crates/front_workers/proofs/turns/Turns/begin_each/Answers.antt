@@ -1,8 +1,9 @@
 use Rattle.std.proofs.Common.{◌∙◌, arith, refl}
-use Rattle.front_workers.specs.Begun.{arrived}
+use Rattle.front.specs.Rooms.{arrived}
 use Rattle.front_workers.proofs.Accounting.{gone_on, stayed}
 use Rattle.front_workers.proofs.Beginning.{begun_on}
-use Rattle.front_workers.proofs.Posting.{endings_none, posts_none}
+use Rattle.front_workers.proofs.Posting.{endings_none}
+use Rattle.front.proofs.Sending.{posts_none}
 use Rattle.front_workers.proofs.turns.Turns.begin_each.Goals as goal
 
 pub loop-slot-init : goal.loop-slot-init

@@ -1,6 +1,7 @@
 use Rattle.std.proofs.Common.{◌≡◌, map, take}
 use Rattle.front_workers.specs.Accounts.{GoesOn}
-use Rattle.front_workers.specs.Begun.{AllBegin, arrived}
+use Rattle.front_workers.specs.Begun.{AllBegin}
+use Rattle.front.specs.Rooms.{arrived}
 use Rattle.front_workers.proofs.turns.Turns.begin_each.Given as goal
 
 -- what has begun so far is accounted for, each datagram once

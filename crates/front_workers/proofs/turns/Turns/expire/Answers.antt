@@ -5,7 +5,8 @@ use Rattle.front_workers.proofs.Accounting.{gone_on, latest_on, looked_on, staye
 use Rattle.front_workers.specs.Sockets.{asking_of}
 use Rattle.front_workers.proofs.Outboxes.{asking_kept, ends_of}
 use Rattle.front_workers.proofs.Beginning.{rests, takes_none_then}
-use Rattle.front_workers.proofs.Posting.{endings_none, endings_of, posts_none}
+use Rattle.front_workers.proofs.Posting.{endings_none, endings_of}
+use Rattle.front.proofs.Sending.{posts_none}
 use Rattle.front_workers.proofs.Reading.{onward_by}
 use Rattle.front_workers.proofs.turns.Turns.expire.Goals as goal
 

@@ -2,7 +2,8 @@ use Rattle.std.proofs.Common.{arith, refl}
 use Rattle.front_workers.proofs.Accounting.{gone_on, received, stayed, worker_of}
 use Rattle.front_workers.specs.Sockets.{asking_of}
 use Rattle.front_workers.proofs.Beginning.{batch_begins}
-use Rattle.front_workers.proofs.Posting.{endings_none, posts_none}
+use Rattle.front_workers.proofs.Posting.{endings_none}
+use Rattle.front.proofs.Sending.{posts_none}
 use Rattle.front_workers.proofs.turns.Turns.take_batch.Goals as goal
 
 pub returns-clause-goes_on : goal.returns-clause-goes_on

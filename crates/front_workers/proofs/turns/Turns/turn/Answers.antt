@@ -2,7 +2,8 @@ use Rattle.std.proofs.Common.{refl}
 use Rattle.front_workers.specs.Begun.{goes_on, stays}
 use Rattle.front_workers.proofs.Accounting.{gone_on, stayed}
 use Rattle.front_workers.proofs.Beginning.{rests, runs_then}
-use Rattle.front_workers.proofs.Posting.{endings_none, posts_none}
+use Rattle.front_workers.proofs.Posting.{endings_none}
+use Rattle.front.proofs.Sending.{posts_none}
 use Rattle.front_workers.proofs.Reading.{onward_on, read_after}
 use Rattle.front_workers.proofs.turns.Turns.turn.Goals as goal
 

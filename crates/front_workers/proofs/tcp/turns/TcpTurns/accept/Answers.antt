@@ -1,4 +1,4 @@
-use Rattle.front_workers.specs.Connections.{stays}
+use Rattle.front.specs.Connections.{stays}
 use Rattle.front_workers.proofs.tcp.turns.TcpTurns.accept.Goals as goal
 
 pub returns-in_err-would_wait-in-Err-clause-tends : goal.returns-in_err-would_wait-in-Err-clause-tends

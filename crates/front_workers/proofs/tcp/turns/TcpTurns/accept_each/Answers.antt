@@ -1,7 +1,7 @@
 use Rattle.std.proofs.Common.{refl}
-use Rattle.front_workers.specs.Connections.{stays}
+use Rattle.front.specs.Connections.{stays}
 use Rattle.front_workers.specs.Sockets.{asking_of}
-use Rattle.front_workers.proofs.Serving.{tends_then}
+use Rattle.front.proofs.Serving.{tends_then}
 use Rattle.front_workers.proofs.Flowing.{kept_on, stream_of}
 use Rattle.front_workers.proofs.tcp.turns.TcpTurns.accept_each.Goals as goal
 

@@ -1,5 +1,5 @@
 use Rattle.std.proofs.Common.{◌≡◌}
-use Rattle.front_workers.specs.Connections.{Tends}
+use Rattle.front.specs.Connections.{Tends}
 use Rattle.front_workers.proofs.tcp.turns.TcpTurns.accept_each.Given as goal
 
 abbrev pub invariant-loop : goal.invariant-loop

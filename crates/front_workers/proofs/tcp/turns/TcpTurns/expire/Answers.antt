@@ -4,7 +4,7 @@ use Rattle.flight.specs.Waiting.{EarlyGoOn}
 use Rattle.front_workers.proofs.Accounting.{latest_on, time_at}
 use Rattle.front_workers.specs.Sockets.{asking_of}
 use Rattle.front_workers.proofs.Outboxes.{asking_kept, ends_of}
-use Rattle.front_workers.proofs.Serving.{tends_none}
+use Rattle.front.proofs.Serving.{tends_none}
 use Rattle.front_workers.proofs.Flowing.{stream_of, streams_settle, streams_tend, streams_then}
 use Rattle.front_workers.proofs.tcp.turns.TcpTurns.expire.Goals as goal
 

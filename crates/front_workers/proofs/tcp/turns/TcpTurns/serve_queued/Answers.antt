@@ -1,7 +1,7 @@
 use Rattle.std.proofs.Common.{◌∙◌, ap, arith, refl}
-use Rattle.front_workers.specs.Connections.{stays}
+use Rattle.front.specs.Connections.{stays}
 use Rattle.front_workers.specs.Streaming.{StreamWorker}
-use Rattle.front_workers.proofs.Serving.{tends_none}
+use Rattle.front.proofs.Serving.{tends_none}
 use Rattle.front_workers.proofs.Flowing.{streams_tend, streams_then}
 use Rattle.front_workers.proofs.tcp.turns.TcpTurns.serve_queued.Goals as goal
 

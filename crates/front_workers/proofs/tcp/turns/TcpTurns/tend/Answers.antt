@@ -1,6 +1,6 @@
 use Rattle.std.proofs.Common.{◌∙◌, ap, arith}
 use Rattle.front_workers.specs.Streaming.{StreamWorker}
-use Rattle.front_workers.proofs.Serving.{tends_none, tends_then}
+use Rattle.front.proofs.Serving.{tends_none, tends_then}
 use Rattle.front_workers.proofs.tcp.turns.TcpTurns.tend.Goals as goal
 
 pub returns-clause-tends : goal.returns-clause-tends

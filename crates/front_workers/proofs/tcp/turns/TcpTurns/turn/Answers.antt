@@ -1,4 +1,4 @@
-use Rattle.front_workers.proofs.Serving.{tends_none}
+use Rattle.front.proofs.Serving.{tends_none}
 use Rattle.front_workers.proofs.Flowing.{streams_tend, streams_then}
 use Rattle.front_workers.proofs.tcp.turns.TcpTurns.turn.Goals as goal
 

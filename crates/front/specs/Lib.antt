@@ -1,0 +1,11 @@
+pub mod Answerable
+pub mod Arrivals
+pub mod Connections
+pub mod Memory
+pub mod Moves
+pub mod Networks
+pub mod Outgoing
+pub mod Passages
+pub mod Reading
+pub mod Rooms
+pub mod Taken

@@ -1,4 +1,0 @@
-use Rattle.front_workers.proofs.outbox.OutboxReplySenderUdpClient.send_reply.Goals as goal
-
-pub returns : goal.returns
-returns g c = rw c.peer.ensures at c.post.ensures

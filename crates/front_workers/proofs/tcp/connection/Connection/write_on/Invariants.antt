@@ -1,9 +1,0 @@
-use Rattle.std.proofs.Common.{◌≤◌, []}
-use Rattle.front_workers.specs.Connections.{Serves}
-use Rattle.front_workers.proofs.tcp.connection.Connection.write_on.Given as goal
-
-abbrev pub invariant-loop : goal.invariant-loop
-invariant-loop g l = record {
-  serves : Serves g.S.ClientStream.reads g.S.ClientStream.writes [] [] l.initial.self l.self;
-  no_more : l.self.kept ≤ l.initial.self.kept;
-}

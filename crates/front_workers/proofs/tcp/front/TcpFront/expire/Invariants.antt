@@ -1,5 +1,0 @@
-use Rattle.front_workers.specs.Connections.{Tends}
-use Rattle.front_workers.proofs.tcp.front.TcpFront.expire.Given as goal
-
-abbrev pub invariant-loop-key : goal.invariant-loop-key
-invariant-loop-key g l = Tends g.S.ClientStream.reads g.S.ClientStream.writes l.initial.self l.self
