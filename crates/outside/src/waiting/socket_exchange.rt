@@ -1,6 +1,6 @@
 //! Exchanges with name servers, each waited for until a deadline.
 
-ghost use Rattle.std.specs.Prelude.{◌≡◌, ◌≤◌, ◌<◌, ◌+◌, ◌++◌, length, take, drop, vec_len, IfOk, OnOk};
+ghost use Rattle.std.specs.Prelude.{◌≡◌, ◌≤◌, ◌<◌, length, take, vec_len, IfOk, OnOk};
 ghost use Rattle.std.specs.Io.KnownBytes.{Appends, Consumes};
 ghost use Rattle.replies.specs.Framing.{framed};
 ghost use Rattle.replies.specs.declared.limits.TheConstants.{MOST_MESSAGE};
@@ -24,7 +24,7 @@ use dns_text::{Addr, NoMemory, Octets};
 use iterate::Hunt;
 use log::Log;
 use plain_workers::Exchange;
-use replies::{MOST_FRAMED, MOST_MESSAGE, is_dear};
+use replies::{MOST_FRAMED, MOST_MESSAGE, frame, is_dear, size_of};
 use std::alloc::Global;
 use std::io;
 use std::io::{ErrorKind, Read, Write};
@@ -143,26 +143,15 @@ fn ask_udp<R: ServerNet + Clock, F: StopFlag>(
     Err(io::Error::from(ErrorKind::TimedOut))
 }
 
-/// Copies octets to a place of the room.
-fn put(room: &mut [u8], at: usize, octets: &[u8])
-    requires { at + length octets.now ≤ length room.old }
-    ensures { room.new ≡ take at room.old ++ (octets.now ++ drop (at + length octets.now) room.old) }
-{
-    room[at..at + octets.len()].copy_from_slice(octets);
-}
-
 /// Sends a message preceded by its length, in one piece (RFC 7766, section 8).
-fn send_framed<W: Write>(stream: &mut W, message: &[u8], room: &mut [u8]) -> io::Result<()>
-    requires { length room.old ≡ MOST_FRAMED }
+fn send_framed<W: Write>(alloc: Global, stream: &mut W, message: &[u8]) -> io::Result<()>
     ensures { OnOk result (Appends (W.contents stream.old) (W.contents stream.new) (framed message.now)) }
 {
-    let size = message.len();
-    if size > MOST_MESSAGE {
+    if message.len() > MOST_MESSAGE {
         return Err(io::Error::from(ErrorKind::InvalidInput));
     }
-    put(room, 0, &[(size / 256) as u8, (size % 256) as u8]);
-    put(room, 2, message);
-    stream.write_all(&room[..2 + size])
+    let out = frame(alloc, message)?;
+    stream.write_all(&out)
 }
 
 /// Reads a message preceded by its length: the number of octets at the front of the room that it fills.
@@ -174,7 +163,7 @@ fn read_framed<S: Read>(stream: &mut S, room: &mut [u8]) -> io::Result<usize>
     let mut length = [0u8; 2];
     stream.read_exact(&mut length)?;
     let [high, low] = length;
-    let count = usize::from(high) * 256 + usize::from(low);
+    let count = size_of(high, low);
     stream.read_exact(&mut room[..count])?;
     Ok(count)
 }
@@ -183,6 +172,7 @@ fn read_framed<S: Read>(stream: &mut S, room: &mut [u8]) -> io::Result<usize>
 fn ask_tcp<R: ServerNet + Clock, F: StopFlag>(
     rt: &R,
     stop: &F,
+    alloc: Global,
     service: SocketAddr,
     place: SocketAddr,
     query: &[u8],
@@ -205,7 +195,7 @@ fn ask_tcp<R: ServerNet + Clock, F: StopFlag>(
         stream,
         deadline,
     };
-    send_framed(&mut stream, query, room)?;
+    send_framed(alloc, &mut stream, query)?;
     let count = read_framed(&mut stream, room)?;
     if !fits(query, &room[..count]) || is_dear(&room[..count]) {
         return Err(io::Error::from(ErrorKind::InvalidData));
@@ -217,6 +207,7 @@ fn ask_tcp<R: ServerNet + Clock, F: StopFlag>(
 fn ask_over<R: ServerNet + Clock, F: StopFlag>(
     rt: &R,
     stop: &F,
+    alloc: Global,
     service: SocketAddr,
     server: &Addr,
     over: Over,
@@ -236,7 +227,7 @@ fn ask_over<R: ServerNet + Clock, F: StopFlag>(
     let place = place_of(server);
     match over {
         Over::Udp => ask_udp(rt, stop, service, place, query, room),
-        Over::Tcp => ask_tcp(rt, stop, service, place, query, room),
+        Over::Tcp => ask_tcp(rt, stop, alloc, service, place, query, room),
     }
 }
 
@@ -263,6 +254,7 @@ impl<'a, R: ServerNet + Clock + Log, F: StopFlag> Exchange for SocketExchange<'a
         match ask_over(
             self.rt,
             self.stop,
+            self.alloc,
             self.service,
             server,
             over,
