@@ -34,7 +34,8 @@ pub fn plain_books(
 {
     let settings = settings(alloc, journal, cells);
     let opening = PlainBook::lagging(alloc, &settings)?;
-    Ok((PlainBook::new(alloc, settings)?, opening))
+    let book = PlainBook::new(alloc, settings)?;
+    Ok((book, opening))
 }
 
 /// A book that keeps no history.
@@ -52,5 +53,6 @@ pub fn shelf_books(
 {
     let settings = settings(alloc, journal, cells);
     let opening = ShelfBook::lagging(alloc, &settings)?;
-    Ok((ShelfBook::new(alloc, settings)?, opening))
+    let book = ShelfBook::new(alloc, settings)?;
+    Ok((book, opening))
 }

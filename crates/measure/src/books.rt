@@ -29,7 +29,8 @@ pub fn empty_books(alloc: Global) -> Result<(PlainBook, PlainBook), MakeFault>
 {
     let settings = small_settings(alloc);
     let opening = PlainBook::lagging(alloc, &settings)?;
-    Ok((PlainBook::new(alloc, settings)?, opening))
+    let book = PlainBook::new(alloc, settings)?;
+    Ok((book, opening))
 }
 
 /// The book of the program, which was given nothing. It can undo one command, and hold as many cells as there may be.
@@ -53,7 +54,8 @@ pub fn shelves_of(alloc: Global, cells: usize) -> Result<(ShelfBook, ShelfBook),
 {
     let settings = settings_with(alloc, 1, cells);
     let opening = ShelfBook::lagging(alloc, &settings)?;
-    Ok((ShelfBook::new(alloc, settings)?, opening))
+    let book = ShelfBook::new(alloc, settings)?;
+    Ok((book, opening))
 }
 
 fn shelf_with(alloc: Global, journal: usize, cells: usize) -> Result<ShelfBook, MakeFault> {
