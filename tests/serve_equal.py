@@ -18,7 +18,7 @@ MOST_EQUAL, MOST_MISFITS = 4, 2
 EXCHANGE = 2
 
 # What part of the time that an exchange lasts is looked at for others: the server notes a query a moment after it came.
-NEARLY = 0.95
+NEARLY = 0.5
 
 # How long the forger goes on, in seconds, and the datagrams that it sends at each port that it learns.
 FORGING_SECONDS, FORGED = 120, 200
