@@ -268,7 +268,7 @@ module _ (p : Labels → Bool) where
         ap (count_where p) (take-append-drop t.gap left),
       )
 
-owner_kept : (new r : Record) → (retimed_by new r).owner ≡ r.owner
+pub owner_kept : (new r : Record) → (retimed_by new r).owner ≡ r.owner
 owner_kept new r = by (is_of_set r new)
   where
     by : (b : Bool) → (cond b (record r { ttl = new.ttl }) r).owner ≡ r.owner

@@ -15,6 +15,7 @@ use Rattle.std.specs.List.{list_any}
 use Rattle.std.proofs.lemmas.Bool.{and_parts}
 use Rattle.local_zone.proofs.ReasonLaws.{retimed_itself}
 use Rattle.local_zone.proofs.IndexLaws.{index-write, owned-write, owned-some, any_of}
+use Rattle.local_zone.proofs.CountsBelowLaws.{owner_kept}
 
 -- ---- the walk over a list
 
@@ -43,13 +44,6 @@ module _ {X : Type 0} (f : X → X) where
       is ∙ ap (slice_set now i) new ∙ ap (λ xs. slice_set xs i (f x)) far ∙ so_far-step before i d x within at ∙ ap (λ n. so_far n before) next
 
 -- ---- the records of an owner
-
-owner_kept : (new r : Record) → (retimed_by new r).owner ≡ r.owner
-owner_kept new r = by (is_of_set r new)
-  where
-    by : (b : Bool) → (cond b (record r { ttl = new.ttl }) r).owner ≡ r.owner
-    by true = refl
-    by false = refl
 
 pub own-retimed : (owner : Labels) (new : Record) (rs : List Record) → of_owner owner (map (retimed_by new) rs) ≡ map (retimed_by new) (of_owner owner rs)
 own-retimed owner new [] = refl
