@@ -12,9 +12,8 @@ ghost use Rattle.local_zone.specs.Change.{records_with};
 ghost use Rattle.local_zone.specs.Closest.{lies_in};
 ghost use Rattle.local_zone.specs.Gaps.{at_gaps, put_back, rest_of, AreApart, AreWithin};
 ghost use Rattle.local_zone.specs.Index.{of_owner};
-ghost use Rattle.local_zone.specs.Saved.{IsRemoval};
+ghost use Rattle.local_zone.specs.OtherSide.{AreTaken};
 ghost use Rattle.local_zone.specs.Show.{is_for, set_of};
-ghost use Rattle.named_list.specs.Turn.{other_of, HasPlace};
 
 use crate::added::Added;
 use crate::other_set::OtherSet;
@@ -149,11 +148,7 @@ fn is_taken(
     gaps: &[usize],
     owner: &Name,
 ) -> bool
-    requires fits { HasPlace (λ z. z.name) turn.now zones.now }
-    requires within { AreWithin gaps.now records.now }
-    requires apart { AreApart (at_gaps gaps.now records.now) (rest_of gaps.now records.now) }
-    requires removal { IsRemoval (record { zones = zones.now; records = records.now })
-        (record { zones = other_of turn.now zones.now; records = rest_of gaps.now records.now }) }
+    requires { AreTaken turn.now zones.now gaps.now records.now }
     ensures { of_owner owner.now (rest_of gaps.now records.now) ≡ (if result then [] else of_owner owner.now records.now) }
 {
     match first_at(records, gaps) {
@@ -172,11 +167,7 @@ pub(crate) fn set_left<'a>(
     owner: &Name,
     kind: u16,
 ) -> OtherSet<'a>
-    requires fits { HasPlace (λ z. z.name) turn.now zones.now }
-    requires within { AreWithin gaps.now records.now }
-    requires apart { AreApart (at_gaps gaps.now records.now) (rest_of gaps.now records.now) }
-    requires removal { IsRemoval (record { zones = zones.now; records = records.now })
-        (record { zones = other_of turn.now zones.now; records = rest_of gaps.now records.now }) }
+    requires { AreTaken turn.now zones.now gaps.now records.now }
     ensures { own.now ≡ set_of owner.now kind records.now → result ≡ set_of owner.now kind (rest_of gaps.now records.now) }
 {
     if own.is_empty() {
@@ -231,11 +222,7 @@ pub(crate) fn has_left(
     gaps: &[usize],
     owner: &Name,
 ) -> bool
-    requires fits { HasPlace (λ z. z.name) turn.now zones.now }
-    requires within { AreWithin gaps.now records.now }
-    requires apart { AreApart (at_gaps gaps.now records.now) (rest_of gaps.now records.now) }
-    requires removal { IsRemoval (record { zones = zones.now; records = records.now })
-        (record { zones = other_of turn.now zones.now; records = rest_of gaps.now records.now }) }
+    requires { AreTaken turn.now zones.now gaps.now records.now }
     ensures { count ≡ length (of_owner owner.now records.now) → result ≡ has_record owner.now (rest_of gaps.now records.now) }
 {
     if count == 0 {

@@ -36,20 +36,16 @@ returns-in-Removed c =
     let over = ap (λ (x : RecordTurn). has_record c.args.owner.now (records_other x records)) (sym c.in-Removed.is) ∙ ap (λ (t : Tables). has_record c.args.owner.now t.records) c.self.view_is in
     c.has_back.ensures records c.count_of-count.ensures ∙ over
 
-pub has_left-requires-clause-fits : goal.has_left-requires-clause-fits
-has_left-requires-clause-fits c = c.self.invariant.back.fits
-
-pub has_left-requires-clause-within : goal.has_left-requires-clause-within
-has_left-requires-clause-within c =
-    rw (c.deref.ensures.value, c.as_slice-all.ensures) (side_goes c.self.inside.saved.now.records (Removes c.in-Removes.gaps) c.self.inside.records.now c.in-Removes.is c.self.invariant.back.goes).0
-
-pub has_left-requires-clause-apart : goal.has_left-requires-clause-apart
-has_left-requires-clause-apart c =
-    rw (c.deref.ensures.value, c.as_slice-all.ensures) (side_goes c.self.inside.saved.now.records (Removes c.in-Removes.gaps) c.self.inside.records.now c.in-Removes.is c.self.invariant.back.goes).1
-
-pub has_left-requires-clause-removal : goal.has_left-requires-clause-removal
-has_left-requires-clause-removal c =
-    rw (c.deref.ensures.value, c.as_slice-all.ensures) (side_takes c.self.inside.saved.now c.self.inside.zones.now c.self.inside.records.now (Removes c.in-Removes.gaps) c.in-Removes.is refl c.self.invariant.back)
+pub has_left-requires : goal.has_left-requires
+has_left-requires c =
+    let self = c.self.inside in
+    let goes = side_goes self.saved.now.records (Removes c.in-Removes.gaps) self.records.now c.in-Removes.is c.self.invariant.back.goes in
+    rw (c.deref.ensures.value, c.as_slice-all.ensures) (record {
+      fits = c.self.invariant.back.fits;
+      within = goes.0;
+      apart = goes.1;
+      removal = side_takes self.saved.now self.zones.now self.records.now (Removes c.in-Removes.gaps) c.in-Removes.is refl c.self.invariant.back;
+    })
 
 pub returns-in-Removes : goal.returns-in-Removes
 returns-in-Removes c =

@@ -34,20 +34,16 @@ returns-in-Removed c =
     let goes = side_goes c.self.inside.saved.now.records (Removed c.in-Removed.removed) records c.in-Removed.is c.self.invariant.back.goes in
     c.set_back.ensures records goes.1 c.set_of-own.ensures ∙ over
 
-pub set_left-requires-clause-fits : goal.set_left-requires-clause-fits
-set_left-requires-clause-fits c = c.self.invariant.back.fits
-
-pub set_left-requires-clause-within : goal.set_left-requires-clause-within
-set_left-requires-clause-within c =
-    rw (c.deref.ensures.value, c.as_slice-all.ensures) (side_goes c.self.inside.saved.now.records (Removes c.in-Removes.gaps) c.self.inside.records.now c.in-Removes.is c.self.invariant.back.goes).0
-
-pub set_left-requires-clause-apart : goal.set_left-requires-clause-apart
-set_left-requires-clause-apart c =
-    rw (c.deref.ensures.value, c.as_slice-all.ensures) (side_goes c.self.inside.saved.now.records (Removes c.in-Removes.gaps) c.self.inside.records.now c.in-Removes.is c.self.invariant.back.goes).1
-
-pub set_left-requires-clause-removal : goal.set_left-requires-clause-removal
-set_left-requires-clause-removal c =
-    rw (c.deref.ensures.value, c.as_slice-all.ensures) (side_takes c.self.inside.saved.now c.self.inside.zones.now c.self.inside.records.now (Removes c.in-Removes.gaps) c.in-Removes.is refl c.self.invariant.back)
+pub set_left-requires : goal.set_left-requires
+set_left-requires c =
+    let self = c.self.inside in
+    let goes = side_goes self.saved.now.records (Removes c.in-Removes.gaps) self.records.now c.in-Removes.is c.self.invariant.back.goes in
+    rw (c.deref.ensures.value, c.as_slice-all.ensures) (record {
+      fits = c.self.invariant.back.fits;
+      within = goes.0;
+      apart = goes.1;
+      removal = side_takes self.saved.now self.zones.now self.records.now (Removes c.in-Removes.gaps) c.in-Removes.is refl c.self.invariant.back;
+    })
 
 pub returns-in-Removes : goal.returns-in-Removes
 returns-in-Removes c =
