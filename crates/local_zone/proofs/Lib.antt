@@ -6,6 +6,7 @@ pub mod ZoneLaws
 pub mod HeldLaws
 pub mod OrderLaws
 pub mod IndexLaws
+pub mod Keyed
 pub mod ImpliedLaws
 pub mod RetimeLaws
 pub mod AddLaws

@@ -1,20 +1,14 @@
 use Rattle.std.proofs.Common.{◌≡◌, ℕ, List, [], Some, None, refl, sym, ◌∙◌}
 use Rattle.dns_text.specs.declared.record.Record.{Record}
 use Rattle.dns_name.specs.Labels.{Labels, octets_of}
-use Rattle.local_zone.specs.declared.group.Group.{Group}
 use Rattle.local_zone.specs.Group.{records_held}
 use Rattle.local_zone.specs.Index.{of_owner, HoldSame}
 use Rattle.local_zone.specs.Show.{data_for, or_list}
 use Rattle.dns_text.specs.declared.types.TheConstants.{CNAME}
 use Rattle.local_zone.specs.Index.{of_kind}
 use Rattle.local_zone.proofs.IndexLaws.{of-found, set-of-owner}
+use Rattle.local_zone.proofs.Keyed.{items, octets}
 use Rattle.local_zone.proofs.groups.data_in.Goals as goal
-
-abbrev octets : Labels → List ℕ
-octets k = octets_of k
-
-abbrev items : Group → List Record
-items g = records_held g
 
 -- what a list that holds the same tells
 data_is : (owner : Labels) (kind : ℕ) (records held : List Record) → HoldSame held (of_owner owner records) → or_list (of_kind CNAME held) (of_kind kind held) ≡ data_for owner kind records

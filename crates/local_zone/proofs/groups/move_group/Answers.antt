@@ -1,19 +1,11 @@
-use Rattle.std.proofs.Common.{◌≡◌, ℕ, List, Some, None, sym, ◌∙◌, nat_eq}
+use Rattle.std.proofs.Common.{◌≡◌, Some, None, sym, ◌∙◌, nat_eq}
 use Rattle.std.specs.Map.{KeepsOthers}
 use Rattle.std.specs.Cmp.Lexicographic.{pointwise}
-use Rattle.dns_name.specs.Labels.{octets_of, Labels}
-use Rattle.dns_text.specs.declared.record.Record.{Record}
+use Rattle.dns_name.specs.Labels.{octets_of}
 use Rattle.local_zone.specs.Index.{under}
-use Rattle.local_zone.specs.declared.group.Group.{Group}
-use Rattle.local_zone.specs.Group.{records_held}
 use Rattle.local_zone.proofs.GroupLaws.{IsMoved, absent_here, apart_moved, moved_some, grouped_moved, still_none, is_ok_of, key_found}
+use Rattle.local_zone.proofs.Keyed.{items, octets}
 use Rattle.local_zone.proofs.groups.move_group.Goals as goal
-
-abbrev octets : Labels → List ℕ
-octets k = octets_of k
-
-abbrev items : Group → List Record
-items g = records_held g
 
 gone : (c : goal.After-drop) → under octets (octets_of c.args.owner.now) c.swap_remove_entry.new.self.entries ≡ None
 gone c = c.swap_remove_entry.ensures.updates.1

@@ -2,19 +2,10 @@ use Rattle.std.proofs.Common.{◌≡◌, ◌<◌, ℕ, zero, suc, true, List, []
 use Rattle.std.specs.Prelude.{is_some}
 use Rattle.std.proofs.lemmas.Bool.{false≢true}
 use Rattle.indexmap.specs.IndexMap.{spare}
-use Rattle.dns_text.specs.declared.record.Record.{Record}
-use Rattle.dns_name.specs.Labels.{Labels, octets_of}
 use Rattle.local_zone.specs.Index.{IsGrouped}
-use Rattle.local_zone.specs.declared.group.Group.{Group}
-use Rattle.local_zone.specs.Group.{records_held}
 use Rattle.local_zone.proofs.GroupLaws.{grouped_put, is_ok_of}
+use Rattle.local_zone.proofs.Keyed.{items, octets}
 use Rattle.local_zone.proofs.groups.put_groups.Goals as goal
-
-abbrev octets : Labels → List ℕ
-octets k = octets_of k
-
-abbrev items : Group → List Record
-items g = records_held g
 
 pub loop-key-preserved-in-Some : goal.loop-key-preserved-in-Some
 loop-key-preserved-in-Some c =

@@ -1,16 +1,8 @@
-use Rattle.std.proofs.Common.{ℕ, List, Some, None, refl, sym, ◌∙◌}
-use Rattle.dns_text.specs.declared.record.Record.{Record}
-use Rattle.dns_name.specs.Labels.{Labels, octets_of}
-use Rattle.local_zone.specs.declared.group.Group.{Group}
-use Rattle.local_zone.specs.Group.{records_held}
+use Rattle.std.proofs.Common.{Some, None, refl, sym, ◌∙◌}
+use Rattle.dns_name.specs.Labels.{octets_of}
 use Rattle.local_zone.proofs.IndexLaws.{of-found, set-of-owner}
+use Rattle.local_zone.proofs.Keyed.{items, octets}
 use Rattle.local_zone.proofs.groups.set_in.Goals as goal
-
-abbrev octets : Labels → List ℕ
-octets k = octets_of k
-
-abbrev items : Group → List Record
-items g = records_held g
 
 pub returns-in-Some : goal.returns-in-Some
 returns-in-Some c records h =

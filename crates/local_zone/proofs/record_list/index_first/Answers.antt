@@ -1,19 +1,11 @@
 use Rattle.std.proofs.Common.{◌≡◌, ℕ, List, [], ◌∷◌, ◌++◌, None, refl, ap, sym, subst, ◌∙◌}
-use Rattle.dns_name.specs.Labels.{octets_of, Labels}
-use Rattle.dns_text.specs.declared.record.Record.{Record}
+use Rattle.dns_name.specs.Labels.{octets_of}
 use Rattle.local_zone.specs.Index.{under, IsGrouped}
 use Rattle.indexmap.proofs.CallerLemmas.{insert_entry-new}
-use Rattle.local_zone.specs.declared.group.Group.{Group}
 use Rattle.local_zone.specs.declared.group.Group.TheVariants.{One}
-use Rattle.local_zone.specs.Group.{records_held}
 use Rattle.local_zone.proofs.IndexLaws.{grouped-push}
+use Rattle.local_zone.proofs.Keyed.{items, octets}
 use Rattle.local_zone.proofs.record_list.index_first.Goals as goal
-
-abbrev octets : Labels → List ℕ
-octets k = octets_of k
-
-abbrev items : Group → List Record
-items g = records_held g
 
 pub returns-clause-ok : goal.returns-clause-ok
 returns-clause-ok c records h =

@@ -2,20 +2,12 @@ use Rattle.std.proofs.Common.{◌≡◌, ℕ, List, [], ◌∷◌, ◌++◌, Som
 use Rattle.std.specs.Prelude.{Result, Ok, Err, OnErr}
 use Rattle.std.specs.Map.{set_value}
 use Rattle.std.specs.Cmp.Lexicographic.{pointwise}
-use Rattle.dns_name.specs.Labels.{octets_of, Labels}
-use Rattle.dns_text.specs.declared.record.Record.{Record}
+use Rattle.dns_name.specs.Labels.{octets_of}
 use Rattle.local_zone.specs.Index.{under, IsGrouped}
-use Rattle.local_zone.specs.declared.group.Group.{Group}
-use Rattle.local_zone.specs.Group.{records_held}
 use Rattle.local_zone.proofs.ImpliedLaws.{on_ok}
 use Rattle.local_zone.proofs.IndexLaws.{grouped-set, grouped-keep}
+use Rattle.local_zone.proofs.Keyed.{items, octets}
 use Rattle.local_zone.proofs.record_list.index_last.Goals as goal
-
-abbrev octets : Labels → List ℕ
-octets k = octets_of k
-
-abbrev items : Group → List Record
-items g = records_held g
 
 on_err_of : {X E A B : Type 0} (result : Result X E) → OnErr result A → (A → B) → OnErr result B
 on_err_of (Ok x) h make = tt

@@ -1,19 +1,11 @@
 use Rattle.std.proofs.Common.{◌≡◌, ℕ, List, Some, ap, sym, subst, ◌∙◌, nat_eq}
 use Rattle.std.specs.Map.{set_value}
 use Rattle.std.specs.Cmp.Lexicographic.{pointwise}
-use Rattle.dns_name.specs.Labels.{octets_of, Labels}
-use Rattle.dns_text.specs.declared.record.Record.{Record}
+use Rattle.dns_name.specs.Labels.{octets_of}
 use Rattle.local_zone.specs.Index.{of_owner, under, IsGrouped, IsIndexed}
-use Rattle.local_zone.specs.declared.group.Group.{Group}
-use Rattle.local_zone.specs.Group.{records_held}
 use Rattle.local_zone.proofs.IndexLaws.{index-front, index-some, grouped-front, others-set}
+use Rattle.local_zone.proofs.Keyed.{items, octets}
 use Rattle.local_zone.proofs.record_list.pop_under.Goals as goal
-
-abbrev octets : Labels → List ℕ
-octets k = octets_of k
-
-abbrev items : Group → List Record
-items g = records_held g
 
 pub returns-in-Some-clause-front : goal.returns-in-Some-clause-front
 returns-in-Some-clause-front c front last same kind h =

@@ -1,20 +1,13 @@
-use Rattle.std.proofs.Common.{◌≡◌, ℕ, List, map, Some, None, ap, sym, subst, nat_eq}
+use Rattle.std.proofs.Common.{◌≡◌, map, Some, None, ap, sym, subst, nat_eq}
 use Rattle.std.specs.Map.{set_value}
 use Rattle.std.specs.Cmp.Lexicographic.{pointwise}
-use Rattle.dns_name.specs.Labels.{octets_of, Labels}
+use Rattle.dns_name.specs.Labels.{octets_of}
 use Rattle.dns_text.specs.declared.record.Record.{Record}
 use Rattle.local_zone.specs.Index.{under, IsGrouped}
 use Rattle.local_zone.specs.Change.{retimed_by}
-use Rattle.local_zone.specs.declared.group.Group.{Group}
-use Rattle.local_zone.specs.Group.{records_held}
 use Rattle.local_zone.proofs.RetimeLaws.{grouped-retime, grouped-no-set}
+use Rattle.local_zone.proofs.Keyed.{items, octets}
 use Rattle.local_zone.proofs.record_list.retime_index.Goals as goal
-
-abbrev octets : Labels → List ℕ
-octets k = octets_of k
-
-abbrev items : Group → List Record
-items g = records_held g
 
 pub returns-in-Some : goal.returns-in-Some
 returns-in-Some c records h =

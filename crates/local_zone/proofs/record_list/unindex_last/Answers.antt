@@ -3,18 +3,10 @@ use Rattle.std.specs.Map.{KeepsOthers}
 use Rattle.std.specs.Cmp.Lexicographic.{pointwise}
 use Rattle.dns_name.specs.Labels.{Labels, octets_of}
 use Rattle.dns_name.specs.Order.{name_eq}
-use Rattle.dns_text.specs.declared.record.Record.{Record}
 use Rattle.local_zone.specs.Index.{items_in, under}
-use Rattle.local_zone.specs.declared.group.Group.{Group}
-use Rattle.local_zone.specs.Group.{records_held}
 use Rattle.local_zone.proofs.IndexLaws.{grouped-drop}
+use Rattle.local_zone.proofs.Keyed.{items, octets}
 use Rattle.local_zone.proofs.record_list.unindex_last.Goals as goal
-
-abbrev octets : Labels → List ℕ
-octets k = octets_of k
-
-abbrev items : Group → List Record
-items g = records_held g
 
 pub returns-then-pop_under : goal.returns-then-pop_under
 returns-then-pop_under c front last same kind h =

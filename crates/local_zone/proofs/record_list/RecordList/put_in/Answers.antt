@@ -1,21 +1,13 @@
-use Rattle.std.proofs.Common.{◌≡◌, ◌+◌, ℕ, List, ◌++◌, ap, sym, subst, ◌∙◌}
+use Rattle.std.proofs.Common.{◌≡◌, ◌+◌, List, ◌++◌, ap, sym, subst, ◌∙◌}
 use Rattle.dns_text.specs.declared.record.Record.{Record}
-use Rattle.dns_name.specs.Labels.{Labels, octets_of}
 use Rattle.local_zone.specs.declared.taken.Taken.{Taken}
 use Rattle.local_zone.specs.CountsBelow.{count_below, counted, AreCounted, lies_below}
 use Rattle.local_zone.specs.Gaps.{records_of, put_back, AreApart}
 use Rattle.local_zone.specs.Index.{IsGrouped}
-use Rattle.local_zone.specs.declared.group.Group.{Group}
-use Rattle.local_zone.specs.Group.{records_held}
 use Rattle.local_zone.proofs.CountsBelowLaws.{counted_back}
 use Rattle.local_zone.proofs.GroupLaws.{grouped_joined}
+use Rattle.local_zone.proofs.Keyed.{items, octets}
 use Rattle.local_zone.proofs.record_list.RecordList.put_in.Goals as goal
-
-abbrev octets : Labels → List ℕ
-octets k = octets_of k
-
-abbrev items : Group → List Record
-items g = records_held g
 
 pub invariant_of-self-2 : goal.invariant_of-self-2
 invariant_of-self-2 c =

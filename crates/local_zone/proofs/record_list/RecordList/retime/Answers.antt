@@ -1,24 +1,16 @@
-use Rattle.std.proofs.Common.{◌≡◌, ℕ, List, map, not, ◌&&◌, ◌==◌, ap, sym, subst, ◌∙◌}
+use Rattle.std.proofs.Common.{◌≡◌, List, map, not, ◌&&◌, ◌==◌, ap, sym, subst, ◌∙◌}
 use Rattle.std.specs.List.{list_any}
 use Rattle.std.specs.Vec.{with_items}
 use Rattle.std.proofs.lemmas.List.{with_items_is}
 use Rattle.dns_text.specs.declared.record.Record.{Record}
-use Rattle.dns_name.specs.Labels.{Labels, octets_of}
 use Rattle.local_zone.specs.Change.{retimed_by}
 use Rattle.local_zone.specs.CountsBelow.{AreCounted, lies_below}
 use Rattle.local_zone.specs.Index.{IsGrouped}
 use Rattle.local_zone.specs.Tables.{is_of_set}
-use Rattle.local_zone.specs.declared.group.Group.{Group}
-use Rattle.local_zone.specs.Group.{records_held}
 use Rattle.local_zone.proofs.CountsBelowLaws.{counted_retimed}
 use Rattle.local_zone.proofs.RetimeLaws.{same-times}
+use Rattle.local_zone.proofs.Keyed.{items, octets}
 use Rattle.local_zone.proofs.record_list.RecordList.retime.Goals as goal
-
-abbrev octets : Labels → List ℕ
-octets k = octets_of k
-
-abbrev items : Group → List Record
-items g = records_held g
 
 pub returns-else-has_other_ttl : goal.returns-else-has_other_ttl
 returns-else-has_other_ttl c =

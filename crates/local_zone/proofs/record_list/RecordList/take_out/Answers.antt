@@ -1,23 +1,16 @@
 use Rattle.std.proofs.Common.{◌≡◌, ℕ, List, [], ◌∷◌, ◌-◌, ◌++◌, length, None, refl, ap, sym, subst, ◌∙◌, inl, arith}
 use Rattle.std.specs.List.{AllByRecursion}
-use Rattle.dns_name.specs.Labels.{octets_of, Labels}
+use Rattle.dns_name.specs.Labels.{octets_of}
 use Rattle.dns_text.specs.declared.record.Record.{Record}
 use Rattle.local_zone.specs.declared.taken.Taken.{Taken}
 use Rattle.local_zone.specs.CountsBelow.{count_below, counted, AreCounted, lies_below}
 use Rattle.local_zone.specs.Gaps.{records_of, at_gaps, rest_of, AreApart, AreWithin}
 use Rattle.local_zone.specs.Index.{of_owner, under, IsGrouped}
-use Rattle.local_zone.specs.declared.group.Group.{Group}
-use Rattle.local_zone.specs.Group.{records_held}
 use Rattle.local_zone.proofs.CountsBelowLaws.{counted_left}
 use Rattle.local_zone.proofs.GapLaws.{length_at}
 use Rattle.local_zone.proofs.GroupLaws.{parts}
+use Rattle.local_zone.proofs.Keyed.{items, octets}
 use Rattle.local_zone.proofs.record_list.RecordList.take_out.Goals as goal
-
-abbrev octets : Labels → List ℕ
-octets k = octets_of k
-
-abbrev items : Group → List Record
-items g = records_held g
 
 pub move_groups-requires-clause-room : goal.move_groups-requires-clause-room
 move_groups-requires-clause-room c =
