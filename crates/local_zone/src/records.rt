@@ -6,7 +6,7 @@ ghost use Rattle.local_zone.specs.Closest.{lies_in};
 ghost use Rattle.local_zone.specs.Gaps.{at_gaps, gaps_of, gaps_where, put_back, rest_of, AreApart, AreWithin};
 ghost use Rattle.std.specs.List.{Contains, list_any};
 ghost use Rattle.dns_text.specs.declared.record.Record.{Record};
-ghost use Rattle.local_zone.specs.Added.{ttl_of, records_before, records_need, records_other, GoesBack, IsTurned, PutsBack};
+ghost use Rattle.local_zone.specs.Added.{ttl_of, records_before, records_need, GoesBack, PutsBack, TurnsRecords};
 ghost use Rattle.local_zone.specs.declared.added.RecordTurn.TheVariants as RecordTurn;
 ghost use Rattle.local_zone.specs.Tables.{is_of_set};
 ghost use Rattle.local_zone.specs.Change.{is_there, records_with, with_record};
@@ -170,9 +170,7 @@ fn take_added(
     added: Added,
 ) -> RecordTurn
     requires { GoesBack (RecordTurn.Added added) records.old }
-    ensures list { records.new ≡ records_before added records.old }
-    ensures again { GoesBack result records.new × (records_other result records.new ≡ records.old) }
-    ensures turned { IsTurned (RecordTurn.Added added) result }
+    ensures turns { TurnsRecords (RecordTurn.Added added) records.old result records.new }
     ensures zoned { AreZoned zones.now records.old zoned.old → AreZoned zones.now records.new zoned.new }
 {
     take_back(zones, records, zoned, &added);
@@ -190,9 +188,7 @@ fn add_again(
     turn: &mut RecordTurn,
 ) -> Result<(), NoMemory>
     requires one_ttl { (r s : Record) → Contains records.old r → Contains records.old s → is_of_set r s ≡ true → r.ttl ≡ s.ttl }
-    ensures ok { OnOk result (records.new ≡ records_with new records.old) }
-    ensures again { OnOk result (GoesBack turn.new records.new × (records_other turn.new records.new ≡ records.old)) }
-    ensures turned { OnOk result (IsTurned (RecordTurn.Adds new) turn.new) }
+    ensures turns { OnOk result (TurnsRecords (RecordTurn.Adds new) records.old turn.new records.new) }
     ensures err { OnErr result ((records.new ≡ records.old) × (turn.new ≡ RecordTurn.Adds new)) }
     ensures zoned { AreZoned zones.now records.old zoned.old → AreZoned zones.now records.new zoned.new }
 {
@@ -240,9 +236,7 @@ fn put_again(
     turn: &mut RecordTurn,
 ) -> Result<(), NoMemory>
     requires { GoesBack (RecordTurn.Removed removed) records.old }
-    ensures ok { OnOk result (records.new ≡ put_back removed records.old) }
-    ensures again { OnOk result (GoesBack turn.new records.new × (records_other turn.new records.new ≡ records.old)) }
-    ensures turned { OnOk result (IsTurned (RecordTurn.Removed removed) turn.new) }
+    ensures turns { OnOk result (TurnsRecords (RecordTurn.Removed removed) records.old turn.new records.new) }
     ensures err { OnErr result ((records.new ≡ records.old) × (turn.new ≡ RecordTurn.Removed removed)) }
     ensures zoned { AreZoned zones.now records.old zoned.old → AreZoned zones.now records.new zoned.new }
 {
@@ -289,9 +283,7 @@ fn take_again(
     turn: &mut RecordTurn,
 ) -> Result<(), NoMemory>
     requires { GoesBack (RecordTurn.Removes gaps) records.old }
-    ensures ok { OnOk result (records.new ≡ rest_of gaps.items records.old) }
-    ensures again { OnOk result (GoesBack turn.new records.new × (records_other turn.new records.new ≡ records.old)) }
-    ensures turned { OnOk result (IsTurned (RecordTurn.Removes gaps) turn.new) }
+    ensures turns { OnOk result (TurnsRecords (RecordTurn.Removes gaps) records.old turn.new records.new) }
     ensures err { OnErr result ((records.new ≡ records.old) × (turn.new ≡ RecordTurn.Removes gaps)) }
     ensures zoned { AreZoned zones.now records.old zoned.old → AreZoned zones.now records.new zoned.new }
 {
@@ -317,9 +309,7 @@ pub(crate) fn turn_over(
 ) -> Result<(), NoMemory>
     requires goes { GoesBack turn.old records.old }
     requires one_ttl { (r s : Record) → Contains records.old r → Contains records.old s → is_of_set r s ≡ true → r.ttl ≡ s.ttl }
-    ensures ok { OnOk result (records.new ≡ records_other turn.old records.old) }
-    ensures again { OnOk result (GoesBack turn.new records.new × (records_other turn.new records.new ≡ records.old)) }
-    ensures turned { OnOk result (IsTurned turn.old turn.new) }
+    ensures turns { OnOk result (TurnsRecords turn.old records.old turn.new records.new) }
     ensures err { OnErr result ((records.new ≡ records.old) × (turn.new ≡ turn.old)) }
     ensures free { records_need turn.old ≡ false → IsOk result }
     ensures zoned { AreZoned zones.now records.old zoned.old → AreZoned zones.now records.new zoned.new }

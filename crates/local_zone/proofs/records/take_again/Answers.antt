@@ -1,12 +1,15 @@
-use Rattle.std.proofs.Common.{refl, ℕ, List, ap, ◌∙◌}
+use Rattle.std.proofs.Common.{◌≡◌, refl, ℕ, List, ap, ◌∙◌}
 use Rattle.local_zone.specs.Gaps.{at_gaps, rest_of}
 use Rattle.local_zone.proofs.GapLaws.{goes_out}
 use Rattle.local_zone.proofs.records.take_again.Goals as goal
 
-pub returns-in-Ok-clause-again : goal.returns-in-Ok-clause-again
-returns-in-Ok-clause-again c =
-    goes_out c.args.gaps.items c.args.records.now c.take_out.new.records c.in-Ok.removed c.requires.0 c.requires.1
-    (c.in-Ok.ensures.ok ∙ ap (λ (g : List ℕ). rest_of g c.args.records.now) c.as_slice.ensures.value) (c.in-Ok.ensures.removed ∙ ap (λ (g : List ℕ). at_gaps g c.args.records.now) c.as_slice.ensures.value)
-
-pub returns-in-Ok-clause-turned : goal.returns-in-Ok-clause-turned
-returns-in-Ok-clause-turned c = record { need = refl; need_after = refl; brings = refl; takes = refl }
+pub returns-in-Ok-clause-turns : goal.returns-in-Ok-clause-turns
+returns-in-Ok-clause-turns c =
+    let other : c.take_out.new.records ≡ rest_of c.args.gaps.items c.args.records.now = c.in-Ok.ensures.ok ∙ ap (λ (g : List ℕ). rest_of g c.args.records.now) c.as_slice.ensures.value in
+    let back = goes_out c.args.gaps.items c.args.records.now c.take_out.new.records c.in-Ok.removed c.requires.0 c.requires.1 other (c.in-Ok.ensures.removed ∙ ap (λ (g : List ℕ). at_gaps g c.args.records.now) c.as_slice.ensures.value) in
+    record {
+      other = other;
+      goes = back.0;
+      gives = back.1;
+      turned = record { need = refl; need_after = refl; brings = refl; takes = refl };
+    }

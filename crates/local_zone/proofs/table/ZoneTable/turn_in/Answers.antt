@@ -14,7 +14,7 @@ invariant_of-self-in-Ok c =
     let other : Tables = c.requires.takes.0 in
     let now : Tables = record { zones = c.put_zone_in.new.zones; records = c.turn_over.new.records } in
     let is : now ≡ other
-    = (λ i. record { zones = c.in_ok-put_zone_in.ensures.ok i; records = c.in-Ok.ensures.ok i }) ∙ ap (λ (t : Tables). before_of c.args.saved.now t) c.self.view_is ∙ c.requires.takes.1.gives in
+    = (λ i. record { zones = c.in_ok-put_zone_in.ensures.ok i; records = c.in-Ok.ensures.turns.other i }) ∙ ap (λ (t : Tables). before_of c.args.saved.now t) c.self.view_is ∙ c.requires.takes.1.gives in
     (subst (λ (t : Tables). AreTables t) (sym is) c.requires.takes.1.sound, c.in-Ok.ensures.zoned (c.in_ok-put_zone_in.ensures.zoned c.self.invariant.1))
 
 pub invariant_of-self-in-Err : goal.invariant_of-self-in-Err
@@ -46,10 +46,11 @@ returns-in-Err-clause-err c =
 pub returns-in-Ok-clause-turns : goal.returns-in-Ok-clause-turns
 returns-in-Ok-clause-turns c =
     let way = c.requires.takes.1 in
-    let turned = c.in-Ok.ensures.turned in
+    let turns = c.in-Ok.ensures.turns in
+    let turned = turns.turned in
     let now : Tables = record { zones = c.put_zone_in.new.zones; records = c.turn_over.new.records } in
     let other : now ≡ before_of c.args.saved.now c.args.self.now
-    = (λ i. record { zones = c.in_ok-put_zone_in.ensures.ok i; records = c.in-Ok.ensures.ok i }) ∙ ap (λ (t : Tables). before_of c.args.saved.now t) c.self.view_is in
+    = (λ i. record { zones = c.in_ok-put_zone_in.ensures.ok i; records = c.in-Ok.ensures.turns.other i }) ∙ ap (λ (t : Tables). before_of c.args.saved.now t) c.self.view_is in
     let is : now ≡ c.requires.takes.0 = other ∙ way.gives in
     let without = c.in_ok-put_zone_in.ensures.without in
     let was : c.args.saved.now.zones ≡ With without.0 without.1.0 = without.1.1.0 in
@@ -59,9 +60,9 @@ returns-in-Ok-clause-turns c =
     record {
       other = other;
       again = record {
-        gives = search rules;
+        gives = (λ i. record { zones = c.in_ok-put_zone_in.ensures.again.1 i; records = turns.gives i }) ∙ c.self.view_is;
         fits = search rules;
-        goes = search rules;
+        goes = turns.goes;
         sound = search rules;
         brings = λ back. subst (λ (t : Tables). IsRemoval c.args.self.now t) (sym is) (way.takes (sym turned.brings ∙ back));
         takes = λ away. subst (λ (t : Tables). IsRemoval t c.args.self.now) (sym is) (way.brings (sym turned.takes ∙ away));

@@ -24,17 +24,18 @@ returns-clause-turns c =
     let there = subst (λ (zs : List Zone). IsWayBack (λ (z : Zone). z.name) then' zs zones) c.turn_zone_out.ensures.list c.turn_zone_out.ensures.again in
     let puts = puts_taken (λ (z : Zone). z.name) first then' zones (other_of first zones) (fits, refl) there in
     let takes = takes_put (λ (z : Zone). z.name) first then' zones (other_of first zones) (fits, refl) there in
-    let turned = c.in_ok-turn_over.ensures.turned in
+    let turns = c.in_ok-turn_over.ensures.turns in
+    let turned = turns.turned in
     let now : Tables = record { zones = c.turn_zone_out.new.zones; records = c.turn_over.new.records } in
     let other : now ≡ before_of c.args.saved.now c.args.self.now
-    = (λ i. record { zones = c.turn_zone_out.ensures.list i; records = c.in_ok-turn_over.ensures.ok i }) ∙ ap (λ (t : Tables). before_of c.args.saved.now t) c.self.view_is in
+    = (λ i. record { zones = c.turn_zone_out.ensures.list i; records = c.in_ok-turn_over.ensures.turns.other i }) ∙ ap (λ (t : Tables). before_of c.args.saved.now t) c.self.view_is in
     let is : now ≡ c.requires.takes.0 = other ∙ way.gives in
     record {
       other = other;
       again = record {
-        gives = search rules;
+        gives = (λ i. record { zones = c.turn_zone_out.ensures.again.1 i; records = turns.gives i }) ∙ c.self.view_is;
         fits = search rules;
-        goes = search rules;
+        goes = turns.goes;
         sound = search rules;
         brings = λ back. subst (λ (t : Tables). IsRemoval c.args.self.now t) (sym is) (way.takes (sym turned.brings ∙ back));
         takes = λ away. subst (λ (t : Tables). IsRemoval t c.args.self.now) (sym is) (way.brings (sym turned.takes ∙ away));
