@@ -1,12 +1,11 @@
 //! The journal: a bounded ring of changes, for undo and redo.
 
-ghost use Rattle.std.specs.Prelude.{◌≡◌, ◌≤◌, ◌<◌, ◌^◌, ◌+◌, ◌-◌, ◌++◌, ◌∷◌, [], ℕ, false, List, length, take, filter, slice_get, vec_capacity, option_map, None, Some, IfOk, IfErr, IfSome, IfNone, IsOk, OnErr, OnOk};
+ghost use Rattle.std.specs.Prelude.{◌≡◌, ◌≤◌, ◌<◌, ◌^◌, ◌+◌, ◌-◌, ◌++◌, ◌∷◌, [], ℕ, false, length, take, filter, slice_get, vec_capacity, option_map, None, Some, IfOk, IfErr, IfSome, IfNone, IsOk, OnErr, OnOk};
 ghost use Rattle.change_law.specs.declared.kept.KeptChange.{KeptChange};
 ghost use Rattle.change_law.specs.declared.kept.Standing.TheVariants.{Done};
 ghost use Rattle.change_law.specs.Choice.{IsPresent, cleared, is_done};
 ghost use Rattle.change_law.specs.Effect.{effect, IsFaultFor};
-ghost use Rattle.change_law.specs.Pairs.{AddsPairs};
-ghost use Rattle.change_law.specs.Row.{IsRowAfter, same_face, where_chosen, kept_as, IsNoMore};
+ghost use Rattle.change_law.specs.Row.{kept_as, IsNoMore};
 
 use crate::outcome::{Outcome, TicketReach};
 use crate::reach::{is_done, leave_out, lies_on, lies_under};
@@ -45,10 +44,10 @@ impl<C: Change> Model for Journal<C> {
 }
 
 impl<C: Change> Journal<C> {
-    ghost use Rattle.undo_journal.specs.Journal.{AreChanges, AreChoicesBefore, CanBeRedone, CanBeUndone, IsChange, IsForgotten, IsPlaceOf, IsPutBack, IsReach, IsRedo, IsRedoOf, IsTakenBack, IsToldAfter, IsUndo, IsUndoOf, NeedsNone};
-    ghost use Rattle.undo_journal.specs.Journal.{done_of, first_of, in_effect, is_among, last_of, lies_on, lies_under, out_of_effect, settled_by, tickets_of};
-    ghost use Rattle.undo_journal.specs.Moving.{ChangesNothing, MovesStandings};
-    ghost use Rattle.undo_journal.specs.Needs.{IsNeededAfter, UndoNeedsNone};
+    ghost use Rattle.undo_journal.specs.Journal.{AreChanges, CanBeRedone, CanBeUndone, IsForgotten, IsPlaceOf, IsPutBack, IsReach, IsRedo, IsRedoOf, IsTakenBack, IsUndo, IsUndoOf, NeedsNone};
+    ghost use Rattle.undo_journal.specs.Journal.{done_of, first_of, in_effect, is_among, last_of, lies_on, lies_under, out_of_effect, tickets_of};
+    ghost use Rattle.undo_journal.specs.Moving.{ChangesNothing, MovesStandings, SettlesFront, ShowsChange, StoresNoMore, TakesChange};
+    ghost use Rattle.undo_journal.specs.Needs.{UndoNeedsNone};
 
     /// An empty journal, which keeps at most `limit` changes. It takes all its memory here.
     pub fn new(alloc: Global, limit: usize) -> Result<Journal<C>, NoMemory>
@@ -151,21 +150,13 @@ impl<C: Change> Journal<C> {
         requires keeps { C.World.keeps world.old self.old.kept }
         requires tickets { (C.World.newest world.old ≤ self.old.tickets) × (self.old.tickets < 2 ^ 62) }
         ensures reason { OnOk result (C.reason change (C.World.shown world.old).tables ≡ None) }
-        ensures ticket { IfOk result (λ ticket. IsChange self.old ticket self.new
-            × IsToldAfter C.World.told self.old ticket (C.told change) self.new
-            × IsToldAfter C.World.table self.old ticket (C.table change) self.new
-            × IsNeededAfter C.World.needs_memory C.World.needs_memory_after self.old ticket
+        ensures ticket { IfOk result (λ ticket. TakesChange C.World.World self.old ticket (C.told change) (C.table change)
             (C.removes change (C.World.shown world.old).tables) self.new) }
-
-        // A choice that agrees with the settled changes has the face that it had, with the effect of the change if that is chosen.
-        ensures row { IfOk result (λ ticket. IsRowAfter C.World.table C.World.keeps C.World.face
-            (where_chosen ticket (effect (C.after change) (C.empties change))) (IsPresent (settled_by self.old))
-            world.old self.old.kept world.new self.new.kept
-            × AreChoicesBefore C.World.table (IsPresent (settled_by self.old)) self.old self.new) }
+        ensures row { IfOk result (λ ticket. ShowsChange C.World.World ticket (effect (C.after change) (C.empties change))
+            world.old self.old world.new self.new) }
         ensures err { IfErr result (λ fault. IsFaultFor (C.reason change (C.World.shown world.old).tables) fault) }
         ensures same { OnErr result (ChangesNothing C.World.World world.old self.old world.new self.new) }
-        ensures counts { (C.World.newest world.new ≤ self.new.tickets) × (C.World.stored world.new ≤ C.World.stored world.old)
-            × (C.World.limit world.new ≡ C.World.limit world.old) × AddsPairs C.World.counts [] world.old world.new }
+        ensures counts { StoresNoMore C.World.World self.new.tickets world.old world.new }
     {
         let ticket = self.tickets + 1;
         let saved = change.apply(world, ticket)?;
@@ -359,9 +350,8 @@ impl<C: Change> Journal<C> {
     // Settles the undone changes.
     fn clear(&mut self, world: &mut C::World)
         ensures kept { self.new ≡ record self.old { kept = in_effect self.old.kept; undone = [] } }
-        ensures row { (tail : List (KeptChange C.World.Saved)) → C.World.keeps world.old (cleared self.old.kept ++ tail) →
-            IsRowAfter C.World.table C.World.keeps C.World.face same_face (IsPresent (out_of_effect self.old.kept))
-            world.old (cleared self.old.kept ++ tail) world.new (self.new.kept ++ tail) }
+        ensures row { SettlesFront C.World.World (IsPresent (out_of_effect self.old.kept))
+            world.old (cleared self.old.kept) world.new self.new.kept }
         ensures counts { IsNoMore C.World.newest C.World.stored C.World.limit C.World.counts world.old world.new }
         ensures sound { AreChanges C.World.table self.old }
     {
@@ -376,10 +366,8 @@ impl<C: Change> Journal<C> {
     fn forget(&mut self, world: &mut C::World)
         requires { self.old.undone ≡ [] }
         ensures kept { IsForgotten self.old self.new }
-        ensures row { (tail : List (KeptChange C.World.Saved)) → C.World.keeps world.old (self.old.kept ++ tail) →
-            IsRowAfter C.World.table C.World.keeps C.World.face same_face
-            (IsPresent (take (length self.old.kept + 1 - self.old.limit) self.old.kept))
-            world.old (self.old.kept ++ tail) world.new (self.new.kept ++ tail) }
+        ensures row { SettlesFront C.World.World (IsPresent (take (length self.old.kept + 1 - self.old.limit) self.old.kept))
+            world.old self.old.kept world.new self.new.kept }
         ensures counts { IsNoMore C.World.newest C.World.stored C.World.limit C.World.counts world.old world.new }
     {
         if self.ring.is_full() {
