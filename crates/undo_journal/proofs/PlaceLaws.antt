@@ -69,20 +69,24 @@ module _ {S : Type 0} (table : S → Option ℕ) (kept : List (KeptChange S)) (p
     there_are : AreChanges table (changes_at (at.earlier ++ k ∷ at.later) undone tickets limit)
     there_are = subst (λ (l : List (KeptChange S)). AreChanges table (changes_at l undone tickets limit)) at.all are
 
+    -- what is so of the changes with another at the place, and with another list of the undone
+    placed : (Q : Changes S → Type 0) (k' : KeptChange S) (left : List ℕ) → undone' ≡ left → Q (changes_at (at.earlier ++ k' ∷ at.later) left tickets limit) → Q (changes_at (slice_set kept place k') undone' tickets limit)
+    placed Q k' left e h =
+        subst (λ (l : List (KeptChange S)). Q (changes_at l undone' tickets limit)) (sym (at.written k'))
+        (subst (λ (l : List ℕ). Q (changes_at (at.earlier ++ k' ∷ at.later) l tickets limit)) (sym e) h)
+
     pub taken_are : CanBeUndone table kept place → undone' ≡ undone ++ k.ticket ∷ [] → AreChanges table (changes_at (slice_set kept place (kept_as Undone k.ticket saved)) undone' tickets limit)
     unfolding there_are
     taken_are can e =
-        subst (λ (l : List (KeptChange S)). AreChanges table (changes_at l undone' tickets limit)) (sym (at.written (kept_as Undone k.ticket saved)))
-        (subst (λ (l : List ℕ). AreChanges table (changes_at (at.earlier ++ kept_as Undone k.ticket saved ∷ at.later) l tickets limit)) (sym e)
-        (struck_are table k (kept_as Undone k.ticket saved) refl same at.earlier at.later undone tickets limit (here_done can).0 refl (here_done can).1 there_are))
+        placed (λ x. AreChanges table x) (kept_as Undone k.ticket saved) (undone ++ k.ticket ∷ []) e
+        (struck_are table k (kept_as Undone k.ticket saved) refl same at.earlier at.later undone tickets limit (here_done can).0 refl (here_done can).1 there_are)
 
     pub taken_is : CanBeUndone table kept place → undone' ≡ undone ++ k.ticket ∷ [] → IsTakenBack (changes_at kept undone tickets limit) k.ticket (changes_at (slice_set kept place (kept_as Undone k.ticket saved)) undone' tickets limit)
     unfolding there_are
     taken_is can e =
-        subst (λ (l : List (KeptChange S)). IsTakenBack (changes_at l undone tickets limit) k.ticket (changes_at (slice_set kept place (kept_as Undone k.ticket saved)) undone' tickets limit)) (sym at.all)
-        (subst (λ (l : List (KeptChange S)). IsTakenBack (changes_at (at.earlier ++ k ∷ at.later) undone tickets limit) k.ticket (changes_at l undone' tickets limit)) (sym (at.written (kept_as Undone k.ticket saved)))
-        (subst (λ (l : List ℕ). IsTakenBack (changes_at (at.earlier ++ k ∷ at.later) undone tickets limit) k.ticket (changes_at (at.earlier ++ kept_as Undone k.ticket saved ∷ at.later) l tickets limit)) (sym e)
-        (struck_is table k (kept_as Undone k.ticket saved) refl same at.earlier at.later undone tickets limit (here_done can).0 refl there_are)))
+        placed (λ x. IsTakenBack (changes_at kept undone tickets limit) k.ticket x) (kept_as Undone k.ticket saved) (undone ++ k.ticket ∷ []) e
+        (subst (λ (l : List (KeptChange S)). IsTakenBack (changes_at l undone tickets limit) k.ticket (changes_at (at.earlier ++ kept_as Undone k.ticket saved ∷ at.later) (undone ++ k.ticket ∷ []) tickets limit)) (sym at.all)
+        (struck_is table k (kept_as Undone k.ticket saved) refl same at.earlier at.later undone tickets limit (here_done can).0 refl there_are))
 
     -- the list of the undone has room for one more
     pub undone_fit : CanBeUndone table kept place → length undone < limit
@@ -92,17 +96,15 @@ module _ {S : Type 0} (table : S → Option ℕ) (kept : List (KeptChange S)) (p
     pub put_are : CanBeRedone table kept place → undone' ≡ without k.ticket undone → AreChanges table (changes_at (slice_set kept place (kept_as Done k.ticket saved)) undone' tickets limit)
     unfolding there_are
     put_are can e =
-        subst (λ (l : List (KeptChange S)). AreChanges table (changes_at l undone' tickets limit)) (sym (at.written (kept_as Done k.ticket saved)))
-        (subst (λ (l : List ℕ). AreChanges table (changes_at (at.earlier ++ kept_as Done k.ticket saved ∷ at.later) l tickets limit)) (sym e)
-        (back_are table k (kept_as Done k.ticket saved) refl same at.earlier at.later undone tickets limit (here_undone can).0 refl (here_undone can).1 there_are))
+        placed (λ x. AreChanges table x) (kept_as Done k.ticket saved) (without k.ticket undone) e
+        (back_are table k (kept_as Done k.ticket saved) refl same at.earlier at.later undone tickets limit (here_undone can).0 refl (here_undone can).1 there_are)
 
     pub put_is : CanBeRedone table kept place → undone' ≡ without k.ticket undone → IsPutBack (changes_at kept undone tickets limit) k.ticket (changes_at (slice_set kept place (kept_as Done k.ticket saved)) undone' tickets limit)
     unfolding there_are
     put_is can e =
-        subst (λ (l : List (KeptChange S)). IsPutBack (changes_at l undone tickets limit) k.ticket (changes_at (slice_set kept place (kept_as Done k.ticket saved)) undone' tickets limit)) (sym at.all)
-        (subst (λ (l : List (KeptChange S)). IsPutBack (changes_at (at.earlier ++ k ∷ at.later) undone tickets limit) k.ticket (changes_at l undone' tickets limit)) (sym (at.written (kept_as Done k.ticket saved)))
-        (subst (λ (l : List ℕ). IsPutBack (changes_at (at.earlier ++ k ∷ at.later) undone tickets limit) k.ticket (changes_at (at.earlier ++ kept_as Done k.ticket saved ∷ at.later) l tickets limit)) (sym e)
-        (back_is table k (kept_as Done k.ticket saved) refl same at.earlier at.later undone tickets limit (here_undone can).0 refl there_are)))
+        placed (λ x. IsPutBack (changes_at kept undone tickets limit) k.ticket x) (kept_as Done k.ticket saved) (without k.ticket undone) e
+        (subst (λ (l : List (KeptChange S)). IsPutBack (changes_at l undone tickets limit) k.ticket (changes_at (at.earlier ++ kept_as Done k.ticket saved ∷ at.later) (without k.ticket undone) tickets limit)) (sym at.all)
+        (back_is table k (kept_as Done k.ticket saved) refl same at.earlier at.later undone tickets limit (here_undone can).0 refl there_are))
 
 -- ---- an undo or a redo at a place, by what the journal is before it
 
