@@ -18,4 +18,5 @@ pub mod Phase
 pub mod Admitting
 pub mod Joining
 pub mod Hunting
+pub mod Going
 pub mod Task

@@ -8,11 +8,12 @@ ghost use Rattle.dns_query.specs.Query.{address_question};
 ghost use Rattle.ranked.specs.declared.find.Find.{Find};
 ghost use Rattle.iterate.specs.Exchanges.{Exchange};
 ghost use Rattle.iterate.specs.Following.{FollowsHarvest, IsHarvestOf, TellsDenial};
-ghost use Rattle.iterate.specs.Hunting.{AreReferred, AsksOneOf, IsSmaller, Supplies};
+ghost use Rattle.iterate.specs.Going.{Concludes, FollowsReferral};
+ghost use Rattle.iterate.specs.Hunting.{AreReferred, IsSmaller, Supplies};
 ghost use Rattle.iterate.specs.Judged.{IsAddressOf};
 ghost use Rattle.iterate.specs.Known.{servers_referred};
 ghost use Rattle.iterate.specs.Measure.{left_of_hearing};
-ghost use Rattle.iterate.specs.Phase.{Advances, IsHearing, drawing};
+ghost use Rattle.iterate.specs.Phase.{IsHearing, drawing};
 ghost use Rattle.iterate.specs.Searching.{hunt_of, question_of};
 
 use crate::addresses::addresses;
@@ -79,10 +80,8 @@ fn conclude_last<R: Rng>(
     ensures answers { heard.says ≡ Says.Answers → IfOk result (λ next. FollowsHarvest heard.harvest search.path moment next.want) }
     ensures denies { (rcode : ℕ) (negative : Option Find) → heard.says ≡ Says.Denies rcode negative
         → IfOk result (λ next. TellsDenial search.path rcode negative next.want) }
-    ensures refers { (referral : ReferralValue) → heard.says ≡ Says.Refers referral → search.path.sent < MOST_SENDS
-        → IfOk result (λ next. AsksOneOf referral.addrs next.want) }
-    ensures goes { (port : ℕ) (question : Question) (log : List Exchange) (allowed : ℕ) → IsHearing port question log search heard allowed
-        → IfOk result (Advances port question log moment (drawing (R.stream ids.old) (R.stream ids.new)) (left_of_hearing search.path 1)) }
+    ensures refers { FollowsReferral search heard result }
+    ensures goes { (port : ℕ) → Concludes search heard port moment (drawing (R.stream ids.old) (R.stream ids.new)) result }
 {
     let Heard { harvest, says } = heard;
     match says {
@@ -134,11 +133,8 @@ fn conclude_frame<R: Rng>(
     heard: Heard,
 ) -> Result<Advance, NoMemory>
     requires { 0 < length search.frames.items }
-    ensures refers { (referral : ReferralValue) → heard.says ≡ Says.Refers referral → search.path.sent < MOST_SENDS
-        → IfOk result (λ next. AsksOneOf referral.addrs next.want) }
-    ensures goes { (question : Question) (log : List Exchange) (allowed : ℕ) → IsHearing port question log search heard allowed
-        → IfOk result (Advances port question log moment (drawing (R.stream ids.old) (R.stream ids.new))
-        (left_of_hearing search.path 1)) }
+    ensures refers { FollowsReferral search heard result }
+    ensures goes { Concludes search heard port moment (drawing (R.stream ids.old) (R.stream ids.new)) result }
 {
     let after = search_behind(alloc, port, search, heard)?;
     go_on(alloc, ids, moment, after)
@@ -154,8 +150,7 @@ pub(crate) fn conclude<R: Rng>(
     search: Search,
     heard: Heard,
 ) -> Result<Advance, NoMemory>
-    ensures { (question : Question) (log : List Exchange) (allowed : ℕ) → IsHearing port question log search heard allowed
-        → IfOk result (Advances port question log moment (drawing (R.stream ids.old) (R.stream ids.new)) (left_of_hearing search.path 1)) }
+    ensures { Concludes search heard port moment (drawing (R.stream ids.old) (R.stream ids.new)) result }
 {
     if search.frames.is_empty() {
         return conclude_last(alloc, moment, ids, search, heard);

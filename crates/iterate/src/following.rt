@@ -6,16 +6,16 @@ ghost use Rattle.dns_query.specs.Query.{alias_question};
 ghost use Rattle.harvest.specs.declared.harvest_type.Harvest.{Harvest as HarvestValue};
 ghost use Rattle.history.specs.declared.event.Ask.TheVariants.{Answer as Asked};
 ghost use Rattle.history.specs.declared.event.Event.TheVariants.{Look};
-ghost use Rattle.iterate.specs.declared.want.Input.{Input as InputValue};
 ghost use Rattle.iterate.specs.declared.want.Want.TheVariants.{Book};
 ghost use Rattle.iterate.specs.Come.{HasCome};
-ghost use Rattle.iterate.specs.Exchanges.{Exchange, AddsLook};
+ghost use Rattle.iterate.specs.Exchanges.{Exchange};
 ghost use Rattle.iterate.specs.Following.{told_by, IsHarvestOf, IsHadIfSome, IsToldBy, HasTold};
 ghost use Rattle.iterate.specs.Following.{IsAliasHop, IsHop, IsAnswering, FollowsHarvest};
+ghost use Rattle.iterate.specs.Going.{GoesOnBehind, GoesOnSeeing, IsFollowing};
 ghost use Rattle.iterate.specs.Told.{IsTarget};
-ghost use Rattle.iterate.specs.Looked.{seen_of, IsReplied};
+ghost use Rattle.iterate.specs.Looked.{seen_of};
 ghost use Rattle.iterate.specs.Measure.{left_of_hearing, left_of_path};
-ghost use Rattle.iterate.specs.Phase.{Advances, LooksAt, Suits, idle};
+ghost use Rattle.iterate.specs.Phase.{Advances, LooksAt, idle};
 ghost use Rattle.iterate.specs.Searching.{IsAskable, IsBehind, IsUnasked};
 ghost use Rattle.rand_core.specs.Stream.{Stream};
 
@@ -193,10 +193,7 @@ fn seen_behind(
     moment: u64,
     what: Looked<'_>,
 ) -> Result<Advance, NoMemory>
-    ensures { (port m : ℕ) (ids : Stream) (question : Question) (input : InputValue) (before log : List Exchange)
-        → IsBehind port question before path → IsHarvestOf port before harvest.value
-        → IsReplied path.last input (seen_of what.entry) → AddsLook before m (Asked path.last) input log
-        → IfOk result (Advances port question log moment (idle ids) (left_of_path path 4)) }
+    ensures { GoesOnSeeing (IsFollowing harvest.value) path path.last (seen_of what.entry) moment 4 result }
 {
     match what {
         Looked::Unknown => follow_in(alloc, path, harvest, moment),
@@ -212,10 +209,7 @@ pub(crate) fn followed(
     moment: u64,
     input: &Input,
 ) -> Result<Advance, NoMemory>
-    ensures { (port m : ℕ) (ids : Stream) (question : Question) (before log : List Exchange) → IsBehind port question before path
-        → IsHarvestOf port before harvest.value → AddsLook before m (Asked path.last) input.now log
-        → Suits (Book (Look m (Asked path.last))) input.now
-        → IfOk result (Advances port question log moment (idle ids) (left_of_path path 4)) }
+    ensures { GoesOnBehind (IsFollowing harvest.value) path path.last input.now moment 4 result }
 {
     match replied(input, &path.last.owner, path.last.kind) {
         Some(what) => seen_behind(alloc, path, harvest, moment, what),

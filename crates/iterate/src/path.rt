@@ -6,15 +6,15 @@ ghost use Rattle.history.specs.declared.event.Ask.TheVariants.{Answer as Asked};
 ghost use Rattle.history.specs.declared.event.Event.TheVariants.{Look};
 ghost use Rattle.history.specs.declared.event.Reply.TheVariants.{Seen as SeenReply};
 ghost use Rattle.history.specs.declared.event.Seen.TheVariants.{Local as SeenLocal};
-ghost use Rattle.iterate.specs.declared.want.Input.{Input as InputValue};
 ghost use Rattle.iterate.specs.declared.want.Input.TheVariants.{Reply as Replied};
 ghost use Rattle.iterate.specs.declared.want.Want.TheVariants.{Book};
 ghost use Rattle.dns_query.specs.Query.{alias_question};
 ghost use Rattle.iterate.specs.Exchanges.{Exchange, AddsLook};
+ghost use Rattle.iterate.specs.Going.{GoesOnBehind, GoesOnFrom, GoesOnSeeing};
 ghost use Rattle.iterate.specs.Known.{Known, Had};
-ghost use Rattle.iterate.specs.Looked.{seen_of, IsReplied, IsSetSeen};
+ghost use Rattle.iterate.specs.Looked.{seen_of, IsSetSeen};
 ghost use Rattle.iterate.specs.Measure.{left_of_path};
-ghost use Rattle.iterate.specs.Phase.{Advances, LooksAt, Suits, idle};
+ghost use Rattle.iterate.specs.Phase.{Advances, LooksAt, idle};
 ghost use Rattle.iterate.specs.Room.{LeadsOn};
 ghost use Rattle.iterate.specs.Searching.{IsBehind, IsUnasked, IsLonger};
 ghost use Rattle.iterate.specs.Shown.{IsLocalFor};
@@ -50,8 +50,7 @@ pub struct Path {
 
 /// Looks up the servers that are asked about the last question.
 pub(crate) fn list(alloc: Global, path: Path, moment: u64) -> Result<Advance, NoMemory>
-    ensures { (port : ℕ) (ids : Stream) (question : Question) (log : List Exchange) → IsUnasked port question log path
-        → IfOk result (Advances port question log moment (idle ids) (left_of_path path 2)) }
+    ensures { GoesOnFrom IsUnasked path moment 2 result }
 {
     let name = served_name(alloc, &path.last)?;
     Ok(Advance {
@@ -65,8 +64,7 @@ pub(crate) fn list(alloc: Global, path: Path, moment: u64) -> Result<Advance, No
 
 /// Looks up an alias of the last name, unless the question asks for CNAME records.
 pub(crate) fn alias(alloc: Global, path: Path, moment: u64) -> Result<Advance, NoMemory>
-    ensures { (port : ℕ) (ids : Stream) (question : Question) (log : List Exchange) → IsUnasked port question log path
-        → IfOk result (Advances port question log moment (idle ids) (left_of_path path 3)) }
+    ensures { GoesOnFrom IsUnasked path moment 3 result }
 {
     if path.last.kind == CNAME {
         return list(alloc, path, moment);
@@ -84,8 +82,7 @@ pub(crate) fn alias(alloc: Global, path: Path, moment: u64) -> Result<Advance, N
 /// Looks up the question behind an alias.
 pub(crate) fn look_on(path: Path, moment: u64) -> Result<Advance, NoMemory>
     ensures want { IfOk result (λ next. next.want ≡ Book (Look moment (Asked path.last))) }
-    ensures goes { (port : ℕ) (ids : Stream) (question : Question) (log : List Exchange) → IsBehind port question log path
-        → IfOk result (Advances port question log moment (idle ids) (left_of_path path 4)) }
+    ensures goes { GoesOnFrom IsBehind path moment 4 result }
 {
     let owner = path.last.owner.clone()?;
     let kind = path.last.kind;
@@ -159,10 +156,7 @@ fn alias_told(alloc: Global, path: Path, told: AnswerSet, moment: u64) -> Result
 fn alias_seen(alloc: Global, path: Path, moment: u64, what: Looked<'_>) -> Result<Advance, NoMemory>
     ensures follows { (told : AnswerSet) (to : Labels) → IsSetSeen (seen_of what.entry) told → IsTarget told to
         → length path.sets.items < MOST_ALIASES → IfOk result (LooksAt path to moment) }
-    ensures goes { (port m : ℕ) (ids : Stream) (question : Question) (input : InputValue) (before log : List Exchange)
-        → IsUnasked port question before path → IsReplied (alias_question path.last.owner) input (seen_of what.entry)
-        → AddsLook before m (Asked (alias_question path.last.owner)) input log
-        → IfOk result (Advances port question log moment (idle ids) (left_of_path path 2)) }
+    ensures goes { GoesOnSeeing IsUnasked path (alias_question path.last.owner) (seen_of what.entry) moment 2 result }
 {
     match set_in(alloc, what)? {
         Some(told) => alias_told(alloc, path, told, moment),
@@ -178,10 +172,7 @@ pub(crate) fn aliased(
     input: &Input,
 ) -> Result<Advance, NoMemory>
     ensures follows { (to : Labels) → LeadsOn path input.now to → IfOk result (LooksAt path to moment) }
-    ensures goes { (port m : ℕ) (ids : Stream) (question : Question) (before log : List Exchange) → IsUnasked port question before path
-        → AddsLook before m (Asked (alias_question path.last.owner)) input.now log
-        → Suits (Book (Look m (Asked (alias_question path.last.owner)))) input.now
-        → IfOk result (Advances port question log moment (idle ids) (left_of_path path 2)) }
+    ensures goes { GoesOnBehind IsUnasked path (alias_question path.last.owner) input.now moment 2 result }
 {
     match replied(input, &path.last.owner, CNAME) {
         Some(what) => alias_seen(alloc, path, moment, what),
@@ -213,10 +204,7 @@ pub(crate) fn seen_on(
     moment: u64,
     what: Looked<'_>,
 ) -> Result<Advance, NoMemory>
-    ensures { (port m : ℕ) (ids : Stream) (question : Question) (input : InputValue) (before log : List Exchange)
-        → IsBehind port question before path → IsReplied path.last input (seen_of what.entry)
-        → AddsLook before m (Asked path.last) input log
-        → IfOk result (Advances port question log moment (idle ids) (left_of_path path 3)) }
+    ensures { GoesOnSeeing IsBehind path path.last (seen_of what.entry) moment 3 result }
 {
     match what {
         Looked::Unknown => alias(alloc, path, moment),
@@ -232,10 +220,7 @@ pub(crate) fn looked_on(
     moment: u64,
     input: &Input,
 ) -> Result<Advance, NoMemory>
-    ensures { (port m : ℕ) (ids : Stream) (question : Question) (before log : List Exchange)
-        → IsBehind port question before path → AddsLook before m (Asked path.last) input.now log
-        → Suits (Book (Look m (Asked path.last))) input.now
-        → IfOk result (Advances port question log moment (idle ids) (left_of_path path 3)) }
+    ensures { GoesOnBehind IsBehind path path.last input.now moment 3 result }
 {
     match replied(input, &path.last.owner, path.last.kind) {
         Some(what) => seen_on(alloc, path, moment, what),

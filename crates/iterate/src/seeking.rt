@@ -13,10 +13,11 @@ ghost use Rattle.history.specs.declared.event.Reply.TheVariants.{Seen as SeenRep
 ghost use Rattle.iterate.specs.declared.want.Input.TheVariants.{Reply as Replied};
 ghost use Rattle.iterate.specs.declared.want.Want.TheVariants.{Book};
 ghost use Rattle.iterate.specs.Exchanges.{Exchange, AddsLook};
+ghost use Rattle.iterate.specs.Going.{SeeksOn};
 ghost use Rattle.iterate.specs.Hunting.{AreSpent, AsksOneOf, AsksSeen, IsAddressSeen, IsTried, Names, is_set_seen};
 ghost use Rattle.iterate.specs.Looked.{seen_of};
 ghost use Rattle.iterate.specs.Measure.{left_of_search, left_of_seek};
-ghost use Rattle.iterate.specs.Phase.{Advances, Suits, IsSeeking, ask_at, drawing, idle};
+ghost use Rattle.iterate.specs.Phase.{Advances, IsSeeking, ask_at, drawing, idle};
 ghost use Rattle.iterate.specs.Searching.{hunt_of};
 ghost use Rattle.iterate.specs.Shown.{IsLookReply};
 ghost use Rattle.rand_core.specs.Stream.{Stream};
@@ -151,9 +152,7 @@ fn address_came<R: Rng>(
     target: Name,
     input: &Input,
 ) -> Result<Advance, NoMemory>
-    ensures { (m : ℕ) (question : Question) (before log : List Exchange) → IsSeeking port question before search target Stage.Address
-        → AddsLook before m (ask_at Stage.Address target) input.now log → Suits (Book (Look m (ask_at Stage.Address target))) input.now
-        → IfOk result (Advances port question log moment (drawing (R.stream ids.old) (R.stream ids.new)) (left_of_search search 3)) }
+    ensures { SeeksOn search target Stage.Address port input.now moment (drawing (R.stream ids.old) (R.stream ids.new)) result }
 {
     match replied(input, &target, A) {
         Some(what) => address_seen(alloc, port, ids, moment, search, target, what),
@@ -184,12 +183,8 @@ fn alias_came<R: Rng>(
     ensures asks { (seen : SeenValue) → input.now ≡ Replied (SeenReply seen)
         → IsLookReply (Asked (alias_question target)) (SeenReply seen) → is_set_seen seen ≡ false
         → IfOk result (λ next. next.want ≡ Book (Look moment (ServersFor target))) }
-    ensures goes { (port m : ℕ) (question : Question) (before log : List Exchange)
-        → IsSeeking port question before search target Stage.Alias
-        → AddsLook before m (ask_at Stage.Alias target) input.now log
-        → Suits (Book (Look m (ask_at Stage.Alias target))) input.now
-        → IfOk result (Advances port question log moment (drawing (R.stream ids.old) (R.stream ids.new))
-        (left_of_seek search Stage.Alias)) }
+    ensures goes { (port : ℕ) → SeeksOn search target Stage.Alias port input.now moment
+        (drawing (R.stream ids.old) (R.stream ids.new)) result }
 {
     match replied(input, &target, CNAME) {
         Some(what) => {
@@ -215,12 +210,8 @@ fn servers_came<R: Rng>(
 ) -> Result<Advance, NoMemory>
     ensures asks { (list : ServersValue) → Names target input.now list → search.path.sent < MOST_SENDS
         → IfOk result (λ next. AsksOneOf list.addrs next.want) }
-    ensures goes { (port m : ℕ) (question : Question) (before log : List Exchange)
-        → IsSeeking port question before search target Stage.Servers
-        → AddsLook before m (ask_at Stage.Servers target) input.now log
-        → Suits (Book (Look m (ask_at Stage.Servers target))) input.now
-        → IfOk result (Advances port question log moment (drawing (R.stream ids.old) (R.stream ids.new))
-        (left_of_seek search Stage.Servers)) }
+    ensures goes { (port : ℕ) → SeeksOn search target Stage.Servers port input.now moment
+        (drawing (R.stream ids.old) (R.stream ids.new)) result }
 {
     match servers_for(&target, input) {
         Some(servers) => {
@@ -243,9 +234,7 @@ pub(crate) fn sought<R: Rng>(
     stage: Stage,
     input: &Input,
 ) -> Result<Advance, NoMemory>
-    ensures { (m : ℕ) (question : Question) (before log : List Exchange) → IsSeeking port question before search target stage
-        → AddsLook before m (ask_at stage target) input.now log → Suits (Book (Look m (ask_at stage target))) input.now
-        → IfOk result (Advances port question log moment (drawing (R.stream ids.old) (R.stream ids.new)) (left_of_seek search stage)) }
+    ensures { SeeksOn search target stage port input.now moment (drawing (R.stream ids.old) (R.stream ids.new)) result }
 {
     match stage {
         Stage::Address => address_came(alloc, port, ids, moment, search, target, input),

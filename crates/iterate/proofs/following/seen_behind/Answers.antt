@@ -14,12 +14,12 @@ use Rattle.iterate.proofs.PathTurns.{less_left, looks_less}
 use Rattle.iterate.proofs.following.seen_behind.Goals as goal
 
 pub returns-in-Unknown : goal.returns-in-Unknown
-returns-in-Unknown c = λ port m id question input before log b h replied adds.
+returns-in-Unknown c = λ port m id question input before log f replied adds.
     let here = subst (λ (w : Looked). IsReplied c.args.path.last input (seen_of w)) c.in-Unknown.is replied in
     let none = subst (λ (i : Input). Adds before (exchange (Book (Look m (Asked c.args.path.last))) i) log) here.replied adds in
-    c.follow_in.ensures.goes port id question log (harvest_more h adds) (unasked_looked b none)
+    c.follow_in.ensures.goes port id question log (harvest_more f.1 adds) (unasked_looked f.0 none)
 
 pub returns-in_default : goal.returns-in_default
-returns-in_default c = λ port m id question input before log b h replied adds.
+returns-in_default c = λ port m id question input before log f replied adds.
     let less = looks_less c.args.path 3 4 (omega arith) (omega arith) in
-    IfOk-weaker c.seen_on.result _ _ (λ t g. less_left (few_is less) g) (c.seen_on.ensures port m id question input before log b replied adds)
+    IfOk-weaker c.seen_on.result _ _ (λ t g. less_left (few_is less) g) (c.seen_on.ensures port m id question input before log f.0 replied adds)

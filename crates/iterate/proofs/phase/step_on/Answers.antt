@@ -36,7 +36,7 @@ returns-in-Looking-clause-goes g c = rw c.in-Looking.is (λ before log want f su
 
 pub returns-in-Following-clause-goes : goal.returns-in-Following-clause-goes
 returns-in-Following-clause-goes g c = rw c.in-Following.is (λ before log want f suits adds.
-    c.followed.ensures c.args.port f.2.moment _ c.args.question.now before log f.0 f.1
+    c.followed.ensures c.args.port f.2.moment _ c.args.question.now before log (f.0, f.1)
     (subst (λ (w : Want). Adds before (exchange w c.args.input.now) log) f.2.wanted adds)
     (subst (λ (w : Want). Suits w c.args.input.now) f.2.wanted suits))
 
