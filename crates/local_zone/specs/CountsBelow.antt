@@ -1,5 +1,5 @@
 -- How many records lie strictly below a name, and how many of them lie in zones strictly below it.
-use Rattle.std.specs.Prelude.{◌≡◌, ◌<◌, ℕ, Bool, false, ◌&&◌, not, List, length, nat_le, Option, None, Some, unwrap_or}
+use Rattle.std.specs.Prelude.{◌≡◌, ◌+◌, ◌-◌, ◌<◌, ℕ, Bool, false, ◌&&◌, not, List, length, nat_le, Option, None, Some, unwrap_or}
 use Rattle.std.specs.List.{filter}
 use Rattle.dns_name.specs.Labels.{Labels, octets_of}
 use Rattle.dns_name.specs.Order.{name_eq}
@@ -54,6 +54,18 @@ count_under octets spelled counts = unwrap_or (under octets spelled counts) 0
 -- the count of a name
 abbrev pub counted : Labels → List (List ℕ × ℕ) → ℕ
 counted name counts = count_under (λ octets. octets) (octets_of name) counts
+
+-- The count of each name is so much more than it was.
+abbrev pub CountMoreBy : (Labels → ℕ) → List (List ℕ × ℕ) → List (List ℕ × ℕ) → Type 0
+CountMoreBy more old new = (name : Labels) → counted name new ≡ counted name old + more name
+
+-- The count of each name is so much less than it was.
+abbrev pub CountLessBy : (Labels → ℕ) → List (List ℕ × ℕ) → List (List ℕ × ℕ) → Type 0
+CountLessBy less old new = (name : Labels) → counted name new ≡ counted name old - less name
+
+-- The count of each name is what it was.
+abbrev pub CountTheSame : List (List ℕ × ℕ) → List (List ℕ × ℕ) → Type 0
+CountTheSame old new = (name : Labels) → counted name new ≡ counted name old
 
 -- The count of each name is the number of records whose owner counts for it.
 abbrev pub AreCountedBy : (Labels → Labels → Bool) → List Record → List (List ℕ × ℕ) → Type 0

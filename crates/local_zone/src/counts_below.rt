@@ -130,8 +130,7 @@ impl Model for CountsBelow {
 
 impl CountsBelow {
     ghost use Rattle.std.specs.Prelude.{[]};
-    ghost use Rattle.dns_name.specs.Labels.{Labels};
-    ghost use Rattle.local_zone.specs.CountsBelow.{count_below, counted, is_below, is_below_from};
+    ghost use Rattle.local_zone.specs.CountsBelow.{count_below, counted, is_below, is_below_from, CountLessBy, CountMoreBy, CountTheSame};
     ghost use Rattle.local_zone.specs.Gaps.{records_of};
 
     /// Nothing is counted. It takes no memory.
@@ -165,9 +164,8 @@ impl CountsBelow {
     ) -> Result<(), NoMemory>
         requires octets { octets.now ≡ octets_of labels.old }
         requires some { 0 < more }
-        ensures ok { OnOk result ((name : Labels) → counted name self.new
-            ≡ counted name self.old + (if is_below_from least labels.old name then more else 0)) }
-        ensures err { OnErr result ((name : Labels) → counted name self.new ≡ counted name self.old) }
+        ensures ok { OnOk result (CountMoreBy (λ name. if is_below_from least labels.old name then more else 0) self.old self.new) }
+        ensures err { OnErr result (CountTheSame self.old self.new) }
     {
         let Some(above) = octets_above_from(octets, labels, least) else {
             return Ok(());
@@ -189,8 +187,7 @@ impl CountsBelow {
         less: u64,
     )
         requires { octets.now ≡ octets_of labels.old }
-        ensures { (name : Labels) → counted name self.new
-            ≡ counted name self.old - (if is_below_from least labels.old name then less else 0) }
+        ensures { CountLessBy (λ name. if is_below_from least labels.old name then less else 0) self.old self.new }
     {
         if let Some(above) = octets_above_from(octets, labels, least) {
             lower(&mut self.counts, above, less);
@@ -207,9 +204,8 @@ impl CountsBelow {
         least: usize,
         more: u64,
     ) -> Result<(), NoMemory>
-        ensures ok { OnOk result ((other : Labels) → counted other self.new
-            ≡ counted other self.old + (if is_below_from least name.now other then more else 0)) }
-        ensures err { OnErr result ((other : Labels) → counted other self.new ≡ counted other self.old) }
+        ensures ok { OnOk result (CountMoreBy (λ other. if is_below_from least name.now other then more else 0) self.old self.new) }
+        ensures err { OnErr result (CountTheSame self.old self.new) }
     {
         if more == 0 {
             return Ok(());
@@ -219,8 +215,7 @@ impl CountsBelow {
 
     /// Counts so many less below each name above this one that has so many octets at least. It takes no memory.
     pub(crate) fn remove_from(&mut self, name: &Name, least: usize, less: u64)
-        ensures { (other : Labels) → counted other self.new
-            ≡ counted other self.old - (if is_below_from least name.now other then less else 0) }
+        ensures { CountLessBy (λ other. if is_below_from least name.now other then less else 0) self.old self.new }
     {
         self.remove_above(name.octets(), &mut name.labels(), least, less);
     }
@@ -228,25 +223,23 @@ impl CountsBelow {
     /// Counts one more below each name above this one. If memory is refused, or there are more than can be counted, no count has
     /// changed.
     pub(crate) fn add(&mut self, alloc: Global, owner: &Name) -> Result<(), NoMemory>
-        ensures ok { OnOk result ((name : Labels) → counted name self.new
-            ≡ counted name self.old + (if is_below owner.now name then 1 else 0)) }
-        ensures err { OnErr result ((name : Labels) → counted name self.new ≡ counted name self.old) }
+        ensures ok { OnOk result (CountMoreBy (λ name. if is_below owner.now name then 1 else 0) self.old self.new) }
+        ensures err { OnErr result (CountTheSame self.old self.new) }
     {
         self.add_from(alloc, owner, 0, 1)
     }
 
     /// Counts one less below each name above this one. It takes no memory.
     pub(crate) fn remove(&mut self, owner: &Name)
-        ensures { (name : Labels) → counted name self.new ≡ counted name self.old - (if is_below owner.now name then 1 else 0) }
+        ensures { CountLessBy (λ name. if is_below owner.now name then 1 else 0) self.old self.new }
     {
         self.remove_from(owner, 0, 1);
     }
 
     /// Counts records that come back. If memory is refused, no count has changed.
     pub(crate) fn add_all(&mut self, alloc: Global, taken: &[Taken]) -> Result<(), NoMemory>
-        ensures ok { OnOk result ((name : Labels) → counted name self.new
-            ≡ counted name self.old + count_below name (records_of taken.now)) }
-        ensures err { OnErr result ((name : Labels) → counted name self.new ≡ counted name self.old) }
+        ensures ok { OnOk result (CountMoreBy (λ name. count_below name (records_of taken.now)) self.old self.new) }
+        ensures err { OnErr result (CountTheSame self.old self.new) }
     {
         for i in 0..taken.len() {
             if let Err(e) = self.add(alloc, taken[i].item.owner()) {
@@ -259,7 +252,7 @@ impl CountsBelow {
 
     /// Counts records that were taken no more. It takes no memory.
     pub(crate) fn remove_all(&mut self, taken: &[Taken])
-        ensures { (name : Labels) → counted name self.new ≡ counted name self.old - count_below name (records_of taken.now) }
+        ensures { CountLessBy (λ name. count_below name (records_of taken.now)) self.old self.new }
     {
         for t in taken {
             self.remove(t.item.owner());

@@ -1,11 +1,11 @@
 //! Counts of the records that lie in zones strictly below each name.
 
 ghost use Rattle.std.specs.Option.{option_map};
-ghost use Rattle.std.specs.Prelude.{◌≡◌, ◌+◌, ◌-◌, List, Some, OnErr, OnOk, if◌then◌else◌};
+ghost use Rattle.std.specs.Prelude.{◌≡◌, List, Some, OnErr, OnOk, if◌then◌else◌};
 ghost use Rattle.dns_name.specs.Labels.{Labels};
 ghost use Rattle.local_zone.specs.Closest.{closest};
 ghost use Rattle.local_zone.specs.Count.{count_of};
-ghost use Rattle.local_zone.specs.CountsBelow.{count_zoned, counted, is_below_from, is_zoned, octets_over, AreZoned};
+ghost use Rattle.local_zone.specs.CountsBelow.{count_zoned, is_below_from, is_zoned, octets_over, AreZoned, CountLessBy, CountMoreBy, CountTheSame};
 ghost use Rattle.local_zone.specs.Gaps.{records_of};
 ghost use Rattle.local_zone.specs.Zoned.{zone_out, HasOneMore};
 ghost use Rattle.local_zone.specs.declared.zone.Zone.{Zone};
@@ -28,9 +28,8 @@ pub(crate) fn count_zone(
     zoned: &mut CountsBelow,
     owner: &Name,
 ) -> Result<(), NoMemory>
-    ensures ok { OnOk result ((name : Labels) → counted name zoned.new
-        ≡ counted name zoned.old + (if is_zoned zones.now name owner.now then 1 else 0)) }
-    ensures err { OnErr result ((name : Labels) → counted name zoned.new ≡ counted name zoned.old) }
+    ensures ok { OnOk result (CountMoreBy (λ name. if is_zoned zones.now name owner.now then 1 else 0) zoned.old zoned.new) }
+    ensures err { OnErr result (CountTheSame zoned.old zoned.new) }
 {
     match closest(zones, owner) {
         Some(zone) => zoned.add(alloc, &zone.name),
@@ -40,8 +39,7 @@ pub(crate) fn count_zone(
 
 /// Counts a record of this owner no more. It takes no memory.
 pub(crate) fn uncount_zone(zones: &NamedList<Zone>, zoned: &mut CountsBelow, owner: &Name)
-    ensures { (name : Labels) → counted name zoned.new
-        ≡ counted name zoned.old - (if is_zoned zones.now name owner.now then 1 else 0) }
+    ensures { CountLessBy (λ name. if is_zoned zones.now name owner.now then 1 else 0) zoned.old zoned.new }
 {
     if let Some(zone) = closest(zones, owner) {
         zoned.remove(&zone.name);
@@ -55,9 +53,8 @@ pub(crate) fn count_zones(
     zoned: &mut CountsBelow,
     taken: &[Taken],
 ) -> Result<(), NoMemory>
-    ensures ok { OnOk result ((name : Labels) → counted name zoned.new
-        ≡ counted name zoned.old + count_zoned zones.now name (records_of taken.now)) }
-    ensures err { OnErr result ((name : Labels) → counted name zoned.new ≡ counted name zoned.old) }
+    ensures ok { OnOk result (CountMoreBy (λ name. count_zoned zones.now name (records_of taken.now)) zoned.old zoned.new) }
+    ensures err { OnErr result (CountTheSame zoned.old zoned.new) }
 {
     for i in 0..taken.len() {
         if let Err(e) = count_zone(alloc, zones, zoned, taken[i].item.owner()) {
@@ -70,8 +67,7 @@ pub(crate) fn count_zones(
 
 /// Counts records that were taken no more. It takes no memory.
 pub(crate) fn uncount_zones(zones: &NamedList<Zone>, zoned: &mut CountsBelow, taken: &[Taken])
-    ensures { (name : Labels) → counted name zoned.new
-        ≡ counted name zoned.old - count_zoned zones.now name (records_of taken.now) }
+    ensures { CountLessBy (λ name. count_zoned zones.now name (records_of taken.now)) zoned.old zoned.new }
 {
     for t in taken {
         uncount_zone(zones, zoned, t.item.owner());
@@ -116,7 +112,7 @@ pub(crate) fn count_in(
 ) -> Result<(), NoMemory>
     ensures ok { OnOk result (AreZoned zones.now records.now zoned.old → (more : List Zone) →
         HasOneMore zones.now name.now more → AreZoned more records.now zoned.new) }
-    ensures err { OnErr result ((other : Labels) → counted other zoned.new ≡ counted other zoned.old) }
+    ensures err { OnErr result (CountTheSame zoned.old zoned.new) }
 {
     let least = octets_over(zones, name);
     let count = count_of(records, zoned, name);
@@ -149,7 +145,7 @@ pub(crate) fn count_step_in(
     ensures ok { OnOk result ((name : Labels) → name_in (λ z. z.name) turn.now ≡ Some name →
         AreZoned zones.now records.now zoned.old → (more : List Zone) →
         HasOneMore zones.now name more → AreZoned more records.now zoned.new) }
-    ensures err { OnErr result ((other : Labels) → counted other zoned.new ≡ counted other zoned.old) }
+    ensures err { OnErr result (CountTheSame zoned.old zoned.new) }
 {
     match turn.name_in() {
         Some(name) => count_in(alloc, zones, records, zoned, name),
