@@ -1,5 +1,5 @@
 -- The records of one owner, and an index of such groups by owner.
-use Rattle.std.specs.Prelude.{◌≡◌, ◌⊎◌, List, [], ◌∷◌, Option, None}
+use Rattle.std.specs.Prelude.{◌≡◌, ◌⊎◌, ℕ, List, [], ◌∷◌, ◌++◌, Option, None}
 use Rattle.dns_name.specs.Labels.{Labels, octets_of}
 use Rattle.dns_text.specs.declared.record.Record.{Record}
 use Rattle.local_zone.specs.Index.{items_in, under, IsGrouped, IsIndexed}
@@ -31,3 +31,16 @@ AreIndexed records groups = IsIndexed (λ k. octets_of k) (λ g. records_held g)
 -- Under each name are the records of this owner, and each group has records.
 abbrev pub AreGrouped : List Record → List (Labels × Group) → Type 0
 AreGrouped records groups = IsGrouped (λ k. octets_of k) (λ g. records_held g) records groups
+
+-- An index has the same records as before.
+abbrev pub IndexesSame : List (Labels × Group) → List (Labels × Group) → Type 0
+IndexesSame old new = (records : List Record) → AreGrouped records old → AreGrouped records new
+
+-- An index has what this makes of the records that it had.
+abbrev pub IndexesChanged : (List Record → List Record) → List (Labels × Group) → List (Labels × Group) → Type 0
+IndexesChanged change old new = (records : List Record) → AreGrouped records old → AreGrouped (change records) new
+
+-- An index has the same records but for the last, if that has this owner and this TYPE.
+abbrev pub IndexesAllButLast : Labels → ℕ → List (Labels × Group) → List (Labels × Group) → Type 0
+IndexesAllButLast owner kind old new =
+    (front : List Record) (last : Record) → last.owner ≡ owner → last.kind ≡ kind → AreGrouped (front ++ last ∷ []) old → AreGrouped front new

@@ -7,7 +7,7 @@ ghost use Rattle.dns_name.specs.Labels.{Labels};
 ghost use Rattle.dns_name.specs.Order.{name_eq};
 ghost use Rattle.dns_text.specs.declared.record.Record.{Record};
 ghost use Rattle.local_zone.specs.Gaps.{records_of};
-ghost use Rattle.local_zone.specs.Group.{group_of, AreGrouped, AreIndexed, ShareNone};
+ghost use Rattle.local_zone.specs.Group.{group_of, AreIndexed, IndexesSame, ShareNone};
 ghost use Rattle.local_zone.specs.Index.{of_owner};
 ghost use Rattle.local_zone.specs.Show.{data_for, set_of};
 
@@ -60,8 +60,7 @@ fn move_group(owners: &mut IndexMap<Name, Group>, groups: &mut IndexMap<Name, Gr
     requires room { 0 < spare groups.old }
     requires apart { ShareNone groups.old.entries owners.old.entries }
     // Both together index the same records as before.
-    ensures index { (records : List Record) → AreGrouped records (groups.old.entries ++ owners.old.entries) →
-        AreGrouped records (groups.new.entries ++ owners.new.entries) }
+    ensures index { IndexesSame (groups.old.entries ++ owners.old.entries) (groups.new.entries ++ owners.new.entries) }
     ensures gone { group_of owner.now owners.new.entries ≡ None }
     ensures stays { (other : Labels) → group_of other owners.old.entries ≡ None → group_of other owners.new.entries ≡ None }
     ensures only { (other : Labels) → name_eq owner.now other ≡ false → group_of other groups.old.entries ≡ None →
@@ -82,8 +81,7 @@ pub(crate) fn move_groups(
 )
     requires room { length taken.now ≤ spare groups.old }
     requires apart { ShareNone groups.old.entries owners.old.entries }
-    ensures index { (records : List Record) → AreGrouped records (groups.old.entries ++ owners.old.entries) →
-        AreGrouped records (groups.new.entries ++ owners.new.entries) }
+    ensures index { IndexesSame (groups.old.entries ++ owners.old.entries) (groups.new.entries ++ owners.new.entries) }
     ensures gone { AllByRecursion (λ t. group_of t.item.owner owners.new.entries ≡ None) taken.now }
     ensures only { (other : Labels) → of_owner other (records_of taken.now) ≡ [] →
         group_of other groups.old.entries ≡ None → group_of other groups.new.entries ≡ None }
@@ -96,7 +94,7 @@ pub(crate) fn move_groups(
 /// Puts groups back into the index. There is room for them.
 pub(crate) fn put_groups(owners: &mut IndexMap<Name, Group>, groups: IndexMap<Name, Group>)
     requires { length groups.entries ≤ spare owners.old }
-    ensures { (records : List Record) → AreGrouped records (groups.entries ++ owners.old.entries) → AreGrouped records owners.new.entries }
+    ensures { IndexesSame (groups.entries ++ owners.old.entries) owners.new.entries }
 {
     let mut groups = groups;
     while let Some((key, records)) = groups.pop() {

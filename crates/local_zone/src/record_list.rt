@@ -11,7 +11,7 @@ ghost use Rattle.local_zone.specs.Change.{retimed_by};
 ghost use Rattle.dns_name.specs.Labels.{Labels};
 ghost use Rattle.dns_text.specs.declared.record.Record.{Record};
 ghost use Rattle.dns_name.specs.Order.{name_eq};
-ghost use Rattle.local_zone.specs.Group.{group_of, records_in, AreGrouped, AreIndexed};
+ghost use Rattle.local_zone.specs.Group.{group_of, records_in, AreIndexed, IndexesAllButLast, IndexesChanged, IndexesSame};
 ghost use Rattle.local_zone.specs.Index.{of_owner};
 ghost use Rattle.local_zone.specs.Show.{data_for, set_of};
 
@@ -36,9 +36,8 @@ fn index_last(
     owners: &mut IndexMap<Name, Group>,
     new: LocalRecord,
 ) -> Result<(), NoMemory>
-    ensures ok { OnOk result ((records : List Record) → AreGrouped records owners.old.entries →
-        AreGrouped (records ++ new ∷ []) owners.new.entries) }
-    ensures err { OnErr result ((records : List Record) → AreGrouped records owners.old.entries → AreGrouped records owners.new.entries) }
+    ensures ok { OnOk result (IndexesChanged (λ records. records ++ new ∷ []) owners.old.entries owners.new.entries) }
+    ensures err { OnErr result (IndexesSame owners.old.entries owners.new.entries) }
 {
     match owners.get_mut(new.owner()) {
         Some(group) => group.push(alloc, new),
@@ -49,8 +48,7 @@ fn index_last(
 /// Makes the group of an owner with its first record.
 fn index_first(owners: &mut IndexMap<Name, Group>, new: LocalRecord) -> Result<(), NoMemory>
     requires { group_of new.owner owners.old.entries ≡ None }
-    ensures ok { OnOk result ((records : List Record) → AreGrouped records owners.old.entries →
-        AreGrouped (records ++ new ∷ []) owners.new.entries) }
+    ensures ok { OnOk result (IndexesChanged (λ records. records ++ new ∷ []) owners.old.entries owners.new.entries) }
     ensures err { OnErr result (owners.new.entries ≡ owners.old.entries) }
 {
     let key = new.owner().clone()?;
@@ -70,8 +68,7 @@ fn has_other_ttl(records: &[LocalRecord], set: &Record, ttl: Ttl) -> bool
 
 /// Gives the records of a set in the index a TTL.
 fn retime_index(owners: &mut IndexMap<Name, Group>, set: &Record, ttl: Ttl)
-    ensures { (records : List Record) → AreGrouped records owners.old.entries →
-        AreGrouped (map (retimed_by (record set.now { ttl = ttl })) records) owners.new.entries }
+    ensures { IndexesChanged (λ records. map (retimed_by (record set.now { ttl = ttl })) records) owners.old.entries owners.new.entries }
 {
     if let Some(group) = owners.get_mut(&set.owner) {
         group.retime(set, ttl);
@@ -80,8 +77,7 @@ fn retime_index(owners: &mut IndexMap<Name, Group>, set: &Record, ttl: Ttl)
 
 /// Takes the last record of an owner, which has this TYPE, out of the index, and the owner's group if that is empty then.
 fn unindex_last(owners: &mut IndexMap<Name, Group>, owner: &Name, kind: u16)
-    ensures { (front : List Record) (last : Record) → last.owner ≡ owner.now → last.kind ≡ kind →
-        AreGrouped (front ++ last ∷ []) owners.old.entries → AreGrouped front owners.new.entries }
+    ensures { IndexesAllButLast owner.now kind owners.old.entries owners.new.entries }
 {
     if pop_under(owners, owner, kind) {
         owners.swap_remove(owner);
@@ -92,8 +88,7 @@ fn unindex_last(owners: &mut IndexMap<Name, Group>, owner: &Name, kind: u16)
 fn pop_under(owners: &mut IndexMap<Name, Group>, owner: &Name, kind: u16) -> bool
     ensures front { (front : List Record) (last : Record) → last.owner ≡ owner.now → last.kind ≡ kind →
         AreIndexed (front ++ last ∷ []) owners.old.entries → AreIndexed front owners.new.entries }
-    ensures some { result ≡ false → (front : List Record) (last : Record) → last.owner ≡ owner.now → last.kind ≡ kind →
-        AreGrouped (front ++ last ∷ []) owners.old.entries → AreGrouped front owners.new.entries }
+    ensures some { result ≡ false → IndexesAllButLast owner.now kind owners.old.entries owners.new.entries }
     ensures others { (other : Labels) → name_eq owner.now other ≡ false →
         group_of other owners.new.entries ≡ group_of other owners.old.entries }
     ensures empty { IsTrue result → records_in (group_of owner.now owners.new.entries) ≡ [] }
