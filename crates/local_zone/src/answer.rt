@@ -5,7 +5,7 @@ ghost use Rattle.local_zone.specs.Closest.{closest};
 ghost use Rattle.local_zone.specs.CountsBelow.{AreZoned};
 ghost use Rattle.local_zone.specs.declared.zone.Zone.{Zone};
 ghost use Rattle.std.specs.Option.{option_map};
-ghost use Rattle.local_zone.specs.Answer.{absent_in, absent_or_pass, answer_in, data_or, has_record, has_record_below};
+ghost use Rattle.local_zone.specs.Answer.{absent_in, absent_or_pass, answer_in, data_or, has_record, has_record_below, HoldsInZone};
 ghost use Rattle.local_zone.specs.Answer.{in_redirect, in_static, in_transparent, local_now, local_of, soa_of};
 ghost use Rattle.local_zone.specs.Show.{data_shown};
 
@@ -83,8 +83,7 @@ fn absent<'a>(
     zone: &Zone,
     name: &Name,
 ) -> Local<LocalSet<'a>, &'a LocalRecord>
-    ensures { (zones : List Zone) → closest zones name.now ≡ Some zone.now → AreZoned zones records.now zoned.now →
-        local_now result ≡ absent_in (record { zones = zones; records = records.now }) name.now zone.now }
+    ensures { HoldsInZone name.now zone.now records.now zoned.now (λ t. local_now result ≡ absent_in t name.now zone.now) }
 {
     let soa = soa_at(records, &zone.name);
     if has_record_below(records, zoned, name) {
@@ -116,8 +115,7 @@ fn in_static<'a>(
     zone: &Zone,
     question: &'a Question,
 ) -> Local<LocalSet<'a>, &'a LocalRecord>
-    ensures { (zones : List Zone) → closest zones question.now.owner ≡ Some zone.now → AreZoned zones records.now zoned.now →
-        local_now result ≡ in_static (record { zones = zones; records = records.now }) question.now zone.now }
+    ensures { HoldsInZone question.now.owner zone.now records.now zoned.now (λ t. local_now result ≡ in_static t question.now zone.now) }
 {
     let name = &question.owner;
     match data_of(records, name, name, question.kind) {
@@ -162,8 +160,8 @@ fn answer_in<'a>(
     zone: &'a Zone,
     question: &'a Question,
 ) -> Local<LocalSet<'a>, &'a LocalRecord>
-    ensures { (zones : List Zone) → closest zones question.now.owner ≡ Some zone.now → AreZoned zones records.now zoned.now →
-        local_now result ≡ answer_in (record { zones = zones; records = records.now }) question.now zone.now zone.now.kind }
+    ensures { HoldsInZone question.now.owner zone.now records.now zoned.now
+        (λ t. local_now result ≡ answer_in t question.now zone.now zone.now.kind) }
 {
     let name = &question.owner;
     let kind = question.kind;
