@@ -1,5 +1,5 @@
 -- The journal: its changes, and how an undo, a redo and a new change alter them.
-use Rattle.std.specs.Prelude.{◌≡◌, ℕ, ◌+◌, ◌-◌, ◌<◌, ◌≤◌, ◌==◌, ◌&&◌, ◌||◌, nat_lt, Bool, true, false, not, Option, Some, None, List, [], ◌∷◌, ◌++◌, length, map, filter, take, drop, slice_get, refl, if◌then◌else◌}
+use Rattle.std.specs.Prelude.{◌≡◌, ℕ, ◌+◌, ◌-◌, ◌<◌, ◌≤◌, ◌==◌, ◌&&◌, ◌||◌, nat_lt, Bool, true, false, not, Option, Some, None, List, [], ◌∷◌, ◌++◌, length, map, filter, take, drop, slice_get, option_map, refl, if◌then◌else◌}
 use Rattle.std.specs.List.{AllByRecursion, list_any}
 use Rattle.std.specs.Coded.{Coded, code_by, coded×, coded_list, coded_ℕ}
 use Rattle.change_law.specs.declared.kept.KeptChange.{KeptChange}
@@ -19,6 +19,10 @@ pub record Changes (S : Type 0) : Type 0 where
   pub limit : ℕ
 
 -- ---- tickets
+
+-- the ticket of the change at a place, if there is one
+abbrev pub ticket_at : {S : Type 0} → List (KeptChange S) → ℕ → Option ℕ
+ticket_at kept place = option_map (λ k. k.ticket) (slice_get kept place)
 
 -- whether a ticket is one of these
 abbrev pub is_among : List ℕ → ℕ → Bool

@@ -45,7 +45,7 @@ impl<C: Change> Model for Journal<C> {
 
 impl<C: Change> Journal<C> {
     ghost use Rattle.undo_journal.specs.Journal.{AreChanges, CanBeRedone, CanBeUndone, IsForgotten, IsPlaceOf, IsPutBack, IsReach, IsRedo, IsRedoOf, IsTakenBack, IsUndo, IsUndoOf, NeedsNone};
-    ghost use Rattle.undo_journal.specs.Journal.{done_of, first_of, in_effect, is_among, last_of, lies_on, lies_under, out_of_effect, tickets_of};
+    ghost use Rattle.undo_journal.specs.Journal.{done_of, first_of, in_effect, is_among, last_of, lies_on, lies_under, out_of_effect, ticket_at, tickets_of};
     ghost use Rattle.undo_journal.specs.Moving.{ChangesNothing, MovesStandings, SettlesFront, ShowsChange, StoresNoMore, TakesChange};
     ghost use Rattle.undo_journal.specs.Needs.{UndoNeedsNone};
 
@@ -210,8 +210,7 @@ impl<C: Change> Journal<C> {
     fn take_back(&mut self, world: &mut C::World, place: usize) -> Result<u64, NoMemory>
         requires keeps { C.World.keeps world.old self.old.kept }
         requires last { CanBeUndone C.World.table self.old.kept place }
-        ensures ticket { IfOk result (λ ticket. IsTakenBack self.old ticket self.new
-            × (option_map (λ k. k.ticket) (slice_get self.old.kept place) ≡ Some ticket)) }
+        ensures ticket { IfOk result (λ ticket. IsTakenBack self.old ticket self.new × (ticket_at self.old.kept place ≡ Some ticket)) }
         ensures free { IfSome (slice_get self.old.kept place) (λ k. C.World.needs_memory k.saved ≡ false) → IsOk result }
         ensures moved { OnOk result (MovesStandings C.World.World world.old self.old world.new self.new) }
         ensures err { OnErr result (ChangesNothing C.World.World world.old self.old world.new self.new) }
@@ -233,8 +232,7 @@ impl<C: Change> Journal<C> {
     fn put_back(&mut self, world: &mut C::World, place: usize) -> Result<u64, NoMemory>
         requires keeps { C.World.keeps world.old self.old.kept }
         requires first { CanBeRedone C.World.table self.old.kept place }
-        ensures ticket { IfOk result (λ ticket. IsPutBack self.old ticket self.new
-            × (option_map (λ k. k.ticket) (slice_get self.old.kept place) ≡ Some ticket)) }
+        ensures ticket { IfOk result (λ ticket. IsPutBack self.old ticket self.new × (ticket_at self.old.kept place ≡ Some ticket)) }
         ensures free { IfSome (slice_get self.old.kept place) (λ k. C.World.needs_memory k.saved ≡ false) → IsOk result }
         ensures moved { OnOk result (MovesStandings C.World.World world.old self.old world.new self.new) }
         ensures err { OnErr result (ChangesNothing C.World.World world.old self.old world.new self.new) }
@@ -256,7 +254,7 @@ impl<C: Change> Journal<C> {
     pub fn last_done(&self) -> Option<usize>
         ensures none { IfNone result (done_of self.now ≡ []) }
         ensures some { IfSome result (λ place. CanBeUndone C.World.table self.now.kept place
-            × (option_map (λ k. k.ticket) (slice_get self.now.kept place) ≡ last_of (done_of self.now))) }
+            × (ticket_at self.now.kept place ≡ last_of (done_of self.now))) }
     {
         let len = self.ring.len();
         for back in 0..len {
@@ -272,7 +270,7 @@ impl<C: Change> Journal<C> {
     pub fn last_undone(&self) -> Option<usize>
         ensures none { IfNone result (self.now.undone ≡ []) }
         ensures some { IfSome result (λ place. CanBeRedone C.World.table self.now.kept place
-            × (option_map (λ k. k.ticket) (slice_get self.now.kept place) ≡ last_of self.now.undone)) }
+            × (ticket_at self.now.kept place ≡ last_of self.now.undone)) }
     {
         match self.undone.last() {
             Some(ticket) => match self.place_of(*ticket) {
