@@ -7,7 +7,7 @@ ghost use Rattle.local_zone.specs.Closest.{closest};
 ghost use Rattle.local_zone.specs.Count.{count_of};
 ghost use Rattle.local_zone.specs.CountsBelow.{count_zoned, is_below_from, is_zoned, octets_over, AreZoned, CountLessBy, CountMoreBy, CountTheSame};
 ghost use Rattle.local_zone.specs.Gaps.{records_of};
-ghost use Rattle.local_zone.specs.Zoned.{zone_out, HasOneMore};
+ghost use Rattle.local_zone.specs.Zoned.{zone_out, CountsIn, CountsOut};
 ghost use Rattle.local_zone.specs.declared.zone.Zone.{Zone};
 ghost use Rattle.named_list.specs.Named.{AreNamed};
 ghost use Rattle.named_list.specs.Turn.{name_in, other_of, HasPlace};
@@ -110,8 +110,7 @@ pub(crate) fn count_in(
     zoned: &mut CountsBelow,
     name: &Name,
 ) -> Result<(), NoMemory>
-    ensures ok { OnOk result (AreZoned zones.now records.now zoned.old → (more : List Zone) →
-        HasOneMore zones.now name.now more → AreZoned more records.now zoned.new) }
+    ensures ok { OnOk result (CountsIn zones.now name.now records.now zoned.old zoned.new) }
     ensures err { OnErr result (CountTheSame zoned.old zoned.new) }
 {
     let least = octets_over(zones, name);
@@ -126,8 +125,7 @@ pub(crate) fn count_out(
     zoned: &mut CountsBelow,
     name: &Name,
 )
-    ensures { (more : List Zone) → HasOneMore zones.now name.now more → AreZoned more records.now zoned.old →
-        AreZoned zones.now records.now zoned.new }
+    ensures { CountsOut zones.now name.now records.now zoned.old zoned.new }
 {
     let least = octets_over(zones, name);
     let count = count_of(records, zoned, name);
@@ -143,8 +141,7 @@ pub(crate) fn count_step_in(
     turn: &Turn<Zone>,
 ) -> Result<(), NoMemory>
     ensures ok { OnOk result ((name : Labels) → name_in (λ z. z.name) turn.now ≡ Some name →
-        AreZoned zones.now records.now zoned.old → (more : List Zone) →
-        HasOneMore zones.now name more → AreZoned more records.now zoned.new) }
+        CountsIn zones.now name records.now zoned.old zoned.new) }
     ensures err { OnErr result (CountTheSame zoned.old zoned.new) }
 {
     match turn.name_in() {
@@ -160,8 +157,8 @@ pub(crate) fn count_step_out(
     zoned: &mut CountsBelow,
     turn: &Turn<Zone>,
 )
-    ensures { (name : Labels) → name_in (λ z. z.name) turn.now ≡ Some name → (more : List Zone) →
-        HasOneMore zones.now name more → AreZoned more records.now zoned.old → AreZoned zones.now records.now zoned.new }
+    ensures { (name : Labels) → name_in (λ z. z.name) turn.now ≡ Some name →
+        CountsOut zones.now name records.now zoned.old zoned.new }
 {
     if let Some(name) = turn.name_in() {
         count_out(zones, records, zoned, name);
