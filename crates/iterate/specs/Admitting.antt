@@ -13,11 +13,14 @@ use Rattle.iterate.specs.Measure.{left_of_finds}
 use Rattle.iterate.specs.Phase.{Advances, Drawing, IsTold}
 use Rattle.iterate.specs.Room.{AsksNext, IsHanded, IsHandedNext}
 
+-- A find that is so is handed to the book next.
+abbrev pub HandsOver : {E : Type 0} → (Find → Type 0) → ℕ → Result Advance E → Type 0
+HandsOver IsNext moment result = (find : Find) → IsNext find → IfOk result (λ told. told.want ≡ Book (Admit moment find))
+
 -- A task continues after the book's reply to an attempt for the find at a place. It asks what comes next for that find. Once that one is done with, it hands over the one behind it. The step is well made, and less is left.
 pub record ContinuesAfter {E : Type 0} (tried : Attempt) (handing : Handing) (port moment : ℕ) (input : Input) (ids : Drawing) (result : Result Advance E) : Type 0 where
   pub asks : (find : Find) → IsHanded handing.heard.value.harvest.chosen handing.allowed handing.next find →
       IfOk result (λ told. AsksNext tried find moment input told.want)
-  pub further : (find : Find) → IsHandedNext handing.heard.value.harvest.chosen handing.allowed handing.next tried input find →
-      IfOk result (λ told. told.want ≡ Book (Admit moment find))
+  pub further : HandsOver (IsHandedNext handing.heard.value.harvest.chosen handing.allowed handing.next tried input) moment result
   pub goes : (question : Question) (log : List Exchange) → IsTold port question log handing.search.value handing.heard.value handing.allowed handing.next tried input →
       IfOk result (Advances port question log moment ids (left_of_finds handing.search.value.path handing.next tried))

@@ -10,6 +10,7 @@ use Rattle.rand_core.specs.Stream.{Stream}
 use Rattle.history.specs.declared.event.Ask.TheVariants.{Answer as Asked}
 use Rattle.history.specs.declared.event.Event.TheVariants.{Look}
 use Rattle.history.specs.declared.event.Seen.{Seen}
+use Rattle.history.specs.declared.servers.Servers.{Servers}
 use Rattle.iterate.specs.declared.limits.TheConstants.{MOST_SENDS}
 use Rattle.iterate.specs.declared.path.Path.{Path}
 use Rattle.iterate.specs.declared.phase.Advance.{Advance}
@@ -19,7 +20,7 @@ use Rattle.iterate.specs.declared.want.Input.{Input}
 use Rattle.iterate.specs.declared.want.Want.TheVariants.{Book}
 use Rattle.iterate.specs.Exchanges.{Exchange, AddsLook}
 use Rattle.iterate.specs.Following.{IsHarvestOf}
-use Rattle.iterate.specs.Hunting.{AsksOneOf}
+use Rattle.iterate.specs.Hunting.{AsksOneOf, IsReached, IsSmaller}
 use Rattle.iterate.specs.Looked.{IsReplied}
 use Rattle.iterate.specs.Measure.{left_of_hearing, left_of_path, left_of_seek}
 use Rattle.iterate.specs.Phase.{Advances, Drawing, IsHearing, IsSeeking, Suits, ask_at, idle}
@@ -51,6 +52,12 @@ GoesOnSeeing Stands path asked seen moment looks result =
 abbrev pub IsFollowing : Harvest → ℕ → Question → List Exchange → Path → Type 0
 IsFollowing harvest port question log path = IsBehind port question log path × IsHarvestOf port log harvest
 
+-- From a path that stands like this, by this harvest.
+abbrev pub GoesOnByHarvest : {E : Type 0} → (ℕ → Question → List Exchange → Path → Type 0) → Path → Harvest → ℕ → ℕ → Result Advance E → Type 0
+GoesOnByHarvest Stands path harvest moment looks result =
+    (port : ℕ) (ids : Stream) (question : Question) (log : List Exchange) → IsHarvestOf port log harvest → Stands port question log path
+    → IfOk result (Advances port question log moment (idle ids) (left_of_path path looks))
+
 -- ---- for a server without an address
 
 -- Behind the lookup of this stage.
@@ -59,6 +66,12 @@ SeeksOn search target stage port input moment ids result =
     (m : ℕ) (question : Question) (before log : List Exchange) → IsSeeking port question before search target stage
     → AddsLook before m (ask_at stage target) input log → Suits (Book (Look m (ask_at stage target))) input
     → IfOk result (Advances port question log moment ids (left_of_seek search stage))
+
+-- The servers of this question are reached from what stands like this: the search is well made, and less is left.
+abbrev pub ReachesServers : {E X : Type 0} → (ℕ → Question → List Exchange → X → Type 0) → X → Question → Servers → ℕ → Result Search E → Type 0
+ReachesServers Stands x asked servers left result =
+    (port : ℕ) (question : Question) (log since : List Exchange) → Stands port question log x → IsReached port log asked since servers
+    → IfOk result (IsSmaller port question log left)
 
 -- ---- by a response
 

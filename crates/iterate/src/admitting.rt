@@ -11,7 +11,7 @@ ghost use Rattle.history.specs.declared.event.Reply.TheVariants.{Seen as SeenRep
 ghost use Rattle.history.specs.declared.event.Seen.TheVariants.{Oldest as SeenOldest};
 ghost use Rattle.iterate.specs.declared.want.Input.TheVariants.{Reply as Replied};
 ghost use Rattle.iterate.specs.declared.want.Want.TheVariants.{Book};
-ghost use Rattle.iterate.specs.Admitting.{ContinuesAfter};
+ghost use Rattle.iterate.specs.Admitting.{ContinuesAfter, HandsOver};
 ghost use Rattle.iterate.specs.Exchanges.{Exchange};
 ghost use Rattle.iterate.specs.Measure.{left_of_finds, left_of_hearing};
 ghost use Rattle.iterate.specs.Phase.{Advances, IsHearing, Suits, drawing};
@@ -64,8 +64,7 @@ fn hand<R: Rng>(
     handing: Handing,
     attempt: Attempt,
 ) -> Result<Advance, NoMemory>
-    ensures hands { (find : Find) → IsHanded handing.heard.value.harvest.chosen handing.allowed handing.next find
-        → IfOk result (λ told. told.want ≡ Book (Admit moment find)) }
+    ensures hands { HandsOver (IsHanded handing.heard.value.harvest.chosen handing.allowed handing.next) moment result }
     ensures goes { (question : Question) (log : List Exchange) (left : ℕ)
         → IsHearing port question log handing.search.value handing.heard.value handing.allowed
         → ((find : Find) → IsHanded handing.heard.value.harvest.chosen handing.allowed handing.next find → IsHandedBy attempt find log)
@@ -93,8 +92,7 @@ pub(crate) fn admit<R: Rng>(
     heard: Box<Heard>,
     allowed: usize,
 ) -> Result<Advance, NoMemory>
-    ensures hands { (find : Find) → IsHanded heard.value.harvest.chosen allowed 0 find
-        → IfOk result (λ told. told.want ≡ Book (Admit moment find)) }
+    ensures hands { HandsOver (IsHanded heard.value.harvest.chosen allowed 0) moment result }
     ensures goes { (question : Question) (log : List Exchange) (left : ℕ) → IsHearing port question log search.value heard.value allowed
         → ¬ (MadeRoom log)
         → left_of_hearing search.value.path 1 ≤ left → left_of_finds search.value.path 0 Attempt.Admit < left

@@ -11,7 +11,7 @@ ghost use Rattle.iterate.specs.Come.{HasCome};
 ghost use Rattle.iterate.specs.Exchanges.{Exchange};
 ghost use Rattle.iterate.specs.Following.{told_by, IsHarvestOf, IsHadIfSome, IsToldBy, HasTold};
 ghost use Rattle.iterate.specs.Following.{IsAliasHop, IsHop, IsAnswering, FollowsHarvest};
-ghost use Rattle.iterate.specs.Going.{GoesOnBehind, GoesOnSeeing, IsFollowing};
+ghost use Rattle.iterate.specs.Going.{GoesOnBehind, GoesOnByHarvest, GoesOnSeeing, IsFollowing};
 ghost use Rattle.iterate.specs.Told.{IsTarget};
 ghost use Rattle.iterate.specs.Looked.{seen_of};
 ghost use Rattle.iterate.specs.Measure.{left_of_hearing, left_of_path};
@@ -111,8 +111,7 @@ fn next_hop(harvest: &Harvest, last: &Question) -> Result<Hop, NoMemory>
 /// Looks up the question behind an alias of a response. What else the response has is kept until then.
 fn look_behind(path: Path, harvest: Box<Harvest>, moment: u64) -> Result<Advance, NoMemory>
     ensures want { IfOk result (λ next. next.want ≡ Book (Look moment (Asked path.last))) }
-    ensures goes { (port : ℕ) (ids : Stream) (question : Question) (log : List Exchange) → IsHarvestOf port log harvest.value
-        → IsBehind port question log path → IfOk result (Advances port question log moment (idle ids) (left_of_path path 5)) }
+    ensures goes { GoesOnByHarvest IsBehind path harvest.value moment 5 result }
 {
     let owner = path.last.owner.clone()?;
     let kind = path.last.kind;
@@ -156,8 +155,7 @@ fn follow_in(
     moment: u64,
 ) -> Result<Advance, NoMemory>
     ensures follows { IfOk result (λ next. FollowsHarvest harvest.value path moment next.want) }
-    ensures goes { (port : ℕ) (ids : Stream) (question : Question) (log : List Exchange) → IsHarvestOf port log harvest.value
-        → IsUnasked port question log path → IfOk result (Advances port question log moment (idle ids) (left_of_path path 4)) }
+    ensures goes { GoesOnByHarvest IsUnasked path harvest.value moment 4 result }
 {
     match next_hop(&harvest, &path.last)? {
         Hop::Set(told) => Ok(found(path, told)),

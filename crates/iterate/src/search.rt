@@ -8,6 +8,7 @@ ghost use Rattle.dns_query.specs.declared.over.Over.TheVariants.{Udp};
 ghost use Rattle.dns_query.specs.Query.{address_question};
 ghost use Rattle.iterate.specs.declared.limits.TheConstants.{MOST_SENDS};
 ghost use Rattle.iterate.specs.Exchanges.{Exchange};
+ghost use Rattle.iterate.specs.Going.{ReachesServers};
 ghost use Rattle.iterate.specs.Hunting.{AllServe, IsReached, IsFresh, AreReferred, IsSupplied, AreSupplied, IsTried, IsSmaller};
 ghost use Rattle.iterate.specs.Hunting.{IsAt, IsNextStep, AreOpened, MayBeSought, AsksOver};
 ghost use Rattle.iterate.specs.Measure.{hunts_left, left_of_path, left_of_search, left_of_seek, left_of_hearing};
@@ -81,8 +82,7 @@ pub(crate) fn reach(alloc: Global, path: Path, servers: Shared<Servers>) -> Resu
     ensures path { IfOk result (λ search. search.path ≡ path) }
     ensures frames { IfOk result (λ search. search.frames.items ≡ []) }
     ensures fresh { IfOk result (λ search. IsFresh servers search.base) }
-    ensures reached { (port : ℕ) (question : Question) (log since : List Exchange) → IsAskable port question log path
-        → IsReached port log path.last since servers → IfOk result (IsSmaller port question log (left_of_path path 1)) }
+    ensures reached { ReachesServers IsAskable path path.last servers (left_of_path path 1) result }
 {
     let base = begin_hunt(alloc, servers)?;
     Ok(Search {
@@ -101,9 +101,7 @@ pub(crate) fn refer_base(
     ensures path { IfOk result (λ after. after.path ≡ search.path) }
     ensures frames { IfOk result (λ after. after.frames.items ≡ []) }
     ensures fresh { IfOk result (λ after. IsFresh servers after.base) }
-    ensures reached { (port : ℕ) (question : Question) (log since : List Exchange) → IsSearch port question log search
-        → IsReached port log search.path.last since servers
-        → IfOk result (IsSmaller port question log (left_of_hearing search.path 1)) }
+    ensures reached { ReachesServers IsSearch search search.path.last servers (left_of_hearing search.path 1) result }
 {
     let Search { path, .. } = search;
     let after = reach(alloc, path, servers)?;
@@ -145,9 +143,8 @@ pub(crate) fn open(
     ensures path { IfOk result (λ after. after.path ≡ search.path) }
     ensures base { IfOk result (λ after. after.base ≡ search.base) }
     ensures opened { IfOk result (λ after. AreOpened search.frames.items target servers after.frames.items) }
-    ensures reached { (port : ℕ) (question : Question) (log since : List Exchange)
-        → IsSeeking port question log search target Stage.Servers → IsReached port log (address_question target) since servers
-        → IfOk result (IsSmaller port question log (left_of_seek search Stage.Servers)) }
+    ensures reached { ReachesServers (λ port question log s. IsSeeking port question log s target Stage.Servers) search
+        (address_question target) servers (left_of_seek search Stage.Servers) result }
 {
     let hunt = begin_hunt(alloc, servers)?;
     let Search {
