@@ -22,6 +22,7 @@ use Rattle.cell_store.specs.Version.{nothing, after_find, version_after, later_p
 use Rattle.cell_store.specs.Slots.{held_of, place_of, version_of, held_names, names, IsHeldWithin, IsWithin, AreNamed}
 use Rattle.cell_store.specs.Column.{Cells, cells_of, place_in}
 use Rattle.cell_store.proofs.Each.{any_map}
+use Rattle.cell_store.specs.TestLaws.{zero_le, some_is_none, not_past, lt_of, ge_of}
 
 -- ---- there are at most as many finds as versions
 
@@ -88,9 +89,6 @@ after_fold new outranked v (x ∷ versions) place = split (nat_le x.from v) ∙ 
     split : (b : Bool) → fold (later_place v) (cond b (after_find new outranked x.place) (after_find new outranked place)) (map (version_after new outranked) versions) ≡ fold (later_place v) (after_find new outranked (cond b x.place place)) (map (version_after new outranked) versions)
     split true = refl
     split false = refl
-
-zero_le : (v : ℕ) → nat_le 0 v ≡ true
-zero_le v = grind (arith, nat_tests)
 
 -- the place in each version after an admission
 pub after_place : {B : Type 0} (new : Admitted B) (outranked : Bool) (v : ℕ) (versions : List (Version B)) → IsFromStart versions → place_at (map (version_after new outranked) versions) v ≡ after_find new outranked (place_at versions v)
@@ -190,9 +188,6 @@ within_each_after slots new at outranked (x ∷ versions) within = (within_place
 
 -- ---- answers
 
-some_is_none : {A : Type 0} (x : A) → Some x ≡ None → ⊥
-some_is_none x is = cc
-
 pub shown_seen : {F : Type 0} (finds : List F) (moment : ℕ) (held : Option (Admitted ℕ)) → IsHeldWithin (length finds) held → (shown : Shown ℕ) → shown_at held moment ≡ Some shown
     → (find : F) → find ≡ get_or finds shown.body find → (shown.body < length finds) × (shown_at (held_of finds held) moment ≡ Some (record { rank = shown.rank; left = shown.left; body = find }))
 shown_seen finds moment None low shown is find read = absurd cc
@@ -223,9 +218,6 @@ dark_seen {F} finds moment (Some held) is = split (is_alive held moment) refl (s
     split false dead (Some f) = ap (λ b. cond b (Some (record { rank = held.rank; left = held.ttl - (moment - held.since); body = f })) None) dead
 
 -- ---- by the fields
-
-not_past : (v upto : ℕ) → v ≤ upto → nat_lt upto v ≡ false
-not_past v upto low = grind (arith, nat_tests)
 
 pub seen_here : (cells : Cells) (versions : ArrayVec (Version ℕ)) (finds : List Find) (upto v : ℕ) (slice : List (Version ℕ)) (place : Place ℕ)
     → cells_of versions finds upto ≡ cells → v ≤ upto → slice ≡ versions.items → place ≡ place_at slice v → place_in cells v ≡ place_of finds place
@@ -271,12 +263,6 @@ admit_within finds pushed olds afters find lent slot moment outranked within at 
     let more : length finds + 1 ≡ length pushed = omega (arith, ap length push, length-append finds (find ∷ [])) in
     subst (λ (l : List (Version ℕ)). AllByRecursion (IsWithin (length pushed)) l) (sym each)
     (subst (λ n. AllByRecursion (IsWithin n) (map (version_after (admission_of lent slot moment) outranked) olds)) more (within_each_after (length finds) (admission_of lent slot moment) at outranked olds within))
-
-lt_of : (a b : ℕ) → nat_lt a b ≡ true → a < b
-lt_of a b is = grind (arith, nat_tests)
-
-no_lt : (a b : ℕ) → nat_lt a b ≡ false → b ≤ a
-no_lt a b is = grind (arith, nat_tests)
 
 yes_lt : (a b : ℕ) → a < b → nat_lt a b ≡ true
 yes_lt a b low = grind (arith, nat_tests)
@@ -367,13 +353,13 @@ reached_place {B} upto top v versions low = split (nat_lt upto top) refl (nat_lt
         split_late : (t : Bool) → cond t nothing (place_at (versions ++ record { from = upto + 1; place = nothing } ∷ []) v) ≡ nothing
         split_late true = refl
         split_late false = pushed ∙ ap (λ b. cond b nothing (place_at versions v)) next_is
-    split true more true past false early n next = absurd (omega (arith, lt_of top v past, no_lt upto v early))
+    split true more true past false early n next = absurd (omega (arith, lt_of top v past, ge_of upto v early))
     split true more false past false early n next =
         let not_next : nat_le (upto + 1) v ≡ false = grind (arith, nat_tests) in
         pushed ∙ ap (λ b. cond b nothing (place_at versions v)) not_next
     split false same true past true late n next = refl
-    split false same true past false early n next = absurd (omega (arith, lt_of top v past, no_lt upto v early))
-    split false same false past true late n next = absurd (omega (arith, no_lt top v past, lt_of upto v late, no_lt upto top same))
+    split false same true past false early n next = absurd (omega (arith, lt_of top v past, ge_of upto v early))
+    split false same false past true late n next = absurd (omega (arith, ge_of top v past, lt_of upto v late, ge_of upto top same))
     split false same false past false early n next = refl
 
 module _ (old new : Cells) (top : ℕ) (versions : List (Version Find)) (find : Find) (moment : ℕ) (outranked : Bool) (at : new.upto ≡ top) (low : old.upto ≤ top) (is : versions ≡ reached old.upto top old.versions) (starts : IsFromStart old.versions)

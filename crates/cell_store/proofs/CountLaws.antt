@@ -24,6 +24,7 @@ use Rattle.std.specs.Prelude.{position, swap_remove}
 use Rattle.dns_name.specs.Labels.{Labels}
 use Rattle.dns_name.specs.Order.{name_eq}
 use Rattle.cell_store.proofs.OwnerLaws.{column_push, column_here}
+use Rattle.cell_store.specs.TestLaws.{or_right}
 
 -- ---- a column
 
@@ -44,10 +45,6 @@ pub counted_seen : {F : Type 0} (finds : List F) (versions : List (Version ℕ))
 counted_seen finds [] within = refl
 counted_seen finds (x ∷ versions) within =
     ap (λ b. b || list_any has_find (map (version_of finds) versions)) (held_seen finds x.place.cell.held within.0) ∙ ap (λ b. is_some x.place.cell.held || b) (counted_seen finds versions within.1)
-
-or_right : (a b : Bool) → b ≡ true → (a || b) ≡ true
-or_right true b is = refl
-or_right false b is = is
 
 lowered_finds : (number : ℕ) (versions : List (Version ℕ)) → list_any has_find (map (lowered number) versions) ≡ list_any has_find versions
 lowered_finds number [] = refl

@@ -1,6 +1,6 @@
 -- No two neighbours of a column have the same content, whatever is done to it.
 use Rattle.std.proofs.Common.{◌≡◌, ℕ, zero, suc, ◌+◌, Bool, true, false, cond, Option, Some, None, List, [], ◌∷◌, length, map, drop, refl, sym, ap, ◌∙◌, subst, inl, inr}
-use Rattle.std.specs.Prelude.{◌==◌, ◌&&◌, ◌||◌}
+use Rattle.std.specs.Prelude.{◌==◌, ◌&&◌}
 use Rattle.std.specs.List.{list_any}
 use Rattle.std.proofs.lemmas.Bool.{cases_Bool, eq-eqb, eqb-true, false≢true}
 use Rattle.ranked.specs.declared.cell.Admitted.{Admitted}
@@ -12,6 +12,7 @@ use Rattle.cell_store.specs.Merge.{same_held}
 use Rattle.cell_store.specs.Few.{content, contents, same_content, turns, DoDiffer}
 use Rattle.cell_store.proofs.EntryLaws.{Content, content_exact, content_itself, contents_lowered, contents_renamed, renamed_content}
 use Rattle.cell_store.proofs.FewLaws.{apart_parts}
+use Rattle.cell_store.specs.TestLaws.{neither}
 
 -- ---- a flush becomes permanent
 
@@ -34,10 +35,6 @@ differ_forgot number i versions lower news each is differ =
     subst (λ (l : List (Version ℕ)). DoDiffer (contents l)) (sym is) (differ_dropped lower i (subst (λ (l : List (Version ℕ)). DoDiffer (contents l)) (sym each) now))
 
 -- ---- a find gets another slot, to which no cell refers
-
-neither : (a b : Bool) → (a || b) ≡ false → (a ≡ false) × (b ≡ false)
-neither true b is = absurd (false≢true (sym is))
-neither false b is = (refl, is)
 
 same_slot : (old new a b : ℕ) → (a == new) ≡ false → (b == new) ≡ false → (cond (a == old) new a == cond (b == old) new b) ≡ (a == b)
 same_slot old new a b first second = split (a == old) refl (b == old) refl

@@ -3,7 +3,6 @@ use Rattle.std.proofs.Common.{◌≡◌, ℕ, zero, suc, ◌+◌, ◌<◌, ◌�
 use Rattle.std.specs.Prelude.{nat_lt}
 use Rattle.std.specs.List.{AllByRecursion, remove}
 use Rattle.std.proofs.lemmas.Bool.{eq-eqb, false≢true, and_parts}
-use Rattle.std.proofs.lemmas.Bool.Decides.{nat_tests}
 use Rattle.ranked.specs.declared.rank.Rank.{Rank}
 use Rattle.ranked.specs.declared.rank.Rank.TheVariants.{Additional, Answer, Authority, AuthoritativeAnswer}
 use Rattle.ranked.specs.declared.cell.Admitted.{Admitted}
@@ -19,6 +18,7 @@ use Rattle.cell_store.specs.Sweep.{alive_at, version_swept}
 use Rattle.cell_store.specs.Few.{content, contents, rank_of, same_content, AreFew, DoDiffer, IsLeftEmpty, AreRanked}
 use Rattle.cell_store.proofs.MergeLaws.{held_exact, joined}
 use Rattle.cell_store.proofs.FewLaws.{few_one, few_raised, few_admitted, few_tail, few_once, few_renamed, few_less, few_entries, AreLess}
+use Rattle.cell_store.specs.TestLaws.{lt_of}
 
 abbrev pub Content : Type 0
 Content = Option (Option (Admitted ℕ))
@@ -71,9 +71,6 @@ content_after new outranked place = split place.left outranked refl
 contents_after : (new : Admitted ℕ) (outranked : Bool) (versions : List (Version ℕ)) → contents (map (version_after new outranked) versions) ≡ map (after_content new outranked) (contents versions)
 contents_after new outranked [] = refl
 contents_after new outranked (x ∷ versions) = (λ i. content_after new outranked x.place i ∷ contents_after new outranked versions i)
-
-lt_of : (a b : ℕ) → nat_lt a b ≡ true → a < b
-lt_of a b is = grind (arith, nat_tests)
 
 takes : (new : Admitted ℕ) (outranked : Bool) → (outranked ≡ true → level_of new.rank < 4) → (a : Content)
     → (after_content new outranked a ≡ Some (Some new)) ⊎ ((after_content new outranked a ≡ a) × (level_of new.rank < rank_of a))

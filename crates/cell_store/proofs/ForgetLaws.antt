@@ -11,21 +11,7 @@ use Rattle.cell_store.specs.Version.{nothing, later_place, place_at, lowered, Is
 use Rattle.cell_store.specs.Slots.{version_of, place_of, IsWithin}
 use Rattle.cell_store.specs.Column.{Cells, place_in}
 use Rattle.cell_store.proofs.ColumnLaws.{seen_place}
-
-zero_le : (v : ℕ) → nat_le 0 v ≡ true
-zero_le v = grind (arith, nat_tests)
-
-yes_le : (a b : ℕ) → a ≤ b → nat_le a b ≡ true
-yes_le a b low = grind (arith, nat_tests)
-
-no_le : (a b : ℕ) → b < a → nat_le a b ≡ false
-no_le a b late = grind (arith, nat_tests)
-
-le_of : (a b : ℕ) → nat_le a b ≡ true → a ≤ b
-le_of a b is = grind (arith, nat_tests)
-
-lt_of : (a b : ℕ) → nat_le a b ≡ false → b < a
-lt_of a b is = grind (arith, nat_tests)
+use Rattle.cell_store.specs.TestLaws.{zero_le, yes_le, no_le, le_of, gt_of}
 
 same_test : (from number v : ℕ) → nat_le (cond (nat_le from number) 0 from) v ≡ nat_le from (max number v)
 same_test from number v = split (nat_le from number) refl
@@ -36,7 +22,7 @@ same_test from number v = split (nat_le from number) refl
       where
         other : (b : Bool) → nat_le from v ≡ b → nat_le from v ≡ nat_le from (max number v)
         other true low = low ∙ sym (yes_le from (max number v) (omega (arith, le_of from v low)))
-        other false late = late ∙ sym (no_le from (max number v) (omega (arith, lt_of from v late, lt_of from number is)))
+        other false late = late ∙ sym (no_le from (max number v) (omega (arith, gt_of from v late, gt_of from number is)))
 
 lower_fold : {B : Type 0} (number v : ℕ) (versions : List (Version B)) (place : Place B) → fold (later_place v) place (map (lowered number) versions) ≡ fold (later_place (max number v)) place versions
 lower_fold number v [] place = refl
@@ -124,7 +110,7 @@ all_late number (x ∷ versions) late = (head (late 0 x (omega arith)), all_late
       where
         split : (b : Bool) → nat_le x.from number ≡ b → (cond b 0 x.from == 0) ≡ false → number < cond b 0 x.from
         split true low is = absurd (false≢true (sym is))
-        split false high is = lt_of x.from number high
+        split false high is = gt_of x.from number high
 
 late_after : (number : ℕ) (versions : List (Version ℕ)) (k : ℕ) → ((i : ℕ) (d : Version ℕ) → k < i → i < length versions → ((get_or (map (lowered number) versions) i d).from == 0) ≡ false)
     → AllByRecursion (λ (x : Version ℕ). number < x.from) (drop 1 (drop k (map (lowered number) versions)))

@@ -7,7 +7,6 @@ use Rattle.std.specs.Cmp.{booleans_Decides}
 use Rattle.std.proofs.lemmas.Bool.{eqb-true, and_parts, false≢true, cases_eq}
 use Rattle.std.proofs.lemmas.List.{get_or_default}
 use Rattle.std.proofs.lemmas.List.Edits.{get_or-remove_below}
-use Rattle.std.proofs.lemmas.Bool.Decides.{nat_tests}
 use Rattle.ranked.specs.declared.cell.Admitted.{Admitted}
 use Rattle.ranked.specs.declared.rank.Rank.{Rank}
 use Rattle.ranked.specs.declared.rank.Rank.TheVariants.{Additional, Answer, Authority, AuthoritativeAnswer}
@@ -19,6 +18,7 @@ use Rattle.cell_store.specs.Slots.{IsWithin}
 use Rattle.cell_store.specs.Column.{has_find, DropsEntries}
 use Rattle.cell_store.specs.Few.{AreRanked}
 use Rattle.cell_store.specs.Merge.{same_held, holds_same, started, AreApart}
+use Rattle.cell_store.specs.TestLaws.{le_of, gt_of, lt_of, ge_of, yes_le, no_le, or_right}
 
 rank_back : (rank : Rank) → rank_at (level_of rank) ≡ Some rank
 rank_back Additional = refl
@@ -45,24 +45,6 @@ held_exact (Some a) (Some b) is =
 
 left_exact : (a b : Bool) → beq a b ≡ true → a ≡ b
 left_exact a b is = (booleans_Decides a b).0 is
-
-le_of : (a b : ℕ) → nat_le a b ≡ true → a ≤ b
-le_of a b is = grind (arith, nat_tests)
-
-gt_of : (a b : ℕ) → nat_le a b ≡ false → b < a
-gt_of a b is = grind (arith, nat_tests)
-
-lt_of : (a b : ℕ) → nat_lt a b ≡ true → a < b
-lt_of a b is = grind (arith, nat_tests)
-
-ge_of : (a b : ℕ) → nat_lt a b ≡ false → b ≤ a
-ge_of a b is = grind (arith, nat_tests)
-
-yes_le : (a b : ℕ) → a ≤ b → nat_le a b ≡ true
-yes_le a b low = grind (arith, nat_tests)
-
-no_le : (a b : ℕ) → b < a → nat_le a b ≡ false
-no_le a b late = grind (arith, nat_tests)
 
 pub place_exact : (a b : Version ℕ) → holds_same a b ≡ true → a.place ≡ b.place
 place_exact a b is =
@@ -126,10 +108,6 @@ joined_length [] i low = absurd (omega arith)
 joined_length (a ∷ []) i low = absurd (omega arith)
 joined_length (a ∷ b ∷ versions) zero low = omega arith
 joined_length (a ∷ b ∷ versions) (suc i) low = omega (arith, joined_length (b ∷ versions) i (omega arith))
-
-or_right : (a b : Bool) → b ≡ true → (a || b) ≡ true
-or_right true b is = refl
-or_right false b is = is
 
 or_later : (a b c : Bool) → (b ≡ true → c ≡ true) → (a || b) ≡ true → (a || c) ≡ true
 or_later true b c step is = refl

@@ -17,11 +17,9 @@ use Rattle.cell_store.specs.Column.{Cells, place_in, has_find, is_counted}
 use Rattle.cell_store.specs.Few.{contents, DoDiffer}
 use Rattle.cell_store.specs.Owner.{column_held, column_of, place_held, whole_cell, whole_held}
 use Rattle.cell_store.specs.Mixed.{is_mixed, IsEven, IsLikeFirst}
+use Rattle.cell_store.specs.TestLaws.{not_past, neither, or_right}
 
 -- ---- a column
-
-not_past : (v upto : ℕ) → v ≤ upto → nat_lt upto v ≡ false
-not_past v upto low = grind (arith, nat_tests)
 
 at_start : (from v : ℕ) → from ≡ 0 → nat_le from v ≡ true
 at_start from v start = grind (arith, nat_tests)
@@ -67,19 +65,11 @@ none_next (x ∷ kinds) zero own low none is = ap (λ b. b || false) is
 none_next (x ∷ kinds) (suc i) own low none is =
     let parts = neither (is_mixed x.column) (list_any (λ (own : KindColumn). is_mixed own.column) (take i kinds)) none in
     ap (λ b. b || list_any (λ (own : KindColumn). is_mixed own.column) (take (suc i) kinds)) parts.0 ∙ none_next kinds i own (omega arith) parts.1 is
-  where
-    neither : (a b : Bool) → (a || b) ≡ false → (a ≡ false) × (b ≡ false)
-    neither true b is = absurd (false≢true (sym is))
-    neither false b is = (refl, is)
 
 some_at : (kinds : List KindColumn) (i : ℕ) (own : KindColumn) → i < length kinds → is_mixed (get_or kinds i own).column ≡ true → list_any (λ (own : KindColumn). is_mixed own.column) kinds ≡ true
 some_at [] i own low is = absurd (omega arith)
 some_at (x ∷ kinds) zero own low is = ap (λ b. b || list_any (λ (own : KindColumn). is_mixed own.column) kinds) is
-some_at (x ∷ kinds) (suc i) own low is = either (is_mixed x.column) (list_any (λ (own : KindColumn). is_mixed own.column) kinds) (some_at kinds i own (omega arith) is)
-  where
-    either : (a b : Bool) → b ≡ true → (a || b) ≡ true
-    either true b is = refl
-    either false b is = is
+some_at (x ∷ kinds) (suc i) own low is = or_right (is_mixed x.column) (list_any (λ (own : KindColumn). is_mixed own.column) kinds) (some_at kinds i own (omega arith) is)
 
 even_next : (kinds : List KindColumn) (i : ℕ) (own : KindColumn) → i < length kinds → AllByRecursion (λ (own : KindColumn). IsEven own.column) (take i kinds) → IsEven (get_or kinds i own).column
     → AllByRecursion (λ (own : KindColumn). IsEven own.column) (take (suc i) kinds)

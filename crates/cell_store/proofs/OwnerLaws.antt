@@ -1,9 +1,8 @@
 -- The columns of a name, by type.
 use Rattle.std.proofs.Common.{◌≡◌, ◌≢◌, ℕ, suc, zero, ◌<◌, ◌≤◌, max, Bool, true, false, cond, Option, Some, None, List, [], ◌∷◌, ◌++◌, length, get_or, refl, sym, ap, ◌∙◌, subst, arith, length-append, slice_set, inl, inr}
-use Rattle.std.specs.Prelude.{◌==◌, nat_lt}
+use Rattle.std.specs.Prelude.{◌==◌}
 use Rattle.std.specs.List.{AllByRecursion}
 use Rattle.std.proofs.lemmas.Bool.{cases_Bool, eq-eqb, eqb-true, false≢true, and_parts}
-use Rattle.std.proofs.lemmas.Bool.Decides.{nat_tests}
 use Rattle.std.proofs.lemmas.List.{get_or_append_left}
 use Rattle.std.proofs.Math.Seq.{get_or-append_seam}
 use Rattle.ranked.specs.declared.find.Find.{Find}
@@ -19,12 +18,10 @@ use Rattle.cell_store.specs.declared.owner.WholeFind.{WholeFind}
 use Rattle.cell_store.specs.Version.{after_find, own}
 use Rattle.cell_store.specs.Column.{Cells, place_in, sight_at}
 use Rattle.cell_store.specs.Owner.{column_of, whole_cell, whole_held, place_held, column_held, IsPlaceOf}
+use Rattle.cell_store.specs.TestLaws.{some_is_none, lt_of}
 
 apart : (a b : ℕ) → a ≢ b → (a == b) ≡ false
 apart a b ne = elim (cases_Bool (a == b)) [ inl same ↦ absurd (ne (eqb-true a b same)) | inr so ↦ so ]
-
-some_is_none : {A : Type 0} (x : A) → Some x ≡ None → ⊥
-some_is_none x is = cc
 
 -- no column is of the type
 pub none_of : (kinds : List KindColumn) (kind : ℕ) → ((i : ℕ) (d : KindColumn) → i < length kinds → ((get_or kinds i d).kind == kind) ≡ false) → column_of kinds kind ≡ None
@@ -197,6 +194,3 @@ settled_cell whole kinds slice new_kinds kind place lent column number is_there 
 pub outranked_low : (whole : Option WholeFind) (find : Find) (moment : ℕ) → turns_away (whole_cell whole) (admission_of find find moment) ≡ true → level_of find.rank < 4
 outranked_low None find moment is = absurd (false≢true is)
 outranked_low (Some w) find moment is = omega (arith, lt_of (level_of find.rank) (level_of w.find.rank) (and_parts _ _ is).1, level_small w.find.rank)
-  where
-    lt_of : (a b : ℕ) → nat_lt a b ≡ true → a < b
-    lt_of a b is = grind (arith, nat_tests)

@@ -1,6 +1,6 @@
 -- The cells of a name after a sweep.
 use Rattle.std.proofs.Common.{◌≡◌, ℕ, zero, suc, ◌-◌, ◌<◌, ◌≤◌, Bool, true, false, cond, Option, Some, None, List, [], ◌∷◌, length, get_or, map, slice_set, refl, sym, ap, ◌∙◌, subst, arith, inl, inr}
-use Rattle.std.specs.Prelude.{◌==◌, ◌||◌, not, is_some, nat_eq, nat_lt, IfSome}
+use Rattle.std.specs.Prelude.{◌==◌, ◌||◌, is_some, nat_eq, nat_lt, IfSome}
 use Rattle.std.specs.List.{AllByRecursion, IsDistinct}
 use Rattle.std.specs.Option.{option_map_or}
 use Rattle.std.proofs.lemmas.Bool.{cases_Bool, eqb-true, eq-eqb, false≢true}
@@ -20,11 +20,7 @@ use Rattle.cell_store.specs.Count.{one_if}
 use Rattle.cell_store.specs.Prune.{is_asked}
 use Rattle.cell_store.specs.Sweep.{alive_at, swept, is_dead, whole_swept, IsSeenAt, IsSweptColumn, IsSweptKind}
 use Rattle.cell_store.proofs.OwnerLaws.{column_put, column_here}
-use Rattle.cell_store.proofs.PlaceLaws.{or_right}
-
-not_true : (b : Bool) → not b ≡ true → b ≡ false
-not_true true is = absurd (false≢true is)
-not_true false is = refl
+use Rattle.cell_store.specs.TestLaws.{not_true, or_right}
 
 -- ---- the find of the whole name
 

@@ -22,13 +22,7 @@ use Rattle.cell_store.specs.Sweep.{alive_at, is_dead, swept, whole_swept}
 use Rattle.cell_store.specs.Walk.{IsEach}
 use Rattle.cell_store.proofs.CountLaws.{place_here}
 use Rattle.cell_store.proofs.OwnerLaws.{column_here, column_put}
-
-or_left : (a b : Bool) → a ≡ true → (a || b) ≡ true
-or_left a b is = rw is refl
-
-pub or_right : (a b : Bool) → b ≡ true → (a || b) ≡ true
-or_right true b is = refl
-or_right false b is = is
+use Rattle.cell_store.specs.TestLaws.{or_left, or_right}
 
 -- ---- another column in a type's place
 

@@ -1,5 +1,5 @@
 -- The versions that are asked for, when the others are emptied.
-use Rattle.std.proofs.Common.{◌≡◌, ℕ, zero, suc, ◌+◌, ◌<◌, ◌≤◌, Bool, true, false, cond, List, [], ◌∷◌, length, get_or, drop, refl, sym, ap, ◌∙◌, subst, arith, ◌⊎◌, inl, inr, slice_set}
+use Rattle.std.proofs.Common.{◌≡◌, ℕ, zero, suc, ◌+◌, ◌<◌, ◌≤◌, Bool, true, false, cond, List, [], ◌∷◌, length, get_or, drop, refl, sym, ap, ◌∙◌, subst, arith, inl, inr, slice_set}
 use Rattle.std.specs.Prelude.{fold, nat_le, nat_lt, ◌==◌, ◌&&◌, ◌||◌, not}
 use Rattle.std.specs.List.{list_any, AllByRecursion}
 use Rattle.std.proofs.lemmas.Bool.{cases_Bool, eqb-true, false≢true}
@@ -9,6 +9,7 @@ use Rattle.cell_store.specs.declared.version.Version.{Version}
 use Rattle.cell_store.specs.Version.{nothing, later_place, IsFromStart}
 use Rattle.cell_store.specs.Slots.{IsWithin}
 use Rattle.cell_store.specs.Prune.{is_asked, is_from, is_held_at, seen_by, is_seen, emptied, kept_entry, pruned, IsLess}
+use Rattle.cell_store.specs.TestLaws.{either, both}
 
 -- the first entries are pruned so far
 abbrev pub pruned_to : {B : Type 0} → List ℕ → ℕ → ℕ → List (Version B) → List (Version B)
@@ -71,13 +72,6 @@ seen_stays : {B : Type 0} (upto : ℕ) (x : Version B) (xs : List (Version B)) (
 seen_stays upto x xs [] = refl
 seen_stays upto x xs (n ∷ numbers) = ap (λ b. fold (seen_by upto x xs) b numbers) (always (nat_le n upto && is_held_at n x xs)) ∙ seen_stays upto x xs numbers
 
-either : (a b : Bool) → (a || b) ≡ true → (a ≡ true) ⊎ (b ≡ true)
-either true b is = inl refl
-either false b is = inr is
-
-both : (a b : Bool) → a ≡ true → b ≡ true → (a && b) ≡ true
-both a b p q = rw (p, q) refl
-
 any_seen : {B : Type 0} (upto v : ℕ) (x : Version B) (xs : List (Version B)) (seen : Bool) (numbers : List ℕ) → list_any (λ n. n == v) numbers ≡ true → nat_le v upto ≡ true → is_held_at v x xs ≡ true
     → fold (seen_by upto x xs) seen numbers ≡ true
 any_seen upto v x xs seen [] there low held = absurd (false≢true there)
@@ -88,9 +82,6 @@ any_seen upto v x xs seen (n ∷ numbers) there low held = elim (either (n == v)
       ap (λ b. fold (seen_by upto x xs) (cond b true seen) numbers) now ∙ seen_stays upto x xs numbers
   | inr later ↦ any_seen upto v x xs (seen_by upto x xs seen n) numbers later low held
 ]
-
-zero_le : (v : ℕ) → nat_le 0 v ≡ true
-zero_le v = grind (arith, nat_tests)
 
 -- the entry of a version that is asked for is kept
 asked_seen : {B : Type 0} (numbers : List ℕ) (upto v : ℕ) (x : Version B) (xs : List (Version B)) → is_asked numbers v ≡ true → nat_le v upto ≡ true → is_held_at v x xs ≡ true → is_seen numbers upto x xs ≡ true
@@ -108,10 +99,6 @@ hidden v a b (x ∷ xs) some = elim (cases_Bool (nat_le x.from v)) [
   | inl here ↦ ap (λ t. fold (later_place v) (cond t x.place a) xs) here ∙ sym (ap (λ t. fold (later_place v) (cond t x.place b) xs) here)
   | inr past ↦ hidden v (cond (nat_le x.from v) x.place a) (cond (nat_le x.from v) x.place b) xs (sym (ap (λ t. t || list_any (is_from v) xs) past) ∙ some)
 ]
-
-not_false : (b : Bool) → not b ≡ false → b ≡ true
-not_false true is = refl
-not_false false is = absurd (false≢true (sym is))
 
 pub pruned_fold : {B : Type 0} (numbers : List ℕ) (upto v : ℕ) (xs : List (Version B)) (a : Place B) → is_asked numbers v ≡ true → nat_le v upto ≡ true
     → fold (later_place v) a (pruned numbers upto xs) ≡ fold (later_place v) a xs

@@ -16,6 +16,7 @@ use Rattle.cell_store.specs.Owner.{column_of, whole_cell, whole_held, place_held
 use Rattle.cell_store.specs.Walk.{IsEach}
 use Rattle.cell_store.proofs.OwnerLaws.{column_push, column_put, column_here}
 use Rattle.cell_store.proofs.OwnLaws.{once_each, own_each, upto_put, wide_settled}
+use Rattle.cell_store.specs.TestLaws.{some_is_none}
 
 past_max : (upto number v : ℕ) → number ≤ upto → nat_lt upto v ≡ nat_lt upto (max number v)
 past_max upto number v low = split (nat_lt upto v) refl
@@ -177,9 +178,6 @@ settled_or number (Some w) = elim (cases_Bool (nat_lt w.upto number)) [
   | inl past ↦ inl (ap (λ b. cond b None (Some w)) past)
   | inr here ↦ inr (ap (λ b. cond b None (Some w)) here)
 ]
-
-some_is_none : {A : Type 0} (x : A) → Some x ≡ None → ⊥
-some_is_none x is = cc
 
 settled_column : (number : ℕ) (olds news : List KindColumn) → IsEach (IsSettled number) olds news → (k : ℕ) → (column_of news k ≡ None → ⊥) ⊎ (column_of news k ≡ column_of olds k)
 settled_column number [] [] each k = inr refl

@@ -1,6 +1,6 @@
 -- The finds of a column, when one to which no cell refers is dropped.
 use Rattle.std.proofs.Common.{◌≡◌, ◌≢◌, ℕ, ◌+◌, ◌-◌, ◌<◌, ◌≤◌, Bool, true, false, cond, Option, Some, None, List, [], ◌∷◌, length, get_or, map, slice_set, refl, sym, ap, ◌∙◌, arith}
-use Rattle.std.specs.Prelude.{◌==◌, ◌||◌, slice_get}
+use Rattle.std.specs.Prelude.{◌==◌, slice_get}
 use Rattle.std.specs.List.{list_any, swap_remove, AllByRecursion}
 use Rattle.std.specs.Option.{option_map}
 use Rattle.std.proofs.lemmas.Bool.{eq-eqb, eqb-true, false≢true}
@@ -11,6 +11,7 @@ use Rattle.ranked.specs.Cell.{admitted_map}
 use Rattle.cell_store.specs.declared.version.Version.{Version}
 use Rattle.cell_store.specs.Slots.{held_of, version_of, held_names, names, IsHeldWithin, IsWithin, AreNamed, renamed_held, renamed}
 use Rattle.cell_store.proofs.Each.{any_map}
+use Rattle.cell_store.specs.TestLaws.{neither}
 
 -- `rest` is `all` with the find of a slot taken out and the last one put there
 pub record IsWithout {F : Type 0} (all rest : List F) (slot last : ℕ) : Type 0 where
@@ -56,10 +57,6 @@ without_is {F} all rest slot last d low few is =
 
 apart : (a b : ℕ) → (a == b) ≡ false → a ≢ b
 apart a b is same = false≢true (sym is ∙ eq-eqb a b same)
-
-neither : (a b : Bool) → (a || b) ≡ false → (a ≡ false) × (b ≡ false)
-neither true b is = absurd (false≢true (sym is))
-neither false b is = (refl, is)
 
 module _ {F : Type 0} (all rest : List F) (slot last : ℕ) (d : F) (is : IsWithout all rest slot last) (in_all : slot < last + 1) where
   read : (k j : ℕ) → k < length rest → j < length all → get_or rest k d ≡ get_or all j d → slice_get rest k ≡ slice_get all j

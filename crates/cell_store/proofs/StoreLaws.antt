@@ -21,7 +21,7 @@ use Rattle.dns_name.specs.Below.{is_at_or_below}
 use Rattle.cell_store.specs.Owner.{cell_in, CanSettle, HasSameCells, IsUpTo}
 use Rattle.cell_store.specs.Store.{cell_by_owner, cell_of, name_place, AreSameCells, AreUpTo, CanSettleAt, StayBut, StayButAt}
 use Rattle.cell_store.specs.Count.{has_pair, has_place, pair_eq, scope_eq, AddPair, KeepPairs, KeepsPlaces}
-use Rattle.cell_store.proofs.PlaceLaws.{or_right}
+use Rattle.cell_store.specs.TestLaws.{or_right}
 
 module _ {S : Type 0} (old before after : IndexMap Labels OwnerCells S) (owner key : Labels) (new : OwnerCells) (known : before ≡ old) (one : key ≡ owner) (updates : Updates name_eq before after key (Some new)) where
   read : (q : Question) (v : ℕ) → cell_of after q v ≡ cell_by_owner (cond (name_eq owner q.owner) (Some new) (get name_eq old q.owner)) q.kind v

@@ -1,6 +1,6 @@
 -- A column after a sweep.
 use Rattle.std.proofs.Common.{◌≡◌, ℕ, Bool, true, false, cond, Option, Some, None, List, [], ◌∷◌, length, map, refl, sym, ap, ◌∙◌, arith, ◌⊎◌, inl, inr}
-use Rattle.std.specs.Prelude.{fold, nat_le, nat_lt, ◌==◌, ◌&&◌, ◌||◌, not, is_some, slice_get}
+use Rattle.std.specs.Prelude.{fold, nat_le, nat_lt, ◌==◌, ◌&&◌, ◌||◌, is_some, slice_get}
 use Rattle.std.specs.List.{list_any, AllByRecursion}
 use Rattle.std.specs.Option.{option_map}
 use Rattle.std.proofs.lemmas.Bool.{cases_Bool, eq-eqb, false≢true, and_parts}
@@ -20,6 +20,7 @@ use Rattle.cell_store.proofs.ColumnLaws.{length_map, seen_place, within_place}
 use Rattle.cell_store.proofs.CountLaws.{counted_seen, held_seen}
 use Rattle.cell_store.proofs.MixedLaws.{one_seen}
 use Rattle.cell_store.proofs.PruneLaws.{pruned_fold, less_fold, le_not}
+use Rattle.cell_store.specs.TestLaws.{zero_le, or_right, not_true, either, or_left}
 
 -- ---- by slot and by find
 
@@ -90,30 +91,12 @@ seen_or upto x xs (n ∷ numbers) seen is = elim (seen_or upto x xs numbers (see
   ]
   | inr later ↦ inr (later.0, (or_right _ _ later.1.0, later.1.1))
 ]
-  where
-    or_left : (a b : Bool) → a ≡ true → (a || b) ≡ true
-    or_left a b is = rw is refl
-
-    or_right : (a b : Bool) → b ≡ true → (a || b) ≡ true
-    or_right true b is = refl
-    or_right false b is = is
-
-zero_le : (v : ℕ) → nat_le 0 v ≡ true
-zero_le v = grind (arith, nat_tests)
-
-or_right : (a b : Bool) → b ≡ true → (a || b) ≡ true
-or_right true b is = refl
-or_right false b is = is
 
 entry_seen : {B : Type 0} (numbers : List ℕ) (upto : ℕ) (x : Version B) (xs : List (Version B)) → is_seen numbers upto x xs ≡ true → (v : ℕ) × ((is_asked numbers v ≡ true) × ((nat_le v upto ≡ true) × (is_held_at v x xs ≡ true)))
 entry_seen numbers upto x xs is = elim (seen_or upto x xs numbers (is_held_at 0 x xs) is) [
   | inl start ↦ (0, (refl, (zero_le upto, start)))
   | inr some ↦ (some.0, (or_right _ _ some.1.0, some.1.1))
 ]
-
-not_true : (b : Bool) → not b ≡ true → b ≡ false
-not_true true is = absurd (false≢true is)
-not_true false is = refl
 
 from_pruned : {B : Type 0} (numbers : List ℕ) (upto v : ℕ) (x : Version B) (xs : List (Version B)) → is_from v (kept_entry numbers upto x xs) ≡ is_from v x
 from_pruned numbers upto v x xs = split (is_seen numbers upto x xs)
@@ -132,10 +115,6 @@ none_later v a (x ∷ xs) none = elim (cases_Bool (nat_le x.from v)) [
   | inl here ↦ absurd (false≢true (sym none ∙ ap (λ b. b || list_any (is_from v) xs) here))
   | inr past ↦ ap (λ b. fold (later_place v) (cond b x.place a) xs) past ∙ none_later v a xs (sym (ap (λ b. b || list_any (is_from v) xs) past) ∙ none)
 ]
-
-either : (a b : Bool) → (a || b) ≡ true → (a ≡ true) ⊎ (b ≡ true)
-either true b is = inl refl
-either false b is = inr is
 
 -- some version that is asked for has a find
 pub find_seen : {B : Type 0} (numbers : List ℕ) (upto : ℕ) (xs : List (Version B)) → list_any has_find (pruned numbers upto xs) ≡ true

@@ -23,13 +23,7 @@ use Rattle.cell_store.specs.Column.{Cells, place_in, has_find, is_counted}
 use Rattle.cell_store.specs.Owner.{cell_in, column_of, column_held, whole_held, whole_cell, IsOwn, IsUpTo}
 use Rattle.cell_store.specs.Store.{cell_of, cell_by_owner, AreAbout, AreUpTo}
 use Rattle.cell_store.specs.Count.{has_place, has_pair, pair_of}
-
-or_left : (a b : Bool) → a ≡ true → (a || b) ≡ true
-or_left a b is = rw is refl
-
-or_right : (a b : Bool) → b ≡ true → (a || b) ≡ true
-or_right true b is = refl
-or_right false b is = is
+use Rattle.cell_store.specs.TestLaws.{or_left, or_right}
 
 or_around : (a b c : Bool) → (a || c) ≡ true → (a || (b || c)) ≡ true
 or_around true b c is = refl

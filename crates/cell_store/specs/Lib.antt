@@ -21,3 +21,4 @@ pub mod Mixed
 pub mod Entry
 pub mod Life
 pub mod Finds
+pub mod TestLaws

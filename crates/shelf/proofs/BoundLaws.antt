@@ -32,6 +32,7 @@ use Rattle.shelf.specs.Told.{IsShelf}
 use Rattle.shelf.specs.First.{life_at, name_life, AreBounds}
 use Rattle.shelf.proofs.LifeLaws.{name_most, whole_most}
 use Rattle.shelf.proofs.StoredLaws.{each_once, no_column}
+use Rattle.cell_store.specs.TestLaws.{not_false}
 
 -- ---- a cell
 
@@ -46,15 +47,11 @@ alive_life t (Some held) is = split (is_alive held t) refl is
         omega (arith, ends.0, ends.1)
     split false at none = absurd (false≢true none)
 
-undead : (b : Bool) → not b ≡ false → b ≡ true
-undead true is = refl
-undead false is = absurd (false≢true (sym is))
-
 whole_life : (t : ℕ) (whole : Option WholeFind) → is_some whole ≡ true → is_dead t whole ≡ false → t < life_end (whole_held whole 0)
 whole_life t None some alive = absurd (false≢true some)
 whole_life t (Some whole) some alive =
     let held : Admitted Find = admission_of whole.find whole.find whole.since in
-    let at : is_alive held t ≡ true = undead (is_alive held t) alive in
+    let at : is_alive held t ≡ true = not_false (is_alive held t) alive in
     let first : nat_lt whole.upto 0 ≡ false = grind (arith, nat_tests) in
     let here : whole_held (Some whole) 0 ≡ Some held = ap (λ b. cond b None (Some held)) first in
     subst (λ (h : Option (Admitted Find)). t < life_end h) (sym here) (alive_life t (Some held) (ap (λ b. is_some (cond b (Some held) None)) at))

@@ -14,7 +14,7 @@ use Rattle.shelf.specs.Room.{is_wanted, needs_place}
 use Rattle.shelf.specs.Told.{Told, IsShelf}
 use Rattle.shelf.specs.Stored.{count_pairs, pairs_in, HasAdmittedEach, IsByRoom}
 use Rattle.shelf.proofs.AboutLaws.{placed_face, placed_replay}
-use Rattle.shelf.proofs.TestLaws.{or_right}
+use Rattle.cell_store.specs.TestLaws.{or_right}
 
 -- all places are those that they were
 pub same_pairs : (shelf : Shelf) (find : Find) → AddPair (pair_of find) shelf.owners shelf.owners

@@ -23,7 +23,7 @@ use Rattle.shelf.specs.Settling.{settled_version}
 use Rattle.shelf.specs.Kept.{is_kept, is_version}
 use Rattle.shelf.specs.Told.{chosen_version, later_chosen, only}
 use Rattle.shelf.specs.First.{cell_at_name, kind_life, later_kind, later_life, name_life}
-use Rattle.shelf.proofs.TestLaws.{both, either, or_right}
+use Rattle.cell_store.specs.TestLaws.{both, either, or_right}
 
 parts : (a b : Bool) → (a && b) ≡ true → (a ≡ true) × (b ≡ true)
 parts true b is = (refl, is)

@@ -1,6 +1,6 @@
 -- Whether a find would be cached, and whether there is room for its place.
 use Rattle.std.proofs.Common.{◌≡◌, ℕ, zero, suc, length, get_or, ◌+◌, ◌<◌, ◌≤◌, Bool, true, false, cond, Option, Some, None, List, [], ◌∷◌, refl, sym, ap, ◌∙◌, subst, arith, ◌⊎◌, inl, inr}
-use Rattle.std.specs.Prelude.{fold, ◌==◌, ◌&&◌, ◌||◌, not}
+use Rattle.std.specs.Prelude.{fold, ◌==◌, ◌&&◌, not}
 use Rattle.std.specs.Prelude.{Result, Ok, Err, IfErr, IsOk}
 use Rattle.std.proofs.lemmas.Bool.{cases_Bool, eq-eqb, eqb-true, false≢true, and_parts}
 use Rattle.dns_name.specs.Order.{name_eq_exact}
@@ -20,7 +20,7 @@ use Rattle.shelf.specs.declared.room.Room.TheVariants as room
 use Rattle.ranked.specs.Flush.{covers}
 use Rattle.shelf.specs.Room.{takes, taken_by, is_taken, is_wanted, needs_place, room_for, IsFault}
 use Rattle.shelf.specs.Told.{cell_at, is_kept, is_version, later_chosen, chosen_version}
-use Rattle.shelf.proofs.TestLaws.{or_left, or_right}
+use Rattle.cell_store.specs.TestLaws.{or_left, or_right, either, both, not_false}
 
 -- ---- one version
 
@@ -41,13 +41,6 @@ module _ (cells : Question → ℕ → Option (Admitted Find)) (find : Find) (mo
   not_start : (kept : List KeptFlush) (t : Bool) → fold (taken_by cells find moment question) t kept ≡ false → t ≡ false
   not_start kept true is = absurd (false≢true (sym is ∙ taken_stays kept))
   not_start kept false is = refl
-
-  either : (a b : Bool) → (a || b) ≡ true → (a ≡ true) ⊎ (b ≡ true)
-  either true b is = inl refl
-  either false b is = inr is
-
-  both : (a b : Bool) → a ≡ true → b ≡ true → (a && b) ≡ true
-  both a b p q = rw (p, q) refl
 
   chosen_true : (b t : Bool) → cond b true t ≡ false → b ≡ false
   chosen_true true t is = is
@@ -86,10 +79,6 @@ module _ (cells : Question → ℕ → Option (Admitted Find)) (find : Find) (mo
     | inr some ↦ not_kept kept (takes cells find moment question 0) is v some
   ]
 
-not_false : (b : Bool) → not b ≡ false → b ≡ true
-not_false true is = refl
-not_false false is = absurd (false≢true (sym is))
-
 -- it leaves the cell as it is
 pub stays : (cells : Question → ℕ → Option (Admitted Find)) (kept : List KeptFlush) (find : Find) (moment : ℕ) (kind : ℕ) → find.scope ≡ One kind → is_taken cells kept find moment (record { owner = find.owner; kind = kind }) ≡ false
     → (q : Question) (v : ℕ) → is_version kept q v ≡ true → cells q v ≡ cond (touches find q) (after_admission (cells q v) (admission_of find find moment)) (cells q v)
@@ -107,16 +96,13 @@ stays cells kept find moment kind scope none q v there = elim (cases_Bool (touch
 
 -- ---- a choice has a version
 
-both' : (a b : Bool) → a ≡ true → b ≡ true → (a && b) ≡ true
-both' a b p q = rw (p, q) refl
-
 chosen_or : (question : Question) (chosen : ℕ → Bool) (kept : List KeptFlush) (v : ℕ) → (fold (later_chosen question chosen) v kept ≡ v) ⊎ (is_kept kept question (fold (later_chosen question chosen) v kept) ≡ true)
 chosen_or question chosen [] v = inl refl
 chosen_or question chosen (x ∷ kept) v = elim (chosen_or question chosen kept (later_chosen question chosen v x)) [
   | inl same ↦ elim (cases_Bool (chosen x.number && covers x.flush question)) [
     | inl here ↦
         let at : fold (later_chosen question chosen) (later_chosen question chosen v x) kept ≡ x.number = same ∙ ap (λ b. cond b x.number v) here in
-        inr (or_left _ _ (both' _ _ (eq-eqb x.number _ (sym at)) (and_parts _ _ here).1))
+        inr (or_left _ _ (both _ _ (eq-eqb x.number _ (sym at)) (and_parts _ _ here).1))
     | inr gone ↦ inl (same ∙ ap (λ b. cond b x.number v) gone)
   ]
   | inr later ↦ inr (or_right _ _ later)

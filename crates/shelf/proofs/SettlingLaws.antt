@@ -1,6 +1,6 @@
 -- Permanent flushes that reach the names one after the other.
 use Rattle.std.proofs.Common.{◌≡◌, ℕ, zero, suc, ◌+◌, ◌-◌, ◌<◌, ◌≤◌, max, min, Bool, true, false, cond, Option, Some, None, List, [], ◌∷◌, ◌++◌, length, get_or, refl, sym, ap, ◌∙◌, subst, arith, ◌⊎◌, inl, inr}
-use Rattle.std.specs.Prelude.{◌==◌, ◌&&◌, ◌||◌, not, nat_le, nat_lt, slice_get, swap_remove, Result, Ok, Err, OnOk, OnErr}
+use Rattle.std.specs.Prelude.{◌==◌, ◌&&◌, not, nat_le, nat_lt, slice_get, swap_remove, Result, Ok, Err, OnOk, OnErr}
 use Rattle.std.specs.List.{filter, position_or_len, AllByRecursion}
 use Rattle.std.specs.Map.{keys_of, lookup}
 use Rattle.std.proofs.lemmas.Bool.{and_parts, eqb-true, false≢true}
@@ -27,6 +27,7 @@ use Rattle.shelf.specs.Settling.{doubting, first_at, is_outdone, later_settled, 
 use Rattle.shelf.proofs.AboutLaws.{about_moved}
 use Rattle.shelf.proofs.ListLaws.{get_set_other, get_set_same, get_some, get_take, lt_or}
 use Rattle.shelf.proofs.ShelfLaws.{nothing_past}
+use Rattle.cell_store.specs.TestLaws.{either, not_false, or_right}
 
 -- ---- versions
 
@@ -82,14 +83,6 @@ pub nothing_settled : {S : Type 0} (owners : IndexMap Labels OwnerCells S) (top 
 nothing_settled owners top settlings upto q v late = nothing_past owners top upto q (settled_version settlings q.owner v) (omega (arith, late, version_high settlings q.owner v))
 
 -- ---- lists of flushes
-
-pub turned_not : (b : Bool) → not b ≡ false → b ≡ true
-turned_not true is = refl
-turned_not false is = absurd (false≢true (sym is))
-
-pub turned_true : (b : Bool) → not b ≡ true → b ≡ false
-turned_true true is = absurd (false≢true is)
-turned_true false is = refl
 
 pub is_none : (size len : ℕ) (empty : Bool) → empty ≡ (size == 0) → size ≡ len → empty ≡ true → len ≡ 0
 is_none size len empty at same is = let none : size ≡ 0 = eqb-true size 0 (sym at ∙ is) in omega (arith, none, same)
@@ -354,19 +347,11 @@ reach_zero zone number top from to owners none upto = record {
 
 -- ---- another flush becomes permanent
 
-either_true : (a b : Bool) → (a || b) ≡ true → (a ≡ true) ⊎ (b ≡ true)
-either_true true b is = inl refl
-either_true false b is = inr is
-
-or_true : (a b : Bool) → b ≡ true → (a || b) ≡ true
-or_true true b is = refl
-or_true false b is = is
-
 below_below : (name zone other : Labels) → is_at_or_below name zone ≡ true → is_at_or_below zone other ≡ true → is_at_or_below name other ≡ true
 below_below [] zone other is below = subst (λ (n : Labels). is_at_or_below n other ≡ true) (sym (name_eq_exact [] zone is)) below
-below_below (label ∷ labels) zone other is below = elim (either_true (name_eq (label ∷ labels) zone) (is_at_or_below labels zone) is) [
+below_below (label ∷ labels) zone other is below = elim (either (name_eq (label ∷ labels) zone) (is_at_or_below labels zone) is) [
   | inl same ↦ subst (λ (n : Labels). is_at_or_below n other ≡ true) (sym (name_eq_exact (label ∷ labels) zone same)) below
-  | inr later ↦ or_true (name_eq (label ∷ labels) other) (is_at_or_below labels other) (below_below labels zone other later below)
+  | inr later ↦ or_right (name_eq (label ∷ labels) other) (is_at_or_below labels other) (below_below labels zone other later below)
 ]
 
 -- a flush that covers all that an older one covers leaves nothing of it to be seen
@@ -405,7 +390,7 @@ all_outdone (own ∷ later) zone number name v = split (not (is_outdone zone num
         either_first (is_at_or_below name own.zone) (is_at_or_below name zone) own.number number v in
         ap (settled_version (without_outdone zone number later) name) turned
         ∙ (rest (after_settle (is_at_or_below name own.zone) own.number v) ∙ sym (ap (settled_version later name) turned))
-    split false goes rest = rest v ∙ sym (ap (settled_version later name) (outdone own zone number (turned_not (is_outdone zone number own) goes) name v))
+    split false goes rest = rest v ∙ sym (ap (settled_version later name) (outdone own zone number (not_false (is_outdone zone number own) goes) name v))
 
 pub moved_zone : {S : Type 0} (top : ℕ) (zone : Labels) (number left : ℕ) (was now : List Settling) (owners : IndexMap Labels OwnerCells S) → number ≤ top → AreUpTo top owners → AllByRecursion (IsSettling top owners) was → left ≡ length owners.entries
     → now ≡ without_outdone zone number was ++ record { zone = zone; number = number; left = left } ∷ [] → IsMoved (λ q v. after_settle (is_at_or_below q.owner zone) number v) top was now owners owners

@@ -26,7 +26,7 @@ use Rattle.ranked.specs.Flush.{covers}
 use Rattle.shelf.specs.Kept.{with_shown}
 use Rattle.shelf.specs.Told.{Told, told_after, cell_by, only, is_kept, is_version, later_shown, shown_version}
 use Rattle.shelf.specs.Told.Told.{flushed}
-use Rattle.shelf.proofs.TestLaws.{and_false, both, either, or_left, or_right}
+use Rattle.cell_store.specs.TestLaws.{and_false, both, either, or_left, or_right}
 
 -- ---- versions that no admission has reached are empty
 

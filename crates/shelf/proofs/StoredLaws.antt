@@ -22,7 +22,7 @@ use Rattle.cell_store.specs.Column.{Cells, is_counted}
 use Rattle.cell_store.specs.Owner.{column_of, IsUpTo}
 use Rattle.cell_store.specs.Store.{AreUpTo}
 use Rattle.cell_store.specs.Count.{count_entries, count_kinds, count_of, has_pair, has_place, one_if, pair_eq, scope_eq, stored_in}
-use Rattle.shelf.proofs.TestLaws.{and_false, both, either, or_left, or_right}
+use Rattle.cell_store.specs.TestLaws.{and_false, both, either, or_left, or_right}
 
 -- ---- pairs are compared by an equivalence
 

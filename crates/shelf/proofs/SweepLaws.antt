@@ -30,7 +30,7 @@ use Rattle.shelf.specs.declared.shelf.KeptFlush.{KeptFlush}
 use Rattle.ranked.specs.Flush.{covers}
 use Rattle.shelf.specs.Told.{is_kept, is_version}
 use Rattle.shelf.specs.Sweep.{number_more, numbers_of, AreLessened, IsAlive, IsLessened, IsSwept}
-use Rattle.shelf.proofs.TestLaws.{and_false, and_true}
+use Rattle.cell_store.specs.TestLaws.{and_false, and_true}
 
 -- ---- the versions that are asked for are those of the question
 

@@ -2,10 +2,10 @@
 use Rattle.std.proofs.Common.{◌≡◌, ℕ, Bool, true, false, cond, List, [], ◌∷◌, ◌++◌, refl, sym, subst}
 use Rattle.std.specs.Prelude.{◌==◌, not}
 use Rattle.std.specs.List.{AllByRecursion}
-use Rattle.std.proofs.lemmas.Bool.{false≢true}
 use Rattle.dns_name.specs.Labels.{Labels}
 use Rattle.shelf.specs.declared.settling.Settling.{Settling}
 use Rattle.shelf.specs.Settling.{first_at, is_outdone, with_left, without_outdone, AreUseful}
+use Rattle.cell_store.specs.TestLaws.{not_true}
 
 all_without : (P : Settling → Type 0) (zone : Labels) (number : ℕ) (settlings : List Settling) → AllByRecursion P settlings → AllByRecursion P (without_outdone zone number settlings)
 all_without P zone number [] all = tt
@@ -19,10 +19,6 @@ all_push : (P : Settling → Type 0) (settlings : List Settling) (new : Settling
 all_push P [] new all here = (here, tt)
 all_push P (own ∷ later) new all here = (all.0, all_push P later new all.1 here)
 
-stays_in : (b : Bool) → not b ≡ true → b ≡ false
-stays_in true is = absurd (false≢true is)
-stays_in false is = refl
-
 -- a flush joins the list, without those that it outdoes
 useful_more : (new : Settling) (settlings : List Settling) → AreUseful settlings → AreUseful (without_outdone new.zone new.number settlings ++ new ∷ [])
 useful_more new [] is = (tt, tt)
@@ -32,7 +28,7 @@ useful_more new (own ∷ later) is = split (not (is_outdone new.zone new.number 
         → AreUseful (cond b (own ∷ without_outdone new.zone new.number later) (without_outdone new.zone new.number later) ++ new ∷ [])
     split true at rest = (
       all_push (λ other. is_outdone other.zone other.number own ≡ false) (without_outdone new.zone new.number later) new
-          (all_without (λ other. is_outdone other.zone other.number own ≡ false) new.zone new.number later is.0) (stays_in (is_outdone new.zone new.number own) at),
+          (all_without (λ other. is_outdone other.zone other.number own ≡ false) new.zone new.number later is.0) (not_true (is_outdone new.zone new.number own) at),
       rest,
     )
     split false at rest = rest
