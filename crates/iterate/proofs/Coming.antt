@@ -163,9 +163,6 @@ was_truncated port zone (Refused fault) after same w adds t = absurd t
 
 -- ---- one server less is left
 
-abbrev pub struck_hunt : Hunt → Hunt
-struck_hunt hunt = record hunt { asked = hunt.asked + 1 }
-
 pub some_asked : (hunt : Hunt) (server : Addr) (rest : List Addr) → drop hunt.asked hunt.addrs.items ≡ server ∷ rest → hunt.asked < length hunt.addrs.items
 some_asked hunt server rest next = omega (arith, ap (λ (xs : List Addr). length xs) next, length-drop hunt.asked hunt.addrs.items)
 
@@ -178,7 +175,7 @@ take_next i xs server rest next =
     take_more xs i server some ∙ ap (λ (a : Addr). take i xs ++ a ∷ []) at
 
 struck_known : {port : ℕ} {log : List Exchange} {name : Labels} {server : Addr} {rest : List Addr} (hunt : Hunt) → IsHunt port log name hunt → drop hunt.asked hunt.addrs.items ≡ server ∷ rest
-    → IsHunt port log name (struck_hunt hunt)
+    → IsHunt port log name (one_vain hunt)
 struck_known {server = server} {rest = rest} hunt h next = record {
   listed = h.listed;
   zone = h.zone;
@@ -190,7 +187,7 @@ struck_known {server = server} {rest = rest} hunt h next = record {
 
 -- where the last question itself is asked
 pub struck_base : {port : ℕ} {question : Question} {log : List Exchange} {server : Addr} {rest : List Addr} (searching : Search) (hunt : Hunt) → searching.frames.items ≡ []
-    → (searching.base.asked < length searching.base.addrs.items → hunt ≡ struck_hunt searching.base) → (s : IsSearch port question log searching)
+    → (searching.base.asked < length searching.base.addrs.items → hunt ≡ one_vain searching.base) → (s : IsSearch port question log searching)
     → drop (hunt_of searching).asked (hunt_of searching).addrs.items ≡ server ∷ rest → Struck port s.since (hunt_of searching).servers.zone (question_of searching) server
     → IsSearch port question log (record searching { base = hunt })
 struck_base {port} {question} {log} {server} {rest} searching hunt none becomes s next struck =
@@ -200,7 +197,7 @@ struck_base {port} {question} {log} {server} {rest} searching hunt none becomes 
     let in_vain : Struck port s.since searching.base.servers.zone searching.path.last server =
     subst (λ (q : Question). Struck port s.since searching.base.servers.zone q server) asked (subst (λ (h : Hunt). Struck port s.since h.servers.zone (question_of searching) server) base struck) in
     let more = take_next searching.base.asked searching.base.addrs.items server rest first in
-    let same : hunt ≡ struck_hunt searching.base = becomes (some_asked searching.base server rest first) in
+    let same : hunt ≡ one_vain searching.base = becomes (some_asked searching.base server rest first) in
     subst (λ (h : Hunt). IsSearch port question log (record searching { base = h })) (sym same) (record {
       path = s.path;
       since = s.since;
@@ -215,12 +212,12 @@ struck_base {port} {question} {log} {server} {rest} searching hunt none becomes 
         ];
         sought = s.base.sought;
       };
-      frames = subst (λ (fs : List Nested). AreFrames port log s.since (struck_hunt searching.base) fs) (sym none) tt;
+      frames = subst (λ (fs : List Nested). AreFrames port log s.since (one_vain searching.base) fs) (sym none) tt;
       deep = s.deep;
     })
 
 abbrev pub struck_frame_of : Nested → Nested
-struck_frame_of frame = record frame { hunt = struck_hunt frame.hunt }
+struck_frame_of frame = record frame { hunt = one_vain frame.hunt }
 
 -- where a question inside it is asked
 pub struck_frame : {port : ℕ} {question : Question} {log : List Exchange} {server : Addr} {rest : List Addr} (searching after : Search) (frame : Nested) (frames : List Nested)
@@ -261,14 +258,14 @@ inner (f ∷ fs) some = record { first = f; rest = fs; are = refl }
 -- the innermost question taken out, and put back as the server that it asked is struck
 pub struck_inner : {port : ℕ} {question : Question} {log : List Exchange} {server : Addr} {rest : List Addr} (searching after : Search) (removed : Nested) (hunt : Hunt) → 0 < length searching.frames.items
     → removed ≡ slice_index_or searching.frames.items 0 removed → after.frames.items ≡ insert (remove searching.frames.items 0) 0 (record { target = removed.target; hunt = hunt })
-    → (removed.hunt.asked < length removed.hunt.addrs.items → hunt ≡ struck_hunt removed.hunt) → after.path ≡ searching.path → after.base ≡ searching.base
+    → (removed.hunt.asked < length removed.hunt.addrs.items → hunt ≡ one_vain removed.hunt) → after.path ≡ searching.path → after.base ≡ searching.base
     → IsSearch port question log searching → drop (hunt_of searching).asked (hunt_of searching).addrs.items ≡ server ∷ rest → IsSearch port question log after
 struck_inner {port} {question} {log} {server} {rest} searching after removed hunt some is are becomes path base s next =
     let i = inner searching.frames.items some in
     let first : removed ≡ i.first = subst (λ (fs : List Nested). removed ≡ slice_index_or fs 0 removed) i.are is in
     let at : drop removed.hunt.asked removed.hunt.addrs.items ≡ server ∷ rest =
     subst (λ (f : Nested). drop f.hunt.asked f.hunt.addrs.items ≡ server ∷ rest) (sym first) (subst (λ (fs : List Nested). drop (hunt_behind fs searching.base).asked (hunt_behind fs searching.base).addrs.items ≡ server ∷ rest) i.are next) in
-    let same : hunt ≡ struck_hunt removed.hunt = becomes (some_asked removed.hunt server rest at) in
+    let same : hunt ≡ one_vain removed.hunt = becomes (some_asked removed.hunt server rest at) in
     let back : after.frames.items ≡ record { target = removed.target; hunt = hunt } ∷ i.rest =
     subst (λ (fs : List Nested). after.frames.items ≡ insert (remove fs 0) 0 (record { target = removed.target; hunt = hunt })) i.are are in
     let frames : after.frames.items ≡ struck_frame_of i.first ∷ i.rest =
@@ -278,7 +275,7 @@ struck_inner {port} {question} {log} {server} {rest} searching after removed hun
 -- So each question still asks each of its servers once.
 pub orderly_inner : (port : ℕ) (log : List Exchange) {server : Addr} {rest : List Addr} (searching after : Search) (removed : Nested) (hunt : Hunt) → 0 < length searching.frames.items
     → removed ≡ slice_index_or searching.frames.items 0 removed → after.frames.items ≡ insert (remove searching.frames.items 0) 0 (record { target = removed.target; hunt = hunt })
-    → (removed.hunt.asked < length removed.hunt.addrs.items → hunt ≡ struck_hunt removed.hunt) → after.path ≡ searching.path → after.base ≡ searching.base
+    → (removed.hunt.asked < length removed.hunt.addrs.items → hunt ≡ one_vain removed.hunt) → after.path ≡ searching.path → after.base ≡ searching.base
     → drop (hunt_of searching).asked (hunt_of searching).addrs.items ≡ server ∷ rest → IsOrderly port log searching Turn.heard → IsOrderly port log after Turn.unasked
 orderly_inner port log {server} {rest} searching after removed hunt some is are becomes path base next orderly =
     let i = inner searching.frames.items some in
@@ -286,7 +283,7 @@ orderly_inner port log {server} {rest} searching after removed hunt some is are 
     let there : drop i.first.hunt.asked i.first.hunt.addrs.items ≡ server ∷ rest =
     subst (λ (fs : List Nested). drop (hunt_behind fs searching.base).asked (hunt_behind fs searching.base).addrs.items ≡ server ∷ rest) i.are next in
     let at : drop removed.hunt.asked removed.hunt.addrs.items ≡ server ∷ rest = subst (λ (f : Nested). drop f.hunt.asked f.hunt.addrs.items ≡ server ∷ rest) (sym first) there in
-    let same : hunt ≡ struck_hunt removed.hunt = becomes (some_asked removed.hunt server rest at) in
+    let same : hunt ≡ one_vain removed.hunt = becomes (some_asked removed.hunt server rest at) in
     let back : after.frames.items ≡ record { target = removed.target; hunt = hunt } ∷ i.rest =
     subst (λ (fs : List Nested). after.frames.items ≡ insert (remove fs 0) 0 (record { target = removed.target; hunt = hunt })) i.are are in
     let frames : after.frames.items ≡ struck_frame_of i.first ∷ i.rest =
@@ -391,19 +388,19 @@ pub next_after : (before after : Search) (server other : Addr) (rest : List Addr
 next_after before after server other rest same is =
     subst (λ (h : Hunt). drop h.asked h.addrs.items ≡ other ∷ rest) (sym same) (drop_next (hunt_of before).asked (hunt_of before).addrs.items server (other ∷ rest) is)
 
-pub vain_last : (frames : List Nested) (base hunt : Hunt) → frames ≡ [] → (base.asked < length base.addrs.items → hunt ≡ struck_hunt base)
+pub vain_last : (frames : List Nested) (base hunt : Hunt) → frames ≡ [] → (base.asked < length base.addrs.items → hunt ≡ one_vain base)
     → (hunt_behind frames base).asked < length (hunt_behind frames base).addrs.items → hunt_behind frames hunt ≡ one_vain (hunt_behind frames base)
 vain_last [] base hunt none becomes some = becomes some
 vain_last (f ∷ fs) base hunt none becomes some = let e : ⊥ = cc in absurd e
 
 pub vain_inner : (searching after : Search) (removed : Nested) (hunt : Hunt) → 0 < length searching.frames.items → removed ≡ slice_index_or searching.frames.items 0 removed
-    → after.frames.items ≡ insert (remove searching.frames.items 0) 0 (record { target = removed.target; hunt = hunt }) → (removed.hunt.asked < length removed.hunt.addrs.items → hunt ≡ struck_hunt removed.hunt)
+    → after.frames.items ≡ insert (remove searching.frames.items 0) 0 (record { target = removed.target; hunt = hunt }) → (removed.hunt.asked < length removed.hunt.addrs.items → hunt ≡ one_vain removed.hunt)
     → (hunt_of searching).asked < length (hunt_of searching).addrs.items → hunt_of after ≡ one_vain (hunt_of searching)
 vain_inner searching after removed hunt some is are becomes left =
     let i = inner searching.frames.items some in
     let first : removed ≡ i.first = subst (λ (fs : List Nested). removed ≡ slice_index_or fs 0 removed) i.are is in
     let asked : hunt_of searching ≡ removed.hunt = ap (λ (fs : List Nested). hunt_behind fs searching.base) i.are ∙ ap (λ (f : Nested). f.hunt) (sym first) in
-    let same : hunt ≡ struck_hunt removed.hunt = becomes (subst (λ (h : Hunt). h.asked < length h.addrs.items) asked left) in
+    let same : hunt ≡ one_vain removed.hunt = becomes (subst (λ (h : Hunt). h.asked < length h.addrs.items) asked left) in
     let back : after.frames.items ≡ record { target = removed.target; hunt = hunt } ∷ i.rest =
     subst (λ (fs : List Nested). after.frames.items ≡ insert (remove fs 0) 0 (record { target = removed.target; hunt = hunt })) i.are are in
     ap (λ (fs : List Nested). hunt_behind fs after.base) back ∙ same ∙ ap (λ (h : Hunt). one_vain h) (sym asked)

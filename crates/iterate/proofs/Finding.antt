@@ -1,8 +1,8 @@
 -- Servers without an address are looked for, and servers are named.
-use Rattle.std.proofs.Common.{◌≡◌, ◌∙◌, ℕ, ◌<◌, List, [], ◌∷◌, ◌++◌, length, take, drop, inl, inr, true, false, Option, Some, None, ◌==◌, if◌then◌else◌, unwrap_or, sym, ap, subst, refl, arith}
+use Rattle.std.proofs.Common.{◌≡◌, ◌∙◌, ℕ, ◌<◌, List, [], ◌∷◌, ◌++◌, length, take, drop, inl, inr, true, false, Option, Some, None, ◌==◌, if◌then◌else◌, unwrap_or, sym, ap, subst, refl}
 use Rattle.std.specs.List.{AllByRecursion, Contains}
 use Rattle.std.proofs.lemmas.List.{take-append-drop}
-use Rattle.std.proofs.lemmas.List.Elements.{Contains-append_right, Contains-append_cases}
+use Rattle.std.proofs.lemmas.List.Elements.{Contains-append_cases}
 use Rattle.dns_name.specs.Labels.{Labels, IsAtOrBelow, parent_of}
 use Rattle.dns_text.specs.declared.addr.Addr.{Addr}
 use Rattle.dns_text.specs.declared.record.Question.{Question}
@@ -224,10 +224,6 @@ begun_seeking port question log search target stage n k = record { is_search = b
 
 -- ---- its addresses
 
-contains_next : {X : Type 0} (n : ℕ) (xs : List X) (x : X) (rest : List X) → drop n xs ≡ x ∷ rest → Contains xs x
-contains_next n xs x rest next =
-    subst (λ (zs : List _). Contains zs x) (take-append-drop n xs) (Contains-append_right (take n xs) (drop n xs) x (subst (λ (zs : List _). Contains zs x) (sym next) (0, omega arith, refl)))
-
 -- A set that a look saw is known.
 had_seen : (port m : ℕ) (before log : List Exchange) (question : Question) (seen : SeenValue) (told : AnswerSet) → Adds before (exchange (Book (Look m (Asked question))) (Reply (Seen seen))) log
     → IsLookReply (Asked question) (Seen seen) → IsSetSeen seen told → Known port log (Had question told)
@@ -262,7 +258,7 @@ pub serving : (port m : ℕ) (question : Question) (before log : List Exchange) 
     → AllServe port log (hunt_of search).servers found
 serving port m question before log search target seen found k a lawful all =
     let hunt = innermost_hunt search (search_looked k.is_search a refl) in
-    each_serves port m before log (hunt_of search).servers target seen found a lawful hunt.listed (contains_next (hunt_of search).sought (hunt_of search).servers.missing target k.next.rest k.next.next) all
+    each_serves port m before log (hunt_of search).servers target seen found a lawful hunt.listed (next_among (hunt_of search).sought (hunt_of search).servers.missing target k.next.rest k.next.next) all
 
 -- ---- one of them is asked
 

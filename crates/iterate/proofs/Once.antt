@@ -20,7 +20,7 @@ use Rattle.iterate.specs.declared.want.Input.{Input}
 use Rattle.iterate.specs.declared.want.Want.{Want}
 use Rattle.iterate.specs.declared.want.Want.TheVariants.{Book, Send, Finish}
 use Rattle.iterate.specs.Exchanges.{Exchange, exchange, Adds, Happened, is_send}
-use Rattle.iterate.specs.Hunting.{AllServe, IsReached, IsFresh, IsSupplied, AreSupplied}
+use Rattle.iterate.specs.Hunting.{AllServe, IsReached, IsFresh, IsSupplied, AreSupplied, one_vain}
 use Rattle.iterate.specs.Known.{Known}
 use Rattle.iterate.specs.Resolved.{IsOneOf, ReachedFor}
 use Rattle.iterate.specs.Searching.{Turn, WasAsked, turn_of, AsksOnce, IsOther, AllAskOnce, hunt_behind, question_behind}
@@ -166,11 +166,8 @@ all_sent once port server over bytes id input rest turn next base last (f ∷ fs
 
 -- ---- a server is done with
 
-abbrev vain_hunt : Hunt → Hunt
-vain_hunt hunt = record hunt { asked = hunt.asked + 1 }
-
 once_struck : {port : ℕ} {log : List Exchange} {question : Question} {server : Addr} {rest : List Addr} (hunt : Hunt) → drop hunt.asked hunt.addrs.items ≡ server ∷ rest → AsksOnce port log question hunt Turn.heard
-    → AsksOnce port log question (vain_hunt hunt) Turn.unasked
+    → AsksOnce port log question (one_vain hunt) Turn.unasked
 once_struck {server = server} {rest = rest} hunt next o = record {
   since = o.since;
   reached = o.reached;
@@ -184,7 +181,7 @@ once_struck {server = server} {rest = rest} hunt next o = record {
 
 -- where the last question itself is asked
 pub struck_last : (port : ℕ) (log : List Exchange) (last : Question) {server : Addr} {rest : List Addr} (frames : List Nested) (base hunt : Hunt) → frames ≡ []
-    → hunt ≡ vain_hunt base → drop (hunt_behind frames base).asked (hunt_behind frames base).addrs.items ≡ server ∷ rest
+    → hunt ≡ one_vain base → drop (hunt_behind frames base).asked (hunt_behind frames base).addrs.items ≡ server ∷ rest
     → AllAskOnce port log base last Turn.heard frames → AllAskOnce port log hunt last Turn.unasked frames
 struck_last port log last [] base hunt none same next all = subst (λ (h : Hunt). AsksOnce port log last h Turn.unasked) (sym same) (once_struck base next all)
 struck_last port log last (f ∷ fs) base hunt none same next all = let e : ⊥ = cc in absurd e
@@ -192,7 +189,7 @@ struck_last port log last (f ∷ fs) base hunt none same next all = let e : ⊥ 
 -- where a question inside it is asked
 pub struck_first : (port : ℕ) (log : List Exchange) (last : Question) {server : Addr} {rest : List Addr} (base : Hunt) (frame : Nested) (frames : List Nested)
     → drop frame.hunt.asked frame.hunt.addrs.items ≡ server ∷ rest → AllAskOnce port log base last Turn.heard (frame ∷ frames)
-    → AllAskOnce port log base last Turn.unasked (record frame { hunt = vain_hunt frame.hunt } ∷ frames)
+    → AllAskOnce port log base last Turn.unasked (record frame { hunt = one_vain frame.hunt } ∷ frames)
 struck_first port log last base frame frames next all = (once_struck frame.hunt next all.0, all.1, all.2)
 
 -- ---- servers are reached

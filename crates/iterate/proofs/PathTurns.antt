@@ -80,7 +80,7 @@ pub answering : {port : ℕ} {question : Question} {log : List Exchange} {moment
     → Goes port question log moment (idle id) left Ended (Finish answer)
 answering answer resolved few less = record { wants = resolved; drawn = refl; fits = (answer, refl, few); falls = less }
 
-few_sent : {port : ℕ} {question : Question} {log : List Exchange} {path : Path} → IsPath port question log path → count_sends log ≤ 64
+pub few_sent : {port : ℕ} {question : Question} {log : List Exchange} {path : Path} → IsPath port question log path → count_sends log ≤ 64
 few_sent p = omega (arith, p.counted, p.few)
 
 -- A look at the last name found nothing.

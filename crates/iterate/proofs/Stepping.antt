@@ -6,7 +6,6 @@ use Rattle.iterate.specs.declared.answer.Answer.{Answer}
 use Rattle.iterate.specs.declared.phase.Advance.{Advance}
 use Rattle.iterate.specs.declared.phase.Phase.{Phase}
 use Rattle.iterate.specs.declared.phase.Phase.TheVariants.{Fresh, First, Aliasing, Looking, Following, Listing, Seeking, Sent, Admitting, Ended, Broken}
-use Rattle.iterate.specs.declared.path.Path.{Path}
 use Rattle.iterate.specs.declared.task.State.{State}
 use Rattle.iterate.specs.declared.want.Input.{Input}
 use Rattle.iterate.specs.declared.want.Step.{Step}
@@ -16,12 +15,12 @@ use Rattle.iterate.specs.Exchanges.{Exchange, exchange, exchanges_behind, exchan
 use Rattle.iterate.specs.Measure.{left_in}
 use Rattle.iterate.specs.Phase.{Remembers, Goes, IsDue, Suits, Drawing}
 use Rattle.iterate.specs.Room.{AsksOn}
-use Rattle.iterate.specs.Searching.{IsPath}
 use Rattle.iterate.specs.Task.{IsTask, IsDueAt, IsKept, StepsOn}
 use Rattle.iterate.specs.Told.{IsFit}
 use Rattle.iterate.specs.Wanted.{MayWant, id_drawn, stream_behind}
 use Rattle.iterate.proofs.FitLaws.{resolved_is_fit}
 use Rattle.iterate.proofs.Handing.{handing_unsent}
+use Rattle.iterate.proofs.PathTurns.{few_sent}
 
 abbrev pub step_of : Input → Want → Step
 step_of input want = record { input = input; want = want }
@@ -84,20 +83,17 @@ none_open log want is few = subst (λ (b : Bool). count_sends log + cond b 1 0 �
 one_open : (log : List Exchange) (want : Want) → sends want ≡ true → count_sends log < 64 → count_sends log + cond (sends want) 1 0 ≤ 64
 one_open log want is few = subst (λ (b : Bool). count_sends log + cond b 1 0 ≤ 64) (sym is) (omega (arith, few))
 
-path_few : {port : ℕ} {question : Question} {log : List Exchange} {path : Path} → IsPath port question log path → count_sends log ≤ 64
-path_few p = omega (arith, p.counted, p.few)
-
 few_open : (port : ℕ) (question : Question) (log : List Exchange) (want : Want) (phase : Phase) → Remembers port question log want phase → count_sends log + cond (sends want) 1 0 ≤ 64
 few_open port question log want Fresh f = absurd f
 few_open port question log want Broken f = absurd f
 few_open port question log want First f = none_open log want (ap sends f.1.wanted) (omega (arith, ap count_sends f.0))
-few_open port question log want (Aliasing path) f = none_open log want (ap sends f.1.wanted) (path_few f.0.askable.is_path)
-few_open port question log want (Looking path) f = none_open log want (ap sends f.1.wanted) (path_few f.0.is_path)
-few_open port question log want (Following path harvest) f = none_open log want (ap sends f.2.wanted) (path_few f.0.is_path)
-few_open port question log want (Listing path) f = none_open log want (ap sends f.1.wanted) (path_few f.0.is_path)
-few_open port question log want (Seeking hunting target stage) f = none_open log want (ap sends f.1.wanted) (path_few f.0.is_search.path)
+few_open port question log want (Aliasing path) f = none_open log want (ap sends f.1.wanted) (few_sent f.0.askable.is_path)
+few_open port question log want (Looking path) f = none_open log want (ap sends f.1.wanted) (few_sent f.0.is_path)
+few_open port question log want (Following path harvest) f = none_open log want (ap sends f.2.wanted) (few_sent f.0.is_path)
+few_open port question log want (Listing path) f = none_open log want (ap sends f.1.wanted) (few_sent f.0.is_path)
+few_open port question log want (Seeking hunting target stage) f = none_open log want (ap sends f.1.wanted) (few_sent f.0.is_search.path)
 few_open port question log want (Sent hunting server id over) f = one_open log want (ap sends f.wanted) (omega (arith, f.is_search.path.counted, f.some))
-few_open port question log want (Admitting handing tried) f = none_open log want (handing_unsent f.1) (path_few f.0.is_search.path)
+few_open port question log want (Admitting handing tried) f = none_open log want (handing_unsent f.1) (few_sent f.0.is_search.path)
 few_open port question log want Ended f = none_open log want (ap sends f.1) f.2
 
 -- ---- a step

@@ -132,7 +132,7 @@ module _ {K : Type 0} (octets : K → List ℕ) where
 parent_is : (l : List ℕ) (n p : Labels) → parent_of (l ∷ n) ≡ Some p → n ≡ p
 parent_is l n p e = ap (λ (v : Option Labels). unwrap_or v []) e
 
-and_true : (b : Bool) → (b && true) ≡ b
+pub and_true : (b : Bool) → (b && true) ≡ b
 and_true true = refl
 and_true false = refl
 

@@ -27,7 +27,7 @@ use Rattle.local_zone.specs.ZoneType.{is_redirect}
 use Rattle.local_zone.specs.Zoned.{zone_out, HasOneMore}
 use Rattle.local_zone.proofs.ClosestLaws.{not_longer}
 use Rattle.local_zone.proofs.CountLaws.{alike, any_some, below_counts, more_pass, own_counts, redirect_counts}
-use Rattle.local_zone.proofs.CountsBelowLaws.{below_parent, count_one, from_root, no_longer, shorter}
+use Rattle.local_zone.proofs.CountsBelowLaws.{and_true, below_parent, count_one, from_root, no_longer, shorter}
 use Rattle.local_zone.proofs.ZoneLaws.{closest_without}
 
 -- ---- the zone of an owner, by the names of the zones alone
@@ -288,10 +288,6 @@ data_there t new =
     ∙ sym (redirect_counts t new)
 
 -- ---- one zone more, or less
-
-and_true : (b : Bool) → (b && true) ≡ b
-and_true true = refl
-and_true false = refl
 
 and_false : (b : Bool) → (b && false) ≡ false
 and_false true = refl

@@ -1,10 +1,10 @@
-use Rattle.std.proofs.Common.{◌≡◌, ◌<◌, ℕ, zero, suc, true, List, [], ◌∷◌, ◌++◌, None, length, refl, subst, arith}
+use Rattle.std.proofs.Common.{◌≡◌, ◌<◌, ℕ, zero, suc, true, [], ◌++◌, None, length, refl, subst, arith}
 use Rattle.std.specs.Prelude.{is_some}
 use Rattle.std.proofs.lemmas.Bool.{false≢true}
 use Rattle.indexmap.specs.IndexMap.{spare}
 use Rattle.local_zone.specs.Index.{IsGrouped}
 use Rattle.local_zone.proofs.GroupLaws.{grouped_put, is_ok_of}
-use Rattle.local_zone.proofs.Keyed.{items, octets}
+use Rattle.local_zone.proofs.Keyed.{items, octets, nothing}
 use Rattle.local_zone.proofs.groups.put_groups.Goals as goal
 
 pub loop-key-preserved-in-Some : goal.loop-key-preserved-in-Some
@@ -50,10 +50,6 @@ loop-key-preserved-in-Some-4 c =
           (subst (λ gs. IsGrouped octets items records (gs ++ c.loop-key.owners.entries)) c.in-Some.ensures.entries (c.loop-key.invariant.index records h));
       room = omega (arith, c.loop-key.invariant.room, c.in-Some.ensures.len, c.insert.ensures.spare);
     }
-
-nothing : {X : Type 0} (xs : List X) → length xs ≡ 0 → xs ≡ []
-nothing [] e = refl
-nothing (x ∷ xs) e = absurd (omega (arith, e))
 
 none_found : (n : ℕ) → (0 < n → is_some {T = ℕ} None ≡ true) → n ≡ 0
 none_found zero h = refl

@@ -1,4 +1,4 @@
-use Rattle.std.proofs.Common.{◌≡◌, ℕ, List, [], ◌∷◌, ◌-◌, ◌++◌, length, None, refl, ap, sym, subst, ◌∙◌, inl, arith}
+use Rattle.std.proofs.Common.{◌≡◌, ℕ, List, ◌-◌, ◌++◌, length, None, ap, sym, subst, ◌∙◌, inl, arith}
 use Rattle.std.specs.List.{AllByRecursion}
 use Rattle.dns_name.specs.Labels.{octets_of}
 use Rattle.dns_text.specs.declared.record.Record.{Record}
@@ -9,7 +9,7 @@ use Rattle.local_zone.specs.Index.{of_owner, under, IsGrouped}
 use Rattle.local_zone.proofs.CountsBelowLaws.{counted_left}
 use Rattle.local_zone.proofs.GapLaws.{length_at}
 use Rattle.local_zone.proofs.GroupLaws.{parts}
-use Rattle.local_zone.proofs.Keyed.{items, octets}
+use Rattle.local_zone.proofs.Keyed.{items, octets, nothing}
 use Rattle.local_zone.proofs.record_list.RecordList.take_out.Goals as goal
 
 pub move_groups-requires-clause-room : goal.move_groups-requires-clause-room
@@ -17,13 +17,9 @@ move_groups-requires-clause-room c =
     let taken_is : c.cut_out.new.taken.items ≡ at_gaps c.args.gaps.now c.self.inside.list.items = c.in_ok-cut_out.ensures.taken ∙ ap (λ (x : List Taken). x ++ at_gaps c.args.gaps.now c.self.inside.list.items) c.in_ok-taken.ensures.items in
     omega (arith, c.in_ok-groups.ensures.spare, ap (λ (x : List Taken). length x) (c.deref.ensures.value ∙ taken_is), length_at c.args.gaps.now c.self.inside.list.items)
 
-empty : {X : Type 0} (xs : List X) → length xs ≡ 0 → xs ≡ []
-empty [] e = refl
-empty (x ∷ xs) e = absurd (omega (arith, e))
-
 pub move_groups-requires-clause-apart : goal.move_groups-requires-clause-apart
 move_groups-requires-clause-apart c name =
-    inl (ap (λ gs. under octets (octets_of name) gs) (empty c.in_ok-groups.groups.entries c.in_ok-groups.ensures.len))
+    inl (ap (λ gs. under octets (octets_of name) gs) (nothing c.in_ok-groups.groups.entries c.in_ok-groups.ensures.len))
 
 pub invariant_of-self : goal.invariant_of-self
 invariant_of-self c =
@@ -44,9 +40,9 @@ invariant_of-result c =
           (subst (λ (x : List Record). AreWithin gaps x) (sym c.self.view_is) c.requires.within)
           (subst (λ (x : List Record). AreApart (at_gaps gaps x) (rest_of gaps x)) (sym c.self.view_is) c.requires.apart)
           taken_is left_is c.self.invariant.0
-          (λ records h. c.move_groups.ensures.index records (subst (λ gs. IsGrouped octets items records (gs ++ c.self.inside.owners.entries)) (sym (empty c.in_ok-groups.groups.entries c.in_ok-groups.ensures.len)) h))
+          (λ records h. c.move_groups.ensures.index records (subst (λ gs. IsGrouped octets items records (gs ++ c.self.inside.owners.entries)) (sym (nothing c.in_ok-groups.groups.entries c.in_ok-groups.ensures.len)) h))
           (subst (λ (ts : List Taken). AllByRecursion (λ (t : Taken). under octets (octets_of t.item.owner) c.move_groups.new.owners.entries ≡ None) ts) c.deref.ensures.value c.move_groups.ensures.gone)
-          (λ owner none. c.move_groups.ensures.only owner (ap (λ (ts : List Taken). of_owner owner (records_of ts)) c.deref.ensures.value ∙ none) (ap (λ gs. under octets (octets_of owner) gs) (empty c.in_ok-groups.groups.entries c.in_ok-groups.ensures.len)))).0,
+          (λ owner none. c.move_groups.ensures.only owner (ap (λ (ts : List Taken). of_owner owner (records_of ts)) c.deref.ensures.value ∙ none) (ap (λ gs. under octets (octets_of owner) gs) (nothing c.in_ok-groups.groups.entries c.in_ok-groups.ensures.len)))).0,
       counted,
     )
 
@@ -62,9 +58,9 @@ invariant_of-self-2 c =
     (subst (λ (x : List Record). AreWithin gaps x) (sym c.self.view_is) c.requires.within)
     (subst (λ (x : List Record). AreApart (at_gaps gaps x) (rest_of gaps x)) (sym c.self.view_is) c.requires.apart)
     taken_is left_is c.self.invariant.0
-    (λ records h. c.move_groups.ensures.index records (subst (λ gs. IsGrouped octets items records (gs ++ c.self.inside.owners.entries)) (sym (empty c.in_ok-groups.groups.entries c.in_ok-groups.ensures.len)) h))
+    (λ records h. c.move_groups.ensures.index records (subst (λ gs. IsGrouped octets items records (gs ++ c.self.inside.owners.entries)) (sym (nothing c.in_ok-groups.groups.entries c.in_ok-groups.ensures.len)) h))
     (subst (λ (ts : List Taken). AllByRecursion (λ (t : Taken). under octets (octets_of t.item.owner) c.move_groups.new.owners.entries ≡ None) ts) c.deref.ensures.value c.move_groups.ensures.gone)
-    (λ owner none. c.move_groups.ensures.only owner (ap (λ (ts : List Taken). of_owner owner (records_of ts)) c.deref.ensures.value ∙ none) (ap (λ gs. under octets (octets_of owner) gs) (empty c.in_ok-groups.groups.entries c.in_ok-groups.ensures.len)))).1 in (
+    (λ owner none. c.move_groups.ensures.only owner (ap (λ (ts : List Taken). of_owner owner (records_of ts)) c.deref.ensures.value ∙ none) (ap (λ gs. under octets (octets_of owner) gs) (nothing c.in_ok-groups.groups.entries c.in_ok-groups.ensures.len)))).1 in (
       grouped,
       counted_left lies_below before gaps c.cut_out.new.taken.items c.cut_out.new.list.items c.self.inside.below c.remove_all.new.self within taken_is left_is c.self.invariant.1
           (λ name. c.remove_all.ensures name ∙ ap (λ (ts : List Taken). counted name c.self.inside.below - count_below name (records_of ts)) c.deref-2.ensures.value),
