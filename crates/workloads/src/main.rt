@@ -18,7 +18,6 @@ mod names; // made-up names
 mod spelled; // names as octets, one after another
 mod queries; // queries as octets
 mod finds; // what is cached about a name
-mod empty_books; // books without events, and their settings
 mod internet; // an internet in memory
 mod outside; // clients and name servers of a worker without sockets
 mod worker; // a worker without sockets

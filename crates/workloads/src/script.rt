@@ -4,15 +4,16 @@ ghost use Rattle.std.specs.Prelude.{◌<◌, ◌≤◌};
 
 use crate::digest::Digest;
 use crate::draws::{below, draws_of, skewed};
-use crate::empty_books::empty_book;
 use crate::names::{push_domain, push_name};
 use crate::streams_in_memory::{Lines, Told};
 use anyhow::anyhow;
 use command_text::run_script;
-use history::{Book, MOST_CELLS};
+use dns_text::Items;
+use history::{Book, MOST_CELLS, Settings};
 use rand_core::Rng;
 use rand_pcg::Pcg32;
 use std::alloc::Global;
+use undo_book::ShelfBook;
 
 const TTLS: [&str; 8] = ["30", "60", "60", "300", "300", "3600", "3600", "86400"];
 
@@ -128,5 +129,11 @@ pub fn obey_script(alloc: Global, seed: u32, names: u32, count: u32) -> anyhow::
         return Ok(0);
     }
     let lines = lines_of(alloc, seed, names, count)?;
-    obey_at(alloc, empty_book(alloc, MOST_CELLS)?, lines.as_slice())
+    let settings = Settings {
+        journal: 64,
+        cells: MOST_CELLS,
+        hints: Items::new(Vec::new(alloc)),
+        server_port: 53,
+    };
+    obey_at(alloc, ShelfBook::new(alloc, settings)?, lines.as_slice())
 }

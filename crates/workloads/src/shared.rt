@@ -3,12 +3,12 @@ ghost use Rattle.shared_book.specs.Fresh.{CanShare, IsKnownAs};
 
 use crate::answers::answer;
 use crate::block_list::block;
-use crate::empty_books::settings;
 use crate::internet::{Internet, hints};
 use crate::resolving::resolve;
 use crate::worker::Worker;
+use dns_text::{Addr, Items};
 use flight::Numbered;
-use history::{Book, MOST_CELLS};
+use history::{Book, MOST_CELLS, Settings};
 use shared_book::{Blank, CallLedger, Seat, SharedBook};
 use std::alloc::Global;
 use std::marker::Brand;
@@ -67,6 +67,17 @@ fn work_over<B: Book, L: CallLedger, R: Wait>(
     work_at(alloc, Seat::new(rt, &book, pass), job, seed, size, count)
 }
 
+/// The settings of the book.
+fn settings(alloc: Global) -> anyhow::Result<Settings> {
+    let servers: Vec<Addr> = hints(alloc)?;
+    Ok(Settings {
+        journal: 64,
+        cells: MOST_CELLS,
+        hints: Items::new(servers),
+        server_port: 53,
+    })
+}
+
 /// Does a job, and returns the digest of what clients and operators got.
 pub fn shared_job<R: Wait>(
     rt: &R,
@@ -76,7 +87,7 @@ pub fn shared_job<R: Wait>(
     size: u32,
     count: u32,
 ) -> anyhow::Result<u64> {
-    let settings = settings(hints(alloc)?, MOST_CELLS);
+    let settings = settings(alloc)?;
     let opening = ShelfBook::lagging(alloc, &settings)?;
     let book = ShelfBook::new(alloc, settings)?;
     work_over::<ShelfBook, Brand, R>(

@@ -4,16 +4,16 @@
 ghost use Rattle.std.specs.Prelude.{◌<◌};
 
 use crate::draws::{below, draws_of};
-use crate::empty_books::empty_book;
 use crate::finds::{addresses, copy_of, denial, ipv6_addresses, names_up_to, soa_record};
 use crate::noted::Noted;
 use dns_name::Name;
 use dns_text::types::{A, AAAA};
-use dns_text::{Question, Record};
-use history::{Book, Command, Event};
+use dns_text::{Items, Question, Record};
+use history::{Book, Command, Event, Settings};
 use rand_pcg::Pcg32;
 use ranked::{Rank, SharedFind};
 use std::alloc::Global;
+use undo_book::ShelfBook;
 
 /// The TTLs of most data, in seconds.
 const TTLS: [u32; 8] = [30, 60, 60, 300, 300, 3_600, 3_600, 86_400];
@@ -174,11 +174,11 @@ pub fn sweep_by_turns(alloc: Global, seed: u32, cells: u32, count: u32) -> anyho
     if cells == 0 {
         return Ok(0);
     }
-    work_on(
-        alloc,
-        empty_book(alloc, cells as usize)?,
-        seed,
-        cells,
-        count,
-    )
+    let settings = Settings {
+        journal: 64,
+        cells: cells as usize,
+        hints: Items::new(Vec::new(alloc)),
+        server_port: 53,
+    };
+    work_on(alloc, ShelfBook::new(alloc, settings)?, seed, cells, count)
 }

@@ -1,15 +1,15 @@
 //! New names for a full cache: it sweeps what has ended, and forgets the name that ends first.
 
 use crate::draws::{below, draws_of};
-use crate::empty_books::empty_book;
 use crate::finds::{addresses, denial, kind_of, name_of, soa_record};
 use crate::noted::Noted;
 use dns_name::Name;
-use dns_text::{Question, Record};
-use history::Book;
+use dns_text::{Items, Question, Record};
+use history::{Book, Settings};
 use rand_pcg::Pcg32;
 use ranked::{Rank, SharedFind};
 use std::alloc::Global;
+use undo_book::ShelfBook;
 
 /// The TTLs of most data, in seconds.
 const TTLS: [u32; 8] = [30, 60, 60, 300, 300, 3_600, 3_600, 86_400];
@@ -59,5 +59,11 @@ fn take_many<B: Book>(
 
 /// Gives new names to a cache of so many cells, and returns the digest of what happened.
 pub fn turn_over(alloc: Global, seed: u32, room: u32, count: u32) -> anyhow::Result<u64> {
-    take_many(alloc, empty_book(alloc, room as usize)?, seed, room, count)
+    let settings = Settings {
+        journal: 64,
+        cells: room as usize,
+        hints: Items::new(Vec::new(alloc)),
+        server_port: 53,
+    };
+    take_many(alloc, ShelfBook::new(alloc, settings)?, seed, room, count)
 }
