@@ -9,3 +9,5 @@ pub mod StoreLaws
 pub mod Command
 pub mod ReadLaws
 pub mod ShelfBook
+pub mod Calls
+pub mod Shown

@@ -1,9 +1,9 @@
 //! The book that keeps no history: the tables and the cache under a journal of their changes.
 
-ghost use Rattle.std.specs.Prelude.{◌≡◌, ◌≤◌, ◌+◌, ◌^◌, ◌↔◌, List, length, IfOk, IsErr, IsErrOf};
+ghost use Rattle.std.specs.Prelude.{◌≡◌, ◌≤◌, ◌+◌, ◌^◌, ◌↔◌, length, IfOk, IsErr, IsErrOf};
 ghost use Rattle.history.specs.Event.{AreSettings, lagging_of};
 ghost use Rattle.history.specs.Fresh.{FreshBook};
-ghost use Rattle.history.specs.declared.event.Event.{Event};
+ghost use Rattle.store.specs.Calls.{FitsJournal, FitsVersions};
 ghost use Rattle.store.specs.Sweep.{most_reaching};
 ghost use Rattle.store.specs.ShelfBook.{cells_of, commands_of, names_of, reaching_of, seed_of, versions_of};
 
@@ -98,8 +98,7 @@ impl ShelfBook {
     /// How many commands its journal keeps: those that can be undone or redone.
     pub fn commands(&self) -> usize
         ensures commands { result ≡ commands_of self.now }
-        ensures few { (h : List Event) → ⟦<ShelfBook as Book>⟧.stands_for self.now h →
-            commands_of self.now ≤ (⟦<ShelfBook as Book>⟧.settings self.now).journal }
+        ensures few { FitsJournal ⟦<ShelfBook as Book>⟧ self.now (commands_of self.now) }
     {
         self.book.commands()
     }
@@ -108,8 +107,7 @@ impl ShelfBook {
     pub fn versions(&self) -> usize
         ensures versions { result ≡ versions_of self.now }
         ensures commands { versions_of self.now ≤ commands_of self.now + 1 }
-        ensures few { (h : List Event) → ⟦<ShelfBook as Book>⟧.stands_for self.now h →
-            versions_of self.now ≤ (⟦<ShelfBook as Book>⟧.settings self.now).journal + 1 }
+        ensures few { FitsVersions ⟦<ShelfBook as Book>⟧ self.now (versions_of self.now) }
     {
         // It is called for its clauses on the journal.
         let _commands = self.book.commands();
@@ -144,16 +142,12 @@ impl ShelfBook {
 }
 
 impl Book for ShelfBook {
-    ghost use Rattle.std.proofs.Common.{◌≡◌, ◌<◌, ◌≤◌, List, sym, ◌∙◌};
-    ghost use Rattle.std.specs.Prelude.{◌⊎◌, ℕ, true, false, OnOk, OnErr, IfErr, IsErrOf};
-    ghost use Rattle.dns_name.specs.Labels.{Labels};
-    ghost use Rattle.ranked.specs.declared.find.Scope.{Scope};
-    ghost use Rattle.history.specs.declared.event.Event.{Event};
-    ghost use Rattle.history.specs.Answers.{Answers, Follows, history_after};
-    ghost use Rattle.history.specs.History.{past_of};
-    ghost use Rattle.store.specs.Sweep.{turn_of_sweep};
-    ghost use Rattle.world_book.specs.Book.{IsByLimit};
-    ghost use Rattle.world_book.specs.Versions.{count_pairs, pairs_left, AreAliveAfter, ForgetsOldest};
+    ghost use Rattle.std.proofs.Common.{◌≡◌, ◌≤◌, sym, ◌∙◌};
+    ghost use Rattle.std.specs.Prelude.{ℕ, true, false, OnOk, OnErr, IfErr, IsErrOf};
+    ghost use Rattle.store.specs.Calls.{AnswersEach, FollowsEach, StandsAfter, IsByLimitAt, IsUntimelyIfFree, ForgetsForRoom};
+    ghost use Rattle.store.specs.Calls.{StandsStill, StoresAsMany, HasSettingsOf};
+    ghost use Rattle.store.specs.Calls.{HasLessToSweep, SweepsOneTurn, IsShortSweep};
+    ghost use Rattle.store.specs.Calls.{FitsLimit, FitsAdmitted, CoversAlive};
 
     ghost stands_for = { λ book history. ⟦<WorldBook<StoreChange> as Book>⟧.stands_for book.book history };
 
@@ -172,31 +166,22 @@ impl Book for ShelfBook {
     ghost one_count = { λ book h k is also. sym is.count ∙ also.count };
 
     fn step(&mut self, event: Event) -> Result<Reply, StepFault>
-        ensures answers { (h : List Event) → ⟦<WorldBook<StoreChange> as Book>⟧.stands_for self.old.book h →
-            Answers (⟦<WorldBook<StoreChange> as Book>⟧.settings self.old.book) h event result }
-        ensures stands { (h : List Event) → ⟦<WorldBook<StoreChange> as Book>⟧.stands_for self.old.book h →
-            ⟦<WorldBook<StoreChange> as Book>⟧.stands_for self.new.book (history_after h event result) }
+        ensures answers { AnswersEach ⟦<WorldBook<StoreChange> as Book>⟧ self.old.book event result }
+        ensures stands { StandsAfter ⟦<WorldBook<StoreChange> as Book>⟧ self.old.book event result self.new.book }
         ensures full { (n : ℕ) → IsErrOf result (StepFault.Full n) → ⟦<WorldBook<StoreChange> as Book>⟧.stored self.old.book ≡ n }
-        ensures same_store { OnErr result (⟦<WorldBook<StoreChange> as Book>⟧.stored self.new.book
-            ≡ ⟦<WorldBook<StoreChange> as Book>⟧.stored self.old.book) }
-        ensures settings { ⟦<WorldBook<StoreChange> as Book>⟧.settings self.new.book
-            ≡ ⟦<WorldBook<StoreChange> as Book>⟧.settings self.old.book }
+        ensures same_store { OnErr result (StoresAsMany ⟦<WorldBook<StoreChange> as Book>⟧ self.new.book self.old.book) }
+        ensures settings { HasSettingsOf ⟦<WorldBook<StoreChange> as Book>⟧ self.new.book self.old.book }
 
         // It is full only if as many finds as there may be cells differ in owner or scope. If it stores as many cells as there may be, it
         // refuses no admission for want of memory.
-        ensures by_limit { IfErr result (λ fault. IsByLimit (⟦<WorldBook<StoreChange> as Book>⟧.stands_for self.old.book)
-            (⟦<WorldBook<StoreChange> as Book>⟧.stored self.old.book)
-            (⟦<WorldBook<StoreChange> as Book>⟧.settings self.old.book).cells event fault) }
+        ensures by_limit { IfErr result (IsByLimitAt ⟦<WorldBook<StoreChange> as Book>⟧ self.old.book event) }
 
         // A sweep, a forget, an undo or a redo that reaches a flush, an undo of a command that removed nothing, and an admission whose
         // pair is alive in some version need no memory.
-        ensures free { ⟦<WorldBook<StoreChange> as Book>⟧.is_free self.old.book event →
-            IfErr result (λ fault. (fault ≡ StepFault.BadMoment) ⊎ (fault ≡ StepFault.CountEnded)) }
+        ensures free { IsUntimelyIfFree ⟦<WorldBook<StoreChange> as Book>⟧ self.old.book event result }
 
         // A forget of the name to forget first at its moment makes room: fewer cells are stored after it.
-        ensures room { OnOk result ((h : List Event) → ⟦<WorldBook<StoreChange> as Book>⟧.stands_for self.old.book h →
-            ForgetsOldest (past_of (⟦<WorldBook<StoreChange> as Book>⟧.settings self.old.book).journal h) event →
-            ⟦<WorldBook<StoreChange> as Book>⟧.stored self.new.book < ⟦<WorldBook<StoreChange> as Book>⟧.stored self.old.book) }
+        ensures room { OnOk result (ForgetsForRoom ⟦<WorldBook<StoreChange> as Book>⟧ self.old.book event self.new.book) }
     {
         match self.book.step(event) {
             Ok(reply) => Ok(reply),
@@ -205,29 +190,21 @@ impl Book for ShelfBook {
     }
 
     fn follow(&mut self, event: Event) -> Result<(), StepFault>
-        ensures answers { (h : List Event) → ⟦<WorldBook<StoreChange> as Book>⟧.stands_for self.old.book h →
-            Follows (⟦<WorldBook<StoreChange> as Book>⟧.settings self.old.book) h event result }
-        ensures stands { (h : List Event) → ⟦<WorldBook<StoreChange> as Book>⟧.stands_for self.old.book h →
-            ⟦<WorldBook<StoreChange> as Book>⟧.stands_for self.new.book (history_after h event result) }
+        ensures answers { FollowsEach ⟦<WorldBook<StoreChange> as Book>⟧ self.old.book event result }
+        ensures stands { StandsAfter ⟦<WorldBook<StoreChange> as Book>⟧ self.old.book event result self.new.book }
         ensures full { (n : ℕ) → IsErrOf result (StepFault.Full n) → ⟦<WorldBook<StoreChange> as Book>⟧.stored self.old.book ≡ n }
-        ensures same_store { OnErr result (⟦<WorldBook<StoreChange> as Book>⟧.stored self.new.book
-            ≡ ⟦<WorldBook<StoreChange> as Book>⟧.stored self.old.book) }
-        ensures settings { ⟦<WorldBook<StoreChange> as Book>⟧.settings self.new.book
-            ≡ ⟦<WorldBook<StoreChange> as Book>⟧.settings self.old.book }
+        ensures same_store { OnErr result (StoresAsMany ⟦<WorldBook<StoreChange> as Book>⟧ self.new.book self.old.book) }
+        ensures settings { HasSettingsOf ⟦<WorldBook<StoreChange> as Book>⟧ self.new.book self.old.book }
 
         // A sweep, a forget, an undo or a redo that reaches a flush, an undo of a command that removed nothing, and an admission whose
         // pair is alive in some version need no memory.
-        ensures free { ⟦<WorldBook<StoreChange> as Book>⟧.is_free self.old.book event →
-            IfErr result (λ fault. (fault ≡ StepFault.BadMoment) ⊎ (fault ≡ StepFault.CountEnded)) }
+        ensures free { IsUntimelyIfFree ⟦<WorldBook<StoreChange> as Book>⟧ self.old.book event result }
 
         // A fault comes from the limit of cells as in `step`.
-        ensures by_limit { IfErr result (λ fault. IsByLimit (⟦<WorldBook<StoreChange> as Book>⟧.stands_for self.old.book)
-            (⟦<WorldBook<StoreChange> as Book>⟧.stored self.old.book)
-            (⟦<WorldBook<StoreChange> as Book>⟧.settings self.old.book).cells event fault) }
+        ensures by_limit { IfErr result (IsByLimitAt ⟦<WorldBook<StoreChange> as Book>⟧ self.old.book event) }
 
         // A sweep is one turn, so it is short, however much has expired.
-        ensures short { (moment : ℕ) → event ≡ Event.Sweep moment → ⟦<WorldBook<StoreChange> as Book>⟧.unswept self.old.book
-            ≤ ⟦<WorldBook<StoreChange> as Book>⟧.unswept self.new.book + turn_of_sweep }
+        ensures short { IsShortSweep ⟦<WorldBook<StoreChange> as Book>⟧ self.old.book event self.new.book }
     {
         match self.book.follow(event) {
             Ok(()) => Ok(()),
@@ -236,19 +213,15 @@ impl Book for ShelfBook {
     }
 
     fn sweep_some(&mut self) -> bool
-        ensures stands { (h : List Event) → ⟦<WorldBook<StoreChange> as Book>⟧.stands_for self.old.book h →
-            ⟦<WorldBook<StoreChange> as Book>⟧.stands_for self.new.book h }
+        ensures stands { StandsStill ⟦<WorldBook<StoreChange> as Book>⟧ self.old.book self.new.book }
         ensures stored { ⟦<WorldBook<StoreChange> as Book>⟧.stored self.new.book
             ≤ ⟦<WorldBook<StoreChange> as Book>⟧.stored self.old.book }
-        ensures settings { ⟦<WorldBook<StoreChange> as Book>⟧.settings self.new.book
-            ≡ ⟦<WorldBook<StoreChange> as Book>⟧.settings self.old.book }
-        ensures more { result ≡ true →
-            ⟦<WorldBook<StoreChange> as Book>⟧.unswept self.new.book < ⟦<WorldBook<StoreChange> as Book>⟧.unswept self.old.book }
+        ensures settings { HasSettingsOf ⟦<WorldBook<StoreChange> as Book>⟧ self.new.book self.old.book }
+        ensures more { result ≡ true → HasLessToSweep ⟦<WorldBook<StoreChange> as Book>⟧ self.new.book self.old.book }
         ensures none { result ≡ false → ⟦<WorldBook<StoreChange> as Book>⟧.unswept self.new.book ≡ 0 }
 
         // It is one turn, so it is short, however much has expired.
-        ensures short { ⟦<WorldBook<StoreChange> as Book>⟧.unswept self.old.book
-            ≤ ⟦<WorldBook<StoreChange> as Book>⟧.unswept self.new.book + turn_of_sweep }
+        ensures short { SweepsOneTurn ⟦<WorldBook<StoreChange> as Book>⟧ self.old.book self.new.book }
     {
         self.book.sweep_some()
     }
@@ -281,17 +254,13 @@ impl Book for ShelfBook {
 
     fn stored(&self) -> usize
         ensures stored { result ≡ ⟦<WorldBook<StoreChange> as Book>⟧.stored self.now.book }
-        ensures within { (h : List Event) → ⟦<WorldBook<StoreChange> as Book>⟧.stands_for self.now.book h →
-            result ≤ (⟦<WorldBook<StoreChange> as Book>⟧.settings self.now.book).cells }
+        ensures within { FitsLimit ⟦<WorldBook<StoreChange> as Book>⟧ self.now.book result }
 
         // No more than the different pairs of owner and scope that were admitted, and whose owner was not forgotten since.
-        ensures most { (h : List Event) → ⟦<WorldBook<StoreChange> as Book>⟧.stands_for self.now.book h →
-            result ≤ count_pairs (pairs_left h) }
+        ensures most { FitsAdmitted ⟦<WorldBook<StoreChange> as Book>⟧ self.now.book result }
 
         // No fewer than the different pairs of the finds that are alive now in some version.
-        ensures least { (h : List Event) → ⟦<WorldBook<StoreChange> as Book>⟧.stands_for self.now.book h →
-            (pairs : List (Labels × Scope)) →
-            AreAliveAfter (⟦<WorldBook<StoreChange> as Book>⟧.settings self.now.book).journal h pairs → count_pairs pairs ≤ result }
+        ensures least { CoversAlive ⟦<WorldBook<StoreChange> as Book>⟧ self.now.book result }
     {
         self.book.stored()
     }

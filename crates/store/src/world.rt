@@ -59,21 +59,14 @@ fn fault_told(fault: StoreFault) -> WorldFault
 }
 
 impl ShelfWorld {
-    ghost use Rattle.std.specs.Prelude.{◌≤◌, ◌+◌, ◌^◌, ℕ, List, length, map};
-    ghost use Rattle.std.specs.List.{AllByRecursion};
-    ghost use Rattle.dns_name.specs.Labels.{Labels};
-    ghost use Rattle.dns_text.specs.declared.record.Question.{Question};
-    ghost use Rattle.ranked.specs.declared.find.Find.{Find};
-    ghost use Rattle.ranked.specs.declared.find.Scope.{Scope};
-    ghost use Rattle.ranked.specs.Cell.{shown_at};
+    ghost use Rattle.std.specs.Prelude.{◌≤◌, ◌+◌, ◌^◌, List, length};
     ghost use Rattle.change_law.specs.declared.kept.KeptChange.{KeptChange};
-    ghost use Rattle.change_law.specs.Pairs.{CountsAmong, IsAliveIn, count_pairs, pair_of};
-    ghost use Rattle.change_law.specs.Turn.{HoldsOver};
     ghost use Rattle.store.specs.declared.world.SavedFlush.{SavedFlush};
     ghost use Rattle.cell_store.specs.Owner.{held_now};
     ghost use Rattle.store.specs.World.{empty_cells, shows_over};
     ghost use Rattle.world_book.specs.Book.{IsUntouched};
     ghost use Rattle.store.specs.Kept.{kept_in};
+    ghost use Rattle.store.specs.Shown.{ShowsOver, StoresEachAlive, StoresOnlyCounted, shown_of};
     ghost use Rattle.store.specs.Sweep.{most_reaching};
 
     /// An empty cache that may store so many cells. It keeps no flushes, and its index hashes with the fixed seed.
@@ -98,8 +91,7 @@ impl ShelfWorld {
 
     /// What is shown of a question at a moment. It takes no memory.
     pub fn show(&self, owner: &Name, kind: u16, moment: u64) -> Option<Held<'_>>
-        ensures { held_now result
-            ≡ shown_at ((⟦<ShelfWorld as World>⟧.shown self.now).cell (record { owner = owner.now; kind = kind })) moment }
+        ensures { held_now result ≡ shown_of ⟦<ShelfWorld as World>⟧ self.now owner.now kind moment }
     {
         self.shelf.show(owner, kind, moment)
     }
@@ -112,10 +104,8 @@ impl ShelfWorld {
         second: u16,
         moment: u64,
     ) -> (Option<Held<'_>>, Option<Held<'_>>)
-        ensures first { held_now result.0
-            ≡ shown_at ((⟦<ShelfWorld as World>⟧.shown self.now).cell (record { owner = owner.now; kind = first })) moment }
-        ensures second { held_now result.1
-            ≡ shown_at ((⟦<ShelfWorld as World>⟧.shown self.now).cell (record { owner = owner.now; kind = second })) moment }
+        ensures first { held_now result.0 ≡ shown_of ⟦<ShelfWorld as World>⟧ self.now owner.now first moment }
+        ensures second { held_now result.1 ≡ shown_of ⟦<ShelfWorld as World>⟧ self.now owner.now second moment }
     {
         self.shelf.show_both(owner, first, second, moment)
     }
@@ -135,9 +125,7 @@ impl ShelfWorld {
 
     /// That is what the face shows of the choice in which the flush alone stands the other way.
     pub(crate) fn over_law(&self, saved: &SavedFlush)
-        ensures { (moment : ℕ) (q : Question) →
-            HoldsOver ⟦<ShelfWorld as World>⟧.table ⟦<ShelfWorld as World>⟧.keeps ⟦<ShelfWorld as World>⟧.face
-            self.now saved.now (λ face. shows_over self.now saved.now moment q ≡ shown_at (face.cell q) moment) }
+        ensures { ShowsOver ⟦<ShelfWorld as World>⟧ self.now saved.now }
     {
         // It is read for its invariant: the numbers of the kept flushes ascend.
         let _shelf = &self.shelf;
@@ -161,11 +149,8 @@ impl ShelfWorld {
     pub fn stored(&self) -> u64
         ensures stored { result ≡ ⟦<ShelfWorld as World>⟧.stored self.now }
         ensures within { ⟦<ShelfWorld as World>⟧.stored self.now ≤ ⟦<ShelfWorld as World>⟧.limit self.now }
-        ensures most { (finds : List Find) → CountsAmong ⟦<ShelfWorld as World>⟧.counts (map pair_of finds) self.now →
-            ⟦<ShelfWorld as World>⟧.stored self.now ≤ count_pairs (map pair_of finds) }
-        ensures least { (kept : List (KeptChange SavedFlush)) (t : ℕ) (pairs : List (Labels × Scope)) →
-            AllByRecursion (IsAliveIn ⟦<ShelfWorld as World>⟧.table ⟦<ShelfWorld as World>⟧.face self.now kept t) pairs →
-            count_pairs pairs ≤ ⟦<ShelfWorld as World>⟧.stored self.now }
+        ensures most { StoresOnlyCounted ⟦<ShelfWorld as World>⟧ self.now }
+        ensures least { StoresEachAlive ⟦<ShelfWorld as World>⟧ self.now }
     {
         self.shelf.stored()
     }
