@@ -1,6 +1,8 @@
 -- What a book keeps, and which histories it represents.
-use Rattle.std.specs.Prelude.{◌≡◌, ◌<◌, ◌≤◌, ◌⊎◌, ℕ, Bool, true, List, [], length, count_by, refl, Result, IfErr, OnErr}
+use Rattle.std.specs.Prelude.{◌≡◌, ◌<◌, ◌≤◌, ◌+◌, ◌⊎◌, ℕ, Bool, true, List, [], length, count_by, refl, Result, IfErr, OnErr}
 use Rattle.std.specs.Coded.{Coded, code_by, coded×, coded_ℕ}
+use Rattle.dns_name.specs.Labels.{Labels}
+use Rattle.ranked.specs.declared.find.Scope.{Scope}
 use Rattle.change_law.specs.declared.world.World.{Ghosts}
 use Rattle.change_law.specs.Face.{Face, IsSame}
 use Rattle.change_law.specs.Pairs.{CountsAmong}
@@ -15,10 +17,10 @@ use Rattle.history.specs.declared.limits.TheConstants.{MOMENT_END, MOST_EVENTS}
 use Rattle.history.specs.Answers.{Follows, TellsLimit, history_after}
 use Rattle.history.specs.Event.{is_admission}
 use Rattle.history.specs.History.{past_of}
-use Rattle.world_book.specs.Removals.{HasRemoved}
+use Rattle.world_book.specs.Removals.{HasRemoved, IsFreeAfter}
 use Rattle.world_book.specs.Step.{IsSound}
 use Rattle.world_book.specs.Tied.{IsTied, undo_may_need}
-use Rattle.world_book.specs.Versions.{count_pairs, pairs_left}
+use Rattle.world_book.specs.Versions.{count_pairs, pairs_left, AreAliveAfter, ForgetsOldest}
 
 -- a world, the changes of its journal, the settings, the greatest moment and the count of events
 pub record BookState (W S : Type 0) : Type 0 where
@@ -61,13 +63,43 @@ IsByLimit stands stored limit event (Full n) = (h : List Event) → stands h →
 IsByLimit stands stored limit event NoMemory = (h : List Event) → stands h → TellsLimit stored limit event NoMemory
 IsByLimit stands stored limit event _ = Unit {0}
 
+-- The limit of cells decides this of a fault at the book.
+abbrev pub IsByLimitAt : {W S : Type 0} → Ghosts W Tables S Command → BookState W S → Event → StepFault → Type 0
+IsByLimitAt by book event fault = IsByLimit (IsBookOf by book) (by.stored book.world) book.settings.cells event fault
+
+-- Only the clock or the count of events refused an event.
+abbrev pub IsUntimely : StepFault → Type 0
+IsUntimely fault = (fault ≡ BadMoment) ⊎ (fault ≡ CountEnded)
+
+-- The event needs no memory at the book, by some history that the book stands for.
+abbrev pub IsFreeAt : {W S : Type 0} → Ghosts W Tables S Command → BookState W S → Event → Type 0
+IsFreeAt by book event = (h : List Event) × IsBookOf by book h × IsFreeAfter book.settings.journal h event
+
+-- Whatever history the book stood for, it now stands for that one with the event, or after a fault for the same one.
+abbrev pub StandsAfter : {W S A : Type 0} → Ghosts W Tables S Command → BookState W S → Event → Result A StepFault → BookState W S → Type 0
+StandsAfter by book event answer book' = (h : List Event) → IsBookOf by book h → IsBookOf by book' (history_after h event answer)
+
+-- If the event forgets the name to forget first, the book stores fewer cells after it.
+abbrev pub ForgetsForRoom : {W S : Type 0} → Ghosts W Tables S Command → BookState W S → Event → BookState W S → Type 0
+ForgetsForRoom by book event book' =
+    (h : List Event) → IsBookOf by book h → ForgetsOldest (past_of book.settings.journal h) event → by.stored book'.world < by.stored book.world
+
+-- What was left to sweep is at most one turn more than what is left now.
+abbrev pub SweepsOneTurn : {W T S D : Type 0} → Ghosts W T S D → BookState W S → BookState W S → Type 0
+SweepsOneTurn by book book' = by.unswept book.world book.moment ≤ by.unswept book'.world book'.moment + by.turn
+
+-- No more than so many different pairs of owner and scope have a find that is alive now in some version.
+abbrev pub CoversAlive : {W S : Type 0} → Ghosts W Tables S Command → BookState W S → ℕ → Type 0
+CoversAlive by book cells =
+    (h : List Event) → IsBookOf by book h → (pairs : List (Labels × Scope)) → AreAliveAfter book.settings.journal h pairs → count_pairs pairs ≤ cells
+
 -- A book took an event that changes nothing but the clock, or it was not timely. Nobody reads the reply.
 pub record IsPassed {W S A : Type 0} (by : Ghosts W Tables S Command) (book : BookState W S) (event : Event) (answer : Result A StepFault) (book' : BookState W S) : Type 0 where
   pub answers : (h : List Event) → IsBookOf by book h → Follows book.settings h event answer
-  pub stands : (h : List Event) → IsBookOf by book h → IsBookOf by book' (history_after h event answer)
+  pub stands : StandsAfter by book event answer book'
   pub same_store : OnErr answer (by.stored book'.world ≡ by.stored book.world)
   pub same_settings : book'.settings ≡ book.settings
-  pub untimely : IfErr answer (λ fault. (fault ≡ BadMoment) ⊎ (fault ≡ CountEnded))
+  pub untimely : IfErr answer IsUntimely
 
 -- Nothing has happened to a world: it keeps no change, by each choice it shows this face, it knows no ticket, it stores no cell, and no pair counts. It may store so many.
 pub record IsUntouched {W T S D : Type 0} (by : Ghosts W T S D) (shown : Face T) (most : ℕ) (world : W) : Type 0 where

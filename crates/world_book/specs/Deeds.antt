@@ -7,6 +7,8 @@ use Rattle.history.specs.declared.event.Event.{Event}
 use Rattle.history.specs.declared.event.Event.TheVariants.{Admit, Forget, Do}
 use Rattle.history.specs.declared.event.Entry.{Entry}
 use Rattle.dns_text.specs.declared.record.Question.{Question}
+use Rattle.ranked.specs.declared.cell.Shown.{Shown}
+use Rattle.ranked.specs.declared.find.Find.{Find}
 use Rattle.ranked.specs.Cell.{shown_at}
 use Rattle.local_zone.specs.Answer.{local_of}
 use Rattle.history.specs.declared.event.Seen.{Seen}
@@ -38,6 +40,10 @@ given_in log = filter_map (λ entry. given_of entry.event entry.ticket) log
 
 abbrev pub given_tickets : List Entry → List ℕ
 given_tickets log = map (λ given. given.0) (given_in log)
+
+-- what a face shows of a question at a moment
+abbrev pub shown_in : {T : Type 0} → Face T → Question → ℕ → Option (Shown Find)
+shown_in face question moment = shown_at (face.cell question) moment
 
 -- the answer to a question at a moment, by a face
 abbrev pub answer_in : Face Tables → Question → ℕ → Seen

@@ -1,5 +1,5 @@
 -- What a step does to a world under its journal.
-use Rattle.std.specs.Prelude.{◌≡◌, ◌≢◌, ◌≤◌, ◌+◌, ℕ, Bool, List, Some, IsTrue}
+use Rattle.std.specs.Prelude.{◌≡◌, ◌≢◌, ◌≤◌, ◌+◌, ◌∷◌, [], ℕ, Bool, List, Some, IsTrue, if◌then◌else◌}
 use Rattle.dns_name.specs.Labels.{Labels}
 use Rattle.change_law.specs.declared.world.World.{Ghosts}
 use Rattle.change_law.specs.Pairs.{AddsPairs, CountsNoneOf}
@@ -19,6 +19,7 @@ use Rattle.history.specs.declared.event.Reason.TheVariants.{BelowRedirect, DataB
 use Rattle.history.specs.declared.event.Reply.{Reply}
 use Rattle.history.specs.declared.event.Reply.TheVariants.{Taken, Outranked, Undone, Redone, NotKept, Buried}
 use Rattle.history.specs.Event.{is_admission}
+use Rattle.world_book.specs.Versions.{pairs_left}
 
 -- The world keeps what the journal has, and knows of no later ticket.
 pub record IsSound {W T S D : Type 0} (by : Ghosts W T S D) (world : W) (changes : Changes S) : Type 0 where
@@ -33,6 +34,11 @@ pub record IsSoundAfter {W T S D : Type 0} (by : Ghosts W T S D) (more : ℕ) (a
   pub stored : by.stored world' ≤ by.stored world + more
   pub limit : by.limit world' ≡ by.limit world
   pub pairs : AddsPairs by.counts added world world'
+
+-- The same after an event: an admission stores one more cell at most, that of the pair of its find.
+abbrev pub IsSoundAfterEvent : {W T S D : Type 0} → Ghosts W T S D → Event → W → Changes S → W → Changes S → Type 0
+IsSoundAfterEvent by event world changes world' changes' =
+    IsSoundAfter by (if is_admission event then 1 else 0) (pairs_left (event ∷ [])) world changes world' changes'
 
 -- After a forget, no pair of its owner counts.
 abbrev pub ForgetsPairs : {W T S D : Type 0} → Ghosts W T S D → Event → W → Type 0

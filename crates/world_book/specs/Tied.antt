@@ -19,6 +19,7 @@ use Rattle.history.specs.Oldest.{IsOldest}
 use Rattle.history.specs.Reply.{reply_of}
 use Rattle.world_book.specs.Deeds.{deeds_of, given_in, given_tickets, empty_face}
 use Rattle.world_book.specs.Removals.{IsRemoval}
+use Rattle.world_book.specs.Step.{ForgetsPairs}
 use Rattle.world_book.specs.Versions.{table_of, IsFreeWhere}
 
 -- The kept changes are commands of the past, each with its ticket.
@@ -51,6 +52,23 @@ IsHistoryReply by settings clock event world changes reply =
 abbrev pub TakesIn : {W S : Type 0} → Ghosts W Tables S Command → ℕ → Event → W → Changes S → W → Changes S → Type 0
 TakesIn by clock event world changes world' changes' =
     (bound : ℕ) (past : Past) → clock ≡ max past.now (moment_of event) → IsTied by world changes bound past → IsTied by world' changes' bound (followed_by bound past event)
+
+-- At each moment of the event, with any settings, the reply is what the history says. The event is given by its moment.
+abbrev pub RepliesAt : {W S : Type 0} → Ghosts W Tables S Command → ℕ → (ℕ → Event) → W → Changes S → Reply → Type 0
+RepliesAt by clock event world changes reply = (settings : Settings) (moment : ℕ) → IsHistoryReply by settings clock (event moment) world changes reply
+
+-- The same, wherever the clock is.
+abbrev pub RepliesAlways : {W S : Type 0} → Ghosts W Tables S Command → (ℕ → Event) → W → Changes S → Reply → Type 0
+RepliesAlways by event world changes reply =
+    (settings : Settings) (clock moment : ℕ) → IsHistoryReply by settings clock (event moment) world changes reply
+
+-- At each moment of the event, the world and its journal take it in. The event is given by its moment.
+abbrev pub TakesInAt : {W S : Type 0} → Ghosts W Tables S Command → ℕ → (ℕ → Event) → W → Changes S → W → Changes S → Type 0
+TakesInAt by clock event world changes world' changes' = (moment : ℕ) → TakesIn by clock (event moment) world changes world' changes'
+
+-- The same, wherever the clock is.
+abbrev pub TakesInAlways : {W S : Type 0} → Ghosts W Tables S Command → (ℕ → Event) → W → Changes S → W → Changes S → Type 0
+TakesInAlways by event world changes world' changes' = (clock moment : ℕ) → TakesIn by clock (event moment) world changes world' changes'
 
 -- Whatever history the world and its journal came to, they come to it still. The clock is at its last moment.
 abbrev pub StaysTied : {W S : Type 0} → Ghosts W Tables S Command → ℕ → W → Changes S → W → Type 0
@@ -89,3 +107,7 @@ abbrev pub MakesRoom : {W S : Type 0} → Ghosts W Tables S Command → Event �
 MakesRoom by (Forget moment owner) world changes world' =
     (bound : ℕ) (past : Past) → IsTied by world changes bound past → IsOldest past (max past.now moment) (Some owner) → by.stored world' < by.stored world
 MakesRoom by event world changes world' = Unit {0}
+
+-- After a forget, no pair of its owner counts, and fewer cells are stored if it forgot the name to forget first.
+abbrev pub ForgetsName : {W S : Type 0} → Ghosts W Tables S Command → Event → W → Changes S → W → Type 0
+ForgetsName by event world changes world' = ForgetsPairs by event world' × MakesRoom by event world changes world'

@@ -3,9 +3,8 @@
 ghost use Rattle.std.specs.Prelude.{◌≡◌, ◌+◌, ◌<◌, ◌≤◌, ◌^◌, ◌∷◌, [], ℕ, true, false, IfOk, IfErr, IsOk, OnOk, OnErr};
 ghost use Rattle.change_law.specs.Pairs.{AreNeeded, CountsNoneOf, IsAliveIn, pair_of};
 ghost use Rattle.history.specs.declared.event.Event.TheVariants.{Admit, Sweep, Forget};
-ghost use Rattle.history.specs.declared.event.Settings.{Settings};
 ghost use Rattle.world_book.specs.Step.{IsSound, IsSoundAfter, IsFaultOf, reply_of_fate};
-ghost use Rattle.world_book.specs.Tied.{IsHistoryReply, MakesRoom, StaysTied, TakesIn, TakesNothingIn};
+ghost use Rattle.world_book.specs.Tied.{MakesRoom, RepliesAt, StaysTied, TakesInAt, TakesInAlways, TakesNothingIn};
 
 use crate::world::BookChange;
 use change_law::{World, WorldFault};
@@ -22,10 +21,9 @@ pub(crate) fn admit<C: BookChange>(
     clock: u64,
 ) -> Result<Reply, StepFault>
     requires { IsSound C.World.World world.old journal.now }
-    ensures told { IfOk result (λ reply. (settings : Settings) (moment : ℕ) →
-        IsHistoryReply C.World.World settings clock (Admit moment find) world.old journal.now reply) }
-    ensures tied { OnOk result ((moment : ℕ) →
-        TakesIn C.World.World clock (Admit moment find) world.old journal.now world.new journal.now) }
+    ensures told { IfOk result (RepliesAt C.World.World clock (λ moment. Admit moment find) world.old journal.now) }
+    ensures tied { OnOk result (TakesInAt C.World.World clock (λ moment. Admit moment find)
+        world.old journal.now world.new journal.now) }
     ensures same { OnErr result (TakesNothingIn C.World.World world.old journal.now world.new journal.now) }
     ensures faults { IfErr result (λ fault. (moment : ℕ) → IsFaultOf C.World.World world.old (Admit moment find) fault) }
     ensures free { IsAliveIn C.World.table C.World.face world.old journal.now.kept clock (pair_of find) → IsOk result }
@@ -70,7 +68,7 @@ pub(crate) fn sweep_some<C: BookChange>(
 /// Lets the world remove what has expired. `clock` is the clock after the sweep.
 pub(crate) fn sweep<C: BookChange>(journal: &Journal<C>, world: &mut C::World, clock: u64)
     requires { IsSound C.World.World world.old journal.now }
-    ensures tied { (moment : ℕ) → TakesIn C.World.World clock (Sweep moment) world.old journal.now world.new journal.now }
+    ensures tied { TakesInAt C.World.World clock Sweep world.old journal.now world.new journal.now }
     ensures sound { IsSoundAfter C.World.World 0 [] world.old journal.now world.new journal.now }
 {
     let _ = journal;
@@ -80,7 +78,7 @@ pub(crate) fn sweep<C: BookChange>(journal: &Journal<C>, world: &mut C::World, c
 /// Lets the world remove some of what has expired, at a sweep whose reply nobody reads. `clock` is the clock after the sweep.
 pub(crate) fn sweep_unread<C: BookChange>(journal: &Journal<C>, world: &mut C::World, clock: u64)
     requires { IsSound C.World.World world.old journal.now }
-    ensures tied { (moment : ℕ) → TakesIn C.World.World clock (Sweep moment) world.old journal.now world.new journal.now }
+    ensures tied { TakesInAt C.World.World clock Sweep world.old journal.now world.new journal.now }
     ensures sound { IsSoundAfter C.World.World 0 [] world.old journal.now world.new journal.now }
     ensures short { clock + 1 < 2 ^ 64 → C.World.unswept world.old clock ≤ C.World.unswept world.new clock + C.World.turn }
 {
@@ -91,8 +89,8 @@ pub(crate) fn sweep_unread<C: BookChange>(journal: &Journal<C>, world: &mut C::W
 /// Lets the world forget a name.
 pub(crate) fn forget<C: BookChange>(journal: &Journal<C>, world: &mut C::World, owner: &Name)
     requires { IsSound C.World.World world.old journal.now }
-    ensures tied { (clock moment : ℕ) →
-        TakesIn C.World.World clock (Forget moment owner.now) world.old journal.now world.new journal.now }
+    ensures tied { TakesInAlways C.World.World (λ moment. Forget moment owner.now)
+        world.old journal.now world.new journal.now }
     ensures gone { CountsNoneOf C.World.counts owner.now world.new }
     ensures room { (moment : ℕ) → MakesRoom C.World.World (Forget moment owner.now) world.old journal.now world.new }
     ensures sound { IsSoundAfter C.World.World 0 [] world.old journal.now world.new journal.now }

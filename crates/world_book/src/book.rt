@@ -1,9 +1,9 @@
 //! A book of a world under a journal of its changes. It keeps no history.
 
-ghost use Rattle.std.specs.Prelude.{◌≡◌, ◌≤◌, ◌+◌, List, length, IfOk};
+ghost use Rattle.std.specs.Prelude.{◌≡◌, ◌≤◌, List, length, IfOk};
 ghost use Rattle.history.specs.declared.event.Event.{Event};
 ghost use Rattle.history.specs.Fresh.{FreshBook};
-ghost use Rattle.world_book.specs.Book.{IsPassed, IsUntouched};
+ghost use Rattle.world_book.specs.Book.{IsPassed, IsUntouched, SweepsOneTurn};
 ghost use Rattle.world_book.specs.Deeds.{empty_face};
 
 use crate::admissions::{sweep_some, sweep_unread};
@@ -102,8 +102,7 @@ impl<C: BookChange> WorldBook<C> {
     /// Takes a sweep whose reply nobody reads. It removes only some of what has expired, so that it is short.
     fn pass_sweep(&mut self, moment: u64) -> Result<(), StepFault>
         ensures passed { IsPassed C.World.World self.old (Event.Sweep moment) result self.new }
-        ensures short { C.World.unswept self.old.world self.old.moment
-            ≤ C.World.unswept self.new.world self.new.moment + C.World.turn }
+        ensures short { SweepsOneTurn C.World.World self.old self.new }
     {
         if moment >= MOMENT_END {
             return Err(StepFault::BadMoment);
@@ -121,16 +120,12 @@ impl<C: BookChange> WorldBook<C> {
 
 impl<C: BookChange> Book for WorldBook<C> {
     ghost use Rattle.std.proofs.Common.{◌≡◌, ◌<◌, ◌≤◌, List, sym, ◌∙◌};
-    ghost use Rattle.std.specs.Prelude.{◌⊎◌, ℕ, true, false, OnOk, OnErr, IfErr, IsErrOf};
-    ghost use Rattle.dns_name.specs.Labels.{Labels};
-    ghost use Rattle.ranked.specs.declared.find.Scope.{Scope};
+    ghost use Rattle.std.specs.Prelude.{ℕ, true, false, OnOk, OnErr, IfErr, IsErrOf};
     ghost use Rattle.change_law.specs.Pairs.{count_pairs, AreNeeded};
     ghost use Rattle.history.specs.declared.event.Event.{Event};
-    ghost use Rattle.history.specs.Answers.{Answers, Follows, history_after};
-    ghost use Rattle.history.specs.History.{past_of};
-    ghost use Rattle.world_book.specs.Book.{IsBookOf, IsByLimit};
-    ghost use Rattle.world_book.specs.Removals.{IsFreeAfter};
-    ghost use Rattle.world_book.specs.Versions.{pairs_left, AreAliveAfter, ForgetsOldest};
+    ghost use Rattle.history.specs.Answers.{Answers, Follows};
+    ghost use Rattle.world_book.specs.Book.{CoversAlive, ForgetsForRoom, IsBookOf, IsByLimitAt, IsFreeAt, IsUntimely, StandsAfter};
+    ghost use Rattle.world_book.specs.Versions.{pairs_left};
 
     ghost stands_for = { IsBookOf C.World.World };
 
@@ -142,7 +137,7 @@ impl<C: BookChange> Book for WorldBook<C> {
 
     // A sweep, a forget, an undo or a redo that reaches a flush, an undo of a command that removed nothing, and an admission whose pair
     // is alive in some version need no memory.
-    ghost is_free = { λ book event. (h : List Event) × IsBookOf C.World.World book h × IsFreeAfter book.settings.journal h event };
+    ghost is_free = { λ book event. IsFreeAt C.World.World book event };
 
     ghost has_journal = { λ book history is. is.some_commands };
 
@@ -152,25 +147,20 @@ impl<C: BookChange> Book for WorldBook<C> {
 
     fn step(&mut self, event: Event) -> Result<Reply, StepFault>
         ensures answers { (h : List Event) → IsBookOf C.World.World self.old h → Answers self.old.settings h event result }
-        ensures stands { (h : List Event) → IsBookOf C.World.World self.old h →
-            IsBookOf C.World.World self.new (history_after h event result) }
+        ensures stands { StandsAfter C.World.World self.old event result self.new }
         ensures full { (n : ℕ) → IsErrOf result (StepFault.Full n) → C.World.stored self.old.world ≡ n }
         ensures same_store { OnErr result (C.World.stored self.new.world ≡ C.World.stored self.old.world) }
         ensures settings { self.new.settings ≡ self.old.settings }
 
         // It is full only if as many finds as there may be cells differ in owner or scope. If it stores as many cells as there may be, it
         // refuses no admission for want of memory.
-        ensures by_limit { IfErr result (λ fault. IsByLimit (IsBookOf C.World.World self.old)
-            (C.World.stored self.old.world) self.old.settings.cells event fault) }
+        ensures by_limit { IfErr result (IsByLimitAt C.World.World self.old event) }
 
         // An event that needs no memory is refused only by the clock and the count of events.
-        ensures free { (h : List Event) × IsBookOf C.World.World self.old h × IsFreeAfter self.old.settings.journal h event →
-            IfErr result (λ fault. (fault ≡ StepFault.BadMoment) ⊎ (fault ≡ StepFault.CountEnded)) }
+        ensures free { IsFreeAt C.World.World self.old event → IfErr result IsUntimely }
 
         // A forget of the name to forget first at its moment makes room: fewer cells are stored after it.
-        ensures room { OnOk result ((h : List Event) → IsBookOf C.World.World self.old h →
-            ForgetsOldest (past_of self.old.settings.journal h) event →
-            C.World.stored self.new.world < C.World.stored self.old.world) }
+        ensures room { OnOk result (ForgetsForRoom C.World.World self.old event self.new) }
     {
         if event.moment() >= MOMENT_END {
             return Err(StepFault::BadMoment);
@@ -200,23 +190,19 @@ impl<C: BookChange> Book for WorldBook<C> {
 
     fn follow(&mut self, event: Event) -> Result<(), StepFault>
         ensures answers { (h : List Event) → IsBookOf C.World.World self.old h → Follows self.old.settings h event result }
-        ensures stands { (h : List Event) → IsBookOf C.World.World self.old h →
-            IsBookOf C.World.World self.new (history_after h event result) }
+        ensures stands { StandsAfter C.World.World self.old event result self.new }
         ensures full { (n : ℕ) → IsErrOf result (StepFault.Full n) → C.World.stored self.old.world ≡ n }
         ensures same_store { OnErr result (C.World.stored self.new.world ≡ C.World.stored self.old.world) }
         ensures settings { self.new.settings ≡ self.old.settings }
 
         // An event that needs no memory is refused only by the clock and the count of events.
-        ensures free { (h : List Event) × IsBookOf C.World.World self.old h × IsFreeAfter self.old.settings.journal h event →
-            IfErr result (λ fault. (fault ≡ StepFault.BadMoment) ⊎ (fault ≡ StepFault.CountEnded)) }
+        ensures free { IsFreeAt C.World.World self.old event → IfErr result IsUntimely }
 
         // A fault comes from the limit of cells as in `step`.
-        ensures by_limit { IfErr result (λ fault. IsByLimit (IsBookOf C.World.World self.old)
-            (C.World.stored self.old.world) self.old.settings.cells event fault) }
+        ensures by_limit { IfErr result (IsByLimitAt C.World.World self.old event) }
 
         // A sweep is one turn, so it is short, however much has expired.
-        ensures short { (moment : ℕ) → event ≡ Event.Sweep moment → C.World.unswept self.old.world self.old.moment
-            ≤ C.World.unswept self.new.world self.new.moment + C.World.turn }
+        ensures short { (moment : ℕ) → event ≡ Event.Sweep moment → SweepsOneTurn C.World.World self.old self.new }
     {
         match event {
             Event::Look { moment, ask } => self.pass_look(moment, &ask),
@@ -240,8 +226,7 @@ impl<C: BookChange> Book for WorldBook<C> {
         ensures none { result ≡ false → C.World.unswept self.new.world self.new.moment ≡ 0 }
 
         // It is one turn, so it is short, however much has expired.
-        ensures short { C.World.unswept self.old.world self.old.moment
-            ≤ C.World.unswept self.new.world self.new.moment + C.World.turn }
+        ensures short { SweepsOneTurn C.World.World self.old self.new }
 
         // If nothing is left, each cell that counts is needed: a find about it is alive by some choice of the kept commands.
         ensures needed { result ≡ false →
@@ -316,8 +301,7 @@ impl<C: BookChange> Book for WorldBook<C> {
         ensures most { (h : List Event) → IsBookOf C.World.World self.now h → result ≤ count_pairs (pairs_left h) }
 
         // No fewer than the different pairs of the finds that are alive now in some version.
-        ensures least { (h : List Event) → IsBookOf C.World.World self.now h → (pairs : List (Labels × Scope)) →
-            AreAliveAfter self.now.settings.journal h pairs → count_pairs pairs ≤ result }
+        ensures least { CoversAlive C.World.World self.now result }
     {
         // It is called for its clause `sound`: the kept commands are in order, and those that are undone are marked.
         let _undone = self.journal.undone();

@@ -1,10 +1,8 @@
 //! Events of a world under its journal.
 
-ghost use Rattle.std.specs.Prelude.{◌<◌, ◌^◌, ◌∷◌, [], IfOk, IfErr, OnOk, OnErr, if◌then◌else◌};
-ghost use Rattle.history.specs.Event.{is_admission};
-ghost use Rattle.world_book.specs.Step.{ForgetsPairs, IsSound, IsSoundAfter, IsFaultOf};
-ghost use Rattle.world_book.specs.Tied.{GainsNeeds, IsHistoryReply, IsTakenIfFree, MakesRoom, TakesIn, TakesNothingIn};
-ghost use Rattle.world_book.specs.Versions.{pairs_left};
+ghost use Rattle.std.specs.Prelude.{◌<◌, ◌^◌, IfOk, IfErr, OnOk, OnErr};
+ghost use Rattle.world_book.specs.Step.{IsSound, IsSoundAfterEvent, IsFaultOf};
+ghost use Rattle.world_book.specs.Tied.{ForgetsName, GainsNeeds, IsHistoryReply, IsTakenIfFree, TakesIn, TakesNothingIn};
 
 use crate::admissions::{admit, forget, sweep};
 use crate::obey_command::give;
@@ -30,10 +28,8 @@ pub(crate) fn obey<C: BookChange>(
     ensures same { OnErr result (TakesNothingIn C.World.World world.old journal.old world.new journal.new) }
     ensures faults { IfErr result (λ fault. IsFaultOf C.World.World world.old event fault) }
     ensures free { IsTakenIfFree C.World.World clock event world.old journal.old result }
-    ensures sound { IsSoundAfter C.World.World (if is_admission event then 1 else 0) (pairs_left (event ∷ []))
-        world.old journal.old world.new journal.new }
-    ensures forgotten { OnOk result (ForgetsPairs C.World.World event world.new
-        × MakesRoom C.World.World event world.old journal.old world.new) }
+    ensures sound { IsSoundAfterEvent C.World.World event world.old journal.old world.new journal.new }
+    ensures forgotten { OnOk result (ForgetsName C.World.World event world.old journal.old world.new) }
     ensures needs { OnOk result (GainsNeeds C.World.World event world.old journal.old journal.new) }
 {
     // It is called for its clause `sound`: the kept commands are in order, and those that are undone are marked.

@@ -3,9 +3,8 @@
 ghost use Rattle.std.specs.Prelude.{◌≡◌, ◌<◌, ◌^◌, [], ℕ, IfOk, OnOk, OnErr};
 ghost use Rattle.history.specs.declared.event.Event.TheVariants.{Do};
 ghost use Rattle.history.specs.declared.event.Reason.{Reason};
-ghost use Rattle.history.specs.declared.event.Settings.{Settings};
 ghost use Rattle.world_book.specs.Step.{IsSound, IsSoundAfter, code_of};
-ghost use Rattle.world_book.specs.Tied.{GainsNeeds, IsHistoryReply, TakesIn, TakesNothingIn};
+ghost use Rattle.world_book.specs.Tied.{GainsNeeds, RepliesAlways, TakesInAlways, TakesNothingIn};
 
 use crate::world::BookChange;
 use change_law::ChangeFault;
@@ -22,10 +21,9 @@ pub(crate) fn give<C: BookChange>(
 ) -> Result<Reply, NoMemory>
     requires sound { IsSound C.World.World world.old journal.old }
     requires few { journal.old.tickets < 2 ^ 62 }
-    ensures told { IfOk result (λ reply. (settings : Settings) (clock moment : ℕ) →
-        IsHistoryReply C.World.World settings clock (Do moment command) world.old journal.old reply) }
-    ensures tied { OnOk result ((clock moment : ℕ) →
-        TakesIn C.World.World clock (Do moment command) world.old journal.old world.new journal.new) }
+    ensures told { IfOk result (RepliesAlways C.World.World (λ moment. Do moment command) world.old journal.old) }
+    ensures tied { OnOk result (TakesInAlways C.World.World (λ moment. Do moment command)
+        world.old journal.old world.new journal.new) }
     ensures same { OnErr result (TakesNothingIn C.World.World world.old journal.old world.new journal.new) }
     ensures sound { IsSoundAfter C.World.World 0 [] world.old journal.old world.new journal.new }
     ensures needs { OnOk result ((moment : ℕ) →

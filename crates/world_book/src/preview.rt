@@ -1,15 +1,9 @@
 //! What a lookup would see right after an undo or a redo, of a world under its journal. Nothing is done and taken back.
 
-ghost use Rattle.std.specs.Prelude.{◌≡◌, ◌⊎◌, max, ℕ, Some, IfOk, slice_get};
-ghost use Rattle.change_law.specs.declared.kept.KeptChange.{KeptChange};
-ghost use Rattle.history.specs.History.{Past};
-ghost use Rattle.history.specs.Journal.{commands_of, next_undo};
-ghost use Rattle.history.specs.Reply.{answer_after, next_seen};
+ghost use Rattle.std.specs.Prelude.{◌⊎◌, IfOk};
 ghost use Rattle.undo_journal.specs.Journal.{CanBeRedone, CanBeUndone};
-ghost use Rattle.change_law.specs.Turn.{HoldsOver};
-ghost use Rattle.world_book.specs.Deeds.{answer_in};
 ghost use Rattle.world_book.specs.Held.{held_one};
-ghost use Rattle.world_book.specs.Tied.{IsTied};
+ghost use Rattle.world_book.specs.Seen.{AnswersAfter, AnswersOverPlace, ShowsNextUndo};
 
 use crate::commands::held_one;
 use crate::world::{BookChange, BookWorld};
@@ -29,8 +23,7 @@ pub(crate) fn answer_after<C: BookChange>(
     clock: u64,
 ) -> Result<Seen, NoMemory>
     requires { C.World.keeps world.now journal.now.kept }
-    ensures { IfOk result (λ s. (bound settled moment : ℕ) (past : Past) → clock ≡ max past.now moment →
-        IsTied C.World.World world.now journal.now bound past → s ≡ answer_after settled past step question.now moment) }
+    ensures { IfOk result (AnswersAfter C.World.World step question.now clock world.now journal.now) }
 {
     // It is called for its clause `sound`: the kept commands are in order, and those that are undone are marked.
     let _undone = journal.undone();
@@ -62,8 +55,7 @@ fn answer_at<C: BookChange>(
 ) -> Result<Seen, NoMemory>
     requires keeps { C.World.keeps world.now journal.now.kept }
     requires turns { CanBeUndone C.World.table journal.now.kept place ⊎ CanBeRedone C.World.table journal.now.kept place }
-    ensures { IfOk result (λ s. (kept : KeptChange C.World.Saved) → slice_get journal.now.kept place ≡ Some kept →
-        HoldsOver C.World.table C.World.keeps C.World.face world.now kept.saved (λ face. s ≡ answer_in face question.now clock)) }
+    ensures { IfOk result (AnswersOverPlace C.World.World world.now journal.now place question.now clock) }
 {
     match journal.kept(place) {
         Some(kept) => world.answer_over(alloc, &kept.saved, question, clock),
@@ -90,8 +82,7 @@ pub(crate) fn hidden_some<C: BookChange>(
 
 /// The command that an undo would take back.
 pub(crate) fn next_undo<C: BookChange>(journal: &Journal<C>) -> Result<Seen, NoMemory>
-    ensures { IfOk result (λ s. (world : C.World) (bound : ℕ) (past : Past) → IsTied C.World.World world journal.now bound past →
-        s ≡ next_seen (next_undo past.marks (commands_of past))) }
+    ensures { IfOk result (ShowsNextUndo C.World.World journal.now) }
 {
     // It is called for its clause `sound`: the kept commands are in order, and those that are undone are marked.
     let _undone = journal.undone();

@@ -1,11 +1,8 @@
 //! Lookups in a world under its journal.
 
-ghost use Rattle.std.specs.Prelude.{◌≡◌, ◌≤◌, max, ℕ, IfOk};
-ghost use Rattle.history.specs.History.{Past};
-ghost use Rattle.history.specs.Oldest.{IsOldest};
-ghost use Rattle.history.specs.Reply.{seen_of};
+ghost use Rattle.std.specs.Prelude.{IfOk};
+ghost use Rattle.world_book.specs.Seen.{IsOldestIn, SeesHistory};
 ghost use Rattle.world_book.specs.Step.{IsSound};
-ghost use Rattle.world_book.specs.Tied.{IsTied};
 
 use crate::commands::{buried_commands, commands};
 use crate::preview::{answer_after, next_undo};
@@ -25,8 +22,7 @@ fn oldest<C: BookChange>(
     world: &C::World,
     clock: u64,
 ) -> Result<Option<Name>, NoMemory>
-    ensures { IfOk result (λ name. (bound : ℕ) (past : Past) → past.now ≤ clock →
-        IsTied C.World.World world.now journal.now bound past → IsOldest past clock name) }
+    ensures { IfOk result (IsOldestIn C.World.World clock world.now journal.now) }
 {
     // It is called for its clause `sound`: the kept commands are in order, and those that are undone are marked.
     let _undone = journal.undone();
@@ -46,8 +42,7 @@ pub(crate) fn seen<C: BookChange>(
     clock: u64,
 ) -> Result<Seen, NoMemory>
     requires { IsSound C.World.World world.now journal.now }
-    ensures { IfOk result (λ s. (bound moment : ℕ) (past : Past) → clock ≡ max past.now moment →
-        IsTied C.World.World world.now journal.now bound past → s ≡ seen_of settings.now past ask.now moment) }
+    ensures { IfOk result (SeesHistory C.World.World settings.now clock ask.now world.now journal.now) }
 {
     // It is called for its clause `sound`: the kept commands are in order, and those that are undone are marked.
     let _undone = journal.undone();

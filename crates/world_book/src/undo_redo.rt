@@ -2,11 +2,10 @@
 
 ghost use Rattle.std.specs.Prelude.{◌≡◌, [], ℕ, IfOk, IsOk, OnOk, OnErr};
 ghost use Rattle.history.specs.declared.event.Event.TheVariants.{Undo, Redo, UndoOf, RedoOf};
-ghost use Rattle.history.specs.declared.event.Settings.{Settings};
 ghost use Rattle.history.specs.Reply.{reply_to_undo, reply_to_redo};
 ghost use Rattle.undo_journal.specs.Needs.{HaveNeeds};
 ghost use Rattle.world_book.specs.Step.{IsSound, IsSoundAfter, IsFree, redo_told, undo_told};
-ghost use Rattle.world_book.specs.Tied.{IsHistoryReply, TakesIn, TakesNothingIn};
+ghost use Rattle.world_book.specs.Tied.{RepliesAlways, TakesInAlways, TakesNothingIn};
 
 use crate::world::BookChange;
 use dns_name::NoMemory;
@@ -19,10 +18,8 @@ pub(crate) fn undo<C: BookChange>(
     world: &mut C::World,
 ) -> Result<Reply, NoMemory>
     requires { IsSound C.World.World world.old journal.old }
-    ensures told { IfOk result (λ reply. (settings : Settings) (clock moment : ℕ) →
-        IsHistoryReply C.World.World settings clock (Undo moment) world.old journal.old reply) }
-    ensures tied { OnOk result ((clock moment : ℕ) →
-        TakesIn C.World.World clock (Undo moment) world.old journal.old world.new journal.new) }
+    ensures told { IfOk result (RepliesAlways C.World.World Undo world.old journal.old) }
+    ensures tied { OnOk result (TakesInAlways C.World.World Undo world.old journal.old world.new journal.new) }
     ensures same { OnErr result (TakesNothingIn C.World.World world.old journal.old world.new journal.new) }
     ensures free { (moment : ℕ) → IsFree C.World.needs_memory journal.old (Undo moment) → IsOk result }
     ensures sound { IsSoundAfter C.World.World 0 [] world.old journal.old world.new journal.new }
@@ -38,10 +35,8 @@ pub(crate) fn redo<C: BookChange>(
     world: &mut C::World,
 ) -> Result<Reply, NoMemory>
     requires { IsSound C.World.World world.old journal.old }
-    ensures told { IfOk result (λ reply. (settings : Settings) (clock moment : ℕ) →
-        IsHistoryReply C.World.World settings clock (Redo moment) world.old journal.old reply) }
-    ensures tied { OnOk result ((clock moment : ℕ) →
-        TakesIn C.World.World clock (Redo moment) world.old journal.old world.new journal.new) }
+    ensures told { IfOk result (RepliesAlways C.World.World Redo world.old journal.old) }
+    ensures tied { OnOk result (TakesInAlways C.World.World Redo world.old journal.old world.new journal.new) }
     ensures same { OnErr result (TakesNothingIn C.World.World world.old journal.old world.new journal.new) }
     ensures free { (moment : ℕ) → IsFree C.World.needs_memory journal.old (Redo moment) → IsOk result }
     ensures sound { IsSoundAfter C.World.World 0 [] world.old journal.old world.new journal.new }
@@ -60,10 +55,9 @@ pub(crate) fn undo_of<C: BookChange>(
     ticket: u64,
 ) -> Result<Reply, NoMemory>
     requires { IsSound C.World.World world.old journal.old }
-    ensures told { IfOk result (λ reply. (settings : Settings) (clock moment : ℕ) →
-        IsHistoryReply C.World.World settings clock (UndoOf moment ticket) world.old journal.old reply) }
-    ensures tied { OnOk result ((clock moment : ℕ) →
-        TakesIn C.World.World clock (UndoOf moment ticket) world.old journal.old world.new journal.new) }
+    ensures told { IfOk result (RepliesAlways C.World.World (λ moment. UndoOf moment ticket) world.old journal.old) }
+    ensures tied { OnOk result (TakesInAlways C.World.World (λ moment. UndoOf moment ticket)
+        world.old journal.old world.new journal.new) }
     ensures same { OnErr result (TakesNothingIn C.World.World world.old journal.old world.new journal.new) }
     ensures free { (moment : ℕ) → IsFree C.World.needs_memory journal.old (UndoOf moment ticket) → IsOk result }
     ensures sound { IsSoundAfter C.World.World 0 [] world.old journal.old world.new journal.new }
@@ -82,10 +76,9 @@ pub(crate) fn redo_of<C: BookChange>(
     ticket: u64,
 ) -> Result<Reply, NoMemory>
     requires { IsSound C.World.World world.old journal.old }
-    ensures told { IfOk result (λ reply. (settings : Settings) (clock moment : ℕ) →
-        IsHistoryReply C.World.World settings clock (RedoOf moment ticket) world.old journal.old reply) }
-    ensures tied { OnOk result ((clock moment : ℕ) →
-        TakesIn C.World.World clock (RedoOf moment ticket) world.old journal.old world.new journal.new) }
+    ensures told { IfOk result (RepliesAlways C.World.World (λ moment. RedoOf moment ticket) world.old journal.old) }
+    ensures tied { OnOk result (TakesInAlways C.World.World (λ moment. RedoOf moment ticket)
+        world.old journal.old world.new journal.new) }
     ensures same { OnErr result (TakesNothingIn C.World.World world.old journal.old world.new journal.new) }
     ensures free { (moment : ℕ) → IsFree C.World.needs_memory journal.old (RedoOf moment ticket) → IsOk result }
     ensures sound { IsSoundAfter C.World.World 0 [] world.old journal.old world.new journal.new }

@@ -1,22 +1,17 @@
 //! The traits that a book needs of a world and of its changes.
 
-ghost use Rattle.std.specs.Prelude.{◌≡◌, ◌≤◌, ℕ, true, false, None, List, map, IfOk};
-ghost use Rattle.std.specs.List.{AllByRecursion};
+ghost use Rattle.std.specs.Prelude.{◌≡◌, ◌≤◌, ℕ, true, false, None, IfOk};
 ghost use Rattle.std.specs.Option.{option_map};
-ghost use Rattle.dns_name.specs.Labels.{Labels};
 ghost use Rattle.dns_text.specs.declared.record.Question.{Question};
-ghost use Rattle.ranked.specs.declared.find.Find.{Find};
-ghost use Rattle.ranked.specs.declared.find.Scope.{Scope};
-ghost use Rattle.ranked.specs.Cell.{shown_at};
 ghost use Rattle.history.specs.declared.tables.Tables.{Tables};
 ghost use Rattle.history.specs.Changes.{after_command_on, reason_on};
 ghost use Rattle.history.specs.Event.{covers};
-ghost use Rattle.change_law.specs.declared.kept.KeptChange.{KeptChange};
-ghost use Rattle.change_law.specs.Pairs.{CountsAmong, IsAliveIn, count_pairs, pair_of};
-ghost use Rattle.change_law.specs.Turn.{CanTurn, HoldsOver};
-ghost use Rattle.world_book.specs.Deeds.{answer_in};
+ghost use Rattle.change_law.specs.Turn.{CanTurn};
+ghost use Rattle.world_book.specs.Deeds.{shown_in};
 ghost use Rattle.world_book.specs.Removals.{removes};
+ghost use Rattle.world_book.specs.Seen.{AnswersOver};
 ghost use Rattle.world_book.specs.Step.{code_of};
+ghost use Rattle.world_book.specs.Stored.{StoresEachAlive, StoresOnlyCounted};
 ghost use Rattle.world_book.specs.Versions.{table_of};
 
 use change_law::{Change, World};
@@ -36,10 +31,8 @@ pub trait BookWorld: World<Tables = Tables, Told = Command> + CellSource {
     fn stored(&self) -> usize
         ensures stored { result ≡ Self.stored self.now }
         ensures within { Self.stored self.now ≤ Self.limit self.now }
-        ensures most { (finds : List Find) → CountsAmong Self.counts (map pair_of finds) self.now →
-            Self.stored self.now ≤ count_pairs (map pair_of finds) }
-        ensures least { (kept : List (KeptChange Self.Saved)) → Self.keeps self.now kept → (t : ℕ) (pairs : List (Labels × Scope)) →
-            AllByRecursion (IsAliveIn Self.table Self.face self.now kept t) pairs → count_pairs pairs ≤ Self.stored self.now };
+        ensures most { StoresOnlyCounted Self.counts Self.stored self.now }
+        ensures least { StoresEachAlive Self.table Self.keeps Self.face Self.stored self.now };
 
     /// The command of a change that is kept.
     fn command(saved: &Self::Saved) -> &Command
@@ -55,8 +48,7 @@ pub trait BookWorld: World<Tables = Tables, Told = Command> + CellSource {
         moment: u64,
     ) -> Result<Seen, NoMemory>
         requires { CanTurn Self.table Self.keeps self.now saved.now }
-        ensures { IfOk result (λ seen. HoldsOver Self.table Self.keeps Self.face self.now saved.now
-            (λ face. seen ≡ answer_in face question.now moment)) };
+        ensures { IfOk result (AnswersOver Self.table Self.keeps Self.face self.now saved.now question.now moment) };
 
     /// Counts of how many names a kept change hides a cell, some names from a place on. No clause says what is counted.
     fn hidden_some(&self, saved: &Self::Saved, from: u64, moment: u64) -> Hidden;
@@ -68,8 +60,7 @@ pub trait BookWorld: World<Tables = Tables, Told = Command> + CellSource {
     ghost with_cells: { Self.has_cells ≡ true };
 
     /// It shows what the cells of its face do.
-    ghost as_shown: { (world : Self) (moment : ℕ) (q : Question) →
-        Self.shows_at world moment q ≡ shown_at ((Self.shown world).cell q) moment };
+    ghost as_shown: { (world : Self) (moment : ℕ) (q : Question) → Self.shows_at world moment q ≡ shown_in (Self.shown world) q moment };
 }
 
 /// A change that a command makes.
