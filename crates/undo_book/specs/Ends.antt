@@ -1,7 +1,8 @@
 -- How a plain book finds the name to forget first: it replays each cell that an admission can fill once, over the choices of none and of one of the commands of the journal.
 use Rattle.std.specs.Prelude.{ℕ, ◌+◌, Bool, false, not, ◌&&◌, ◌||◌, nat_lt, Option, Some, None, List, [], ◌∷◌, ◌++◌, map, if◌then◌else◌, slice_get}
 use Rattle.std.specs.List.{list_any}
-use Rattle.std.specs.Option.{option_map_or}
+use Rattle.std.specs.Option.{option_map, option_map_or}
+use Rattle.std.specs.Borrow.{Bor}
 use Rattle.dns_name.specs.Labels.{Labels}
 use Rattle.dns_name.specs.Order.{name_eq}
 use Rattle.ranked.specs.declared.cell.Admitted.{Admitted}
@@ -11,11 +12,12 @@ use Rattle.ranked.specs.Equal.{scope_eq}
 use Rattle.history.specs.declared.event.Event.{Event}
 use Rattle.history.specs.declared.event.Event.TheVariants.{Admit}
 use Rattle.history.specs.History.{Past, stands_by}
-use Rattle.history.specs.Journal.{is_among}
+use Rattle.history.specs.Journal.{is_among, tickets_of}
 use Rattle.history.specs.OldestFound.{last_scope_end, scope_after, settled_of, with_ticket}
 use Rattle.undo_book.specs.declared.index.Indexed.{Indexed}
 use Rattle.undo_book.specs.declared.log.Logged.{Logged}
 use Rattle.undo_book.specs.declared.oldest.ScopeEnd.{ScopeEnd}
+use Rattle.undo_book.specs.declared.scope_replay.Replay.{Replay}
 use Rattle.undo_book.specs.Index.{concerns, tag_of}
 use Rattle.undo_book.specs.Plain.{has_taken}
 
@@ -42,6 +44,15 @@ abbrev pub scope_after_indexed : Labels → Scope → List ℕ → Option ℕ �
 scope_after_indexed owner scope journal own log cell indexed =
     if concerns (tag_of owner) indexed.tag then option_map_or (λ logged. scope_after_logged owner scope journal own cell logged) (slice_get log indexed.at) cell else cell
 
+-- the cell of a replay after an entry
+abbrev pub replayed_after : Replay → Option (Admitted Find) → Logged → Option (Admitted Find)
+replayed_after replay cell logged = scope_after_logged replay.owner.now replay.scope (tickets_of replay.journal.now) replay.own cell logged
+
+-- the same after the entry that the index names
+abbrev pub replayed_after_indexed : Replay → List Logged → Option (Admitted Find) → Indexed → Option (Admitted Find)
+replayed_after_indexed replay log cell indexed =
+    scope_after_indexed replay.owner.now replay.scope (tickets_of replay.journal.now) replay.own log cell indexed
+
 -- a name, a scope of its finds, and the last second in which one of them ends
 pub record End : Type 0 where
   pub owner : Labels
@@ -53,6 +64,10 @@ end_now own = record { owner = own.owner.now; scope = own.scope; end = own.end }
 
 abbrev pub ends_now : List ScopeEnd → List End
 ends_now ends = map end_now ends
+
+-- the name that was found, if one was
+abbrev pub found_now : Option (Bor Labels) → Option Labels
+found_now found = option_map (λ name. name.now) found
 
 -- the name and the second alone
 abbrev pub pair_of : End → Labels × ℕ

@@ -1,11 +1,10 @@
 //! The name to forget first, by a replay of the cells.
 
 ghost use Rattle.std.specs.Prelude.{◌≡◌, ◌+◌, not, nat_lt, IfOk, OnOk};
-ghost use Rattle.std.specs.Option.{option_map};
 ghost use Rattle.history.specs.Journal.{commands_of};
 ghost use Rattle.history.specs.OldestFound.{is_sooner, last_end, last_scope_end, oldest_in, oldest_of, sooner_of};
 ghost use Rattle.history.specs.SoonestLaws.{AreEndings};
-ghost use Rattle.undo_book.specs.Ends.{ends_after, ends_now, has_scope, pairs_of};
+ghost use Rattle.undo_book.specs.Ends.{ends_after, ends_now, found_now, has_scope, pairs_of};
 ghost use Rattle.undo_book.specs.PlainPast.{past_in};
 
 use crate::listing::commands;
@@ -120,7 +119,7 @@ fn last_scope_end(
 
 /// The name whose last end comes first.
 fn soonest<'a>(ends: &[ScopeEnd<'a>]) -> Option<&'a Name>
-    ensures { option_map (λ name. name.now) result ≡ oldest_in (pairs_of (ends_now ends.now)) }
+    ensures { found_now result ≡ oldest_in (pairs_of (ends_now ends.now)) }
 {
     let mut found = None;
     for end in ends {
@@ -131,8 +130,7 @@ fn soonest<'a>(ends: &[ScopeEnd<'a>]) -> Option<&'a Name>
 
 /// The sooner of the name found so far and another, if that has an end.
 fn sooner_of<'a>(ends: &[ScopeEnd<'_>], found: Option<&'a Name>, name: &'a Name) -> Option<&'a Name>
-    ensures { option_map (λ name. name.now) result
-        ≡ sooner_of (pairs_of (ends_now ends.now)) (option_map (λ name. name.now) found.entry) name.now }
+    ensures { found_now result ≡ sooner_of (pairs_of (ends_now ends.now)) (found_now found.entry) name.now }
 {
     if last_end(ends, name) == 0 {
         return found;

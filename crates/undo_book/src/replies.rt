@@ -5,10 +5,9 @@ ghost use Rattle.history.specs.Changes.{reason_on, unless_refused};
 ghost use Rattle.history.specs.History.{followed_by, tables_of};
 ghost use Rattle.history.specs.Marks.{last_of};
 ghost use Rattle.undo_book.specs.Plain.{marks_in};
-ghost use Rattle.undo_book.specs.PlainPast.{past_in};
+ghost use Rattle.undo_book.specs.PlainPast.{past_in, reply_to_redo_in, reply_to_undo_in};
 ghost use Rattle.undo_book.specs.Replayed.{tables_by_reply};
-ghost use Rattle.history.specs.Journal.{commands_of, is_among, over, under};
-ghost use Rattle.history.specs.Reply.{reply_of, reply_to_command, reply_to_redo, reply_to_redo_of, reply_to_undo, reply_to_undo_of};
+ghost use Rattle.history.specs.Reply.{reply_of, reply_to_command, reply_to_redo, reply_to_undo};
 
 use crate::changes::change;
 use crate::listing::commands;
@@ -100,8 +99,7 @@ fn reply_to_undo_of(
     tables: &mut Tables,
     ticket: u64,
 ) -> Result<Reply, NoMemory>
-    ensures told { IfOk result (λ r. r ≡ reply_to_undo_of (is_among past.now.marks.done.items ticket)
-        (over (commands_of (past_in past.now)) ticket) ticket) }
+    ensures told { IfOk result (λ r. r ≡ reply_to_undo_in past.now ticket) }
     ensures changed { IfOk result (λ r. tables.new ≡ tables_by_reply r past.now.log.items tables.old) }
     ensures same { OnErr result (tables.new ≡ tables.old) }
 {
@@ -124,8 +122,7 @@ fn reply_to_redo_of(
     tables: &mut Tables,
     ticket: u64,
 ) -> Result<Reply, NoMemory>
-    ensures told { IfOk result (λ r. r ≡ reply_to_redo_of (is_among past.now.marks.undone.items ticket)
-        (under (commands_of (past_in past.now)) ticket) ticket) }
+    ensures told { IfOk result (λ r. r ≡ reply_to_redo_in past.now ticket) }
     ensures changed { IfOk result (λ r. tables.new ≡ tables_by_reply r past.now.log.items tables.old) }
     ensures same { OnErr result (tables.new ≡ tables.old) }
 {

@@ -3,7 +3,7 @@
 ghost use Rattle.std.specs.Prelude.{◌≡◌};
 ghost use Rattle.history.specs.Journal.{commands_of, is_among, tickets_of};
 ghost use Rattle.history.specs.OldestFound.{end_at, scope_covers, scope_end, scope_touches};
-ghost use Rattle.undo_book.specs.Ends.{choice_of, has_chosen, scope_after_indexed, scope_after_logged};
+ghost use Rattle.undo_book.specs.Ends.{choice_of, has_chosen, replayed_after, replayed_after_indexed};
 ghost use Rattle.undo_book.specs.Index.{tag_of};
 ghost use Rattle.undo_book.specs.Plain.{content_of};
 ghost use Rattle.undo_book.specs.PlainPast.{past_in};
@@ -72,9 +72,7 @@ impl Replay<'_> {
 
     /// Their cell after an entry, if that is in force.
     fn after<'a>(&self, mut cell: Cell<&'a SharedFind>, logged: &'a Logged) -> Cell<&'a SharedFind>
-        ensures { content_of result.held ≡
-            scope_after_logged self.now.owner.now self.now.scope (tickets_of self.now.journal.now) self.now.own
-            (content_of cell.entry.held) logged.now }
+        ensures { content_of result.held ≡ replayed_after self.now (content_of cell.entry.held) logged.now }
     {
         match &logged.entry.event {
             Event::Admit { find, .. } => {
@@ -110,9 +108,7 @@ impl Replay<'_> {
         indexed: &Indexed,
     ) -> Cell<&'a SharedFind>
         requires { tag ≡ tag_of self.now.owner.now }
-        ensures { content_of result.held ≡
-            scope_after_indexed self.now.owner.now self.now.scope (tickets_of self.now.journal.now) self.now.own
-            log.now (content_of cell.entry.held) indexed.now }
+        ensures { content_of result.held ≡ replayed_after_indexed self.now log.now (content_of cell.entry.held) indexed.now }
     {
         if !indexed.concerns(tag) {
             return cell;
