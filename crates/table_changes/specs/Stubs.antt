@@ -1,5 +1,7 @@
 -- The changes of stubs.
-use Rattle.std.specs.Prelude.{ℕ, Bool, false, Option, Some, None}
+use Rattle.std.specs.Prelude.{◌≡◌, ℕ, Bool, false, Option, Some, None}
+use Rattle.change_law.specs.declared.fault.ChangeFault.{ChangeFault}
+use Rattle.change_law.specs.Effect.{IsFaultFor}
 use Rattle.stub_table.specs.declared.fault.StubFault.{StubFault}
 use Rattle.stub_table.specs.declared.fault.StubFault.TheVariants.{TooMany, NoMemory}
 use Rattle.stub_table.specs.Stubs.{Stubs}
@@ -32,3 +34,11 @@ stub_code_in (Some fault) = stub_code fault
 abbrev pub stub_reason : StubChange → Stubs → Option ℕ
 stub_reason (Set new) stubs = stub_code_in (reason_of_stub new stubs)
 stub_reason (Drop name) stubs = None
+
+-- The change is made: there was no reason to refuse it, and the table is as after it.
+abbrev pub MakesStubChange : StubChange → Stubs → Stubs → Type 0
+MakesStubChange change before after = (stub_reason change before ≡ None) × (after ≡ stubs_after change before)
+
+-- The change failed by this fault: the fault has its reason, and the table is as it was.
+abbrev pub FailsStubChange : StubChange → Stubs → Stubs → ChangeFault → Type 0
+FailsStubChange change before after fault = IsFaultFor (stub_reason change before) fault × (after ≡ before)

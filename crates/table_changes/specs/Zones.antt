@@ -1,7 +1,9 @@
 -- The changes of zones and records.
-use Rattle.std.specs.Prelude.{ℕ, Bool, false, Option, Some, None}
+use Rattle.std.specs.Prelude.{◌≡◌, ℕ, Bool, false, Option, Some, None}
 use Rattle.std.specs.List.{list_any}
 use Rattle.dns_name.specs.Order.{name_eq}
+use Rattle.change_law.specs.declared.fault.ChangeFault.{ChangeFault}
+use Rattle.change_law.specs.Effect.{IsFaultFor}
 use Rattle.local_zone.specs.declared.fault.TableFault.{TableFault}
 use Rattle.local_zone.specs.declared.fault.TableFault.TheVariants.{BelowRedirect, DataBelow, CnameClash, TooMany, NoMemory}
 use Rattle.local_zone.specs.Tables.{Tables}
@@ -42,3 +44,11 @@ zone_reason (SetZone name kind) t = zone_code_in (reason_of_set (record { name =
 zone_reason (DropZone name) t = None
 zone_reason (AddRecord new) t = zone_code_in (reason_of_add new t)
 zone_reason (DropName name) t = None
+
+-- The change is made: there was no reason to refuse it, and the table is as after it.
+abbrev pub MakesZoneChange : ZoneChange → Tables → Tables → Type 0
+MakesZoneChange change before after = (zone_reason change before ≡ None) × (after ≡ zones_after change before)
+
+-- The change failed by this fault: the fault has its reason, and the table is as it was.
+abbrev pub FailsZoneChange : ZoneChange → Tables → Tables → ChangeFault → Type 0
+FailsZoneChange change before after fault = IsFaultFor (zone_reason change before) fault × (after ≡ before)

@@ -1,9 +1,9 @@
 //! The changes of stubs.
 
-ghost use Rattle.std.specs.Prelude.{◌≡◌, false, None, IfErr, IfOk, OnOk};
+ghost use Rattle.std.specs.Prelude.{◌≡◌, false, IfErr, IfOk, OnOk};
 ghost use Rattle.change_law.specs.Effect.{IsFaultFor};
 ghost use Rattle.stub_table.specs.Saved.{needs_memory, TakesBack};
-ghost use Rattle.table_changes.specs.Stubs.{stub_code, stub_reason, stubs_after, stubs_removed};
+ghost use Rattle.table_changes.specs.Stubs.{stub_code, stubs_after, stubs_removed, FailsStubChange, MakesStubChange};
 
 use change_law::ChangeFault;
 use dns_name::Name;
@@ -31,11 +31,10 @@ fn stub_fault(fault: StubFault) -> ChangeFault
 
 // Sets a stub.
 fn set_stub(table: &mut StubTable, stub: Shared<Stub>) -> Result<SavedStubs, ChangeFault>
-    ensures ok { OnOk result ((stub_reason (StubChange.Set stub) table.old ≡ None)
-        × (table.new ≡ stubs_after (StubChange.Set stub) table.old)) }
+    ensures ok { OnOk result (MakesStubChange (StubChange.Set stub) table.old table.new) }
     ensures saved { IfOk result (λ saved. TakesBack saved table.new table.old) }
     ensures frees { IfOk result (λ saved. stubs_removed (StubChange.Set stub) table.old ≡ false → needs_memory saved ≡ false) }
-    ensures err { IfErr result (λ fault. IsFaultFor (stub_reason (StubChange.Set stub) table.old) fault × (table.new ≡ table.old)) }
+    ensures err { IfErr result (FailsStubChange (StubChange.Set stub) table.old table.new) }
 {
     match table.set(stub) {
         Ok(saved) => Ok(saved),
@@ -61,10 +60,10 @@ pub(crate) fn make_stub_change(
     table: &mut StubTable,
     change: StubChange,
 ) -> Result<SavedStubs, ChangeFault>
-    ensures ok { OnOk result ((stub_reason change table.old ≡ None) × (table.new ≡ stubs_after change table.old)) }
+    ensures ok { OnOk result (MakesStubChange change table.old table.new) }
     ensures saved { IfOk result (λ saved. TakesBack saved table.new table.old) }
     ensures frees { IfOk result (λ saved. stubs_removed change table.old ≡ false → needs_memory saved ≡ false) }
-    ensures err { IfErr result (λ fault. IsFaultFor (stub_reason change table.old) fault × (table.new ≡ table.old)) }
+    ensures err { IfErr result (FailsStubChange change table.old table.new) }
 {
     match change {
         StubChange::Set(stub) => set_stub(table, stub),

@@ -66,17 +66,14 @@ impl TableChange {
 }
 
 impl TableWorld {
-    ghost use Rattle.std.specs.Prelude.{ℕ, Bool, []};
-    ghost use Rattle.change_law.specs.Face.{IsSame};
-    ghost use Rattle.history.specs.Changes.{no_tables};
-    ghost use Rattle.change_law.specs.Turn.{CanTurn, HoldsOver};
-    ghost use Rattle.local_zone.specs.Answer.{local_of};
+    ghost use Rattle.std.specs.Prelude.{[]};
+    ghost use Rattle.change_law.specs.Turn.{CanTurn};
+    ghost use Rattle.table_changes.specs.Shown.{AnswersOver, ShowsEmpty};
 
     /// Empty tables, which keep no changes. They take no memory.
     pub fn new(alloc: Global) -> TableWorld
         ensures keeps { ⟦<TableWorld as World>⟧.keeps result [] }
-        ensures empty { (chosen : ℕ → Bool) →
-            IsSame (⟦<TableWorld as World>⟧.face result [] chosen) (record { tables = no_tables; cell = λ q. None }) }
+        ensures empty { ShowsEmpty ⟦<TableWorld as World>⟧ result }
         ensures newest { ⟦<TableWorld as World>⟧.newest result ≡ 0 }
     {
         TableWorld {
@@ -93,9 +90,7 @@ impl TableWorld {
         question: &Question,
     ) -> Result<Local<Items<SeenRecord>, LocalRecord>, NoMemory>
         requires { CanTurn ⟦<TableWorld as World>⟧.table ⟦<TableWorld as World>⟧.keeps self.now saved.now }
-        ensures { IfOk result (λ answer.
-            HoldsOver ⟦<TableWorld as World>⟧.table ⟦<TableWorld as World>⟧.keeps ⟦<TableWorld as World>⟧.face
-            self.now saved.now (λ face. answer ≡ local_of face.tables.local question.now)) }
+        ensures { IfOk result (AnswersOver ⟦<TableWorld as World>⟧ self.now saved.now question.now) }
     {
         match saved {
             SavedTable::Zones(saved) => self.tables.local.answer_over(saved, question),

@@ -1,9 +1,9 @@
 //! The changes of local zones and records.
 
-ghost use Rattle.std.specs.Prelude.{◌≡◌, false, None, IfErr, IfOk, OnOk};
+ghost use Rattle.std.specs.Prelude.{◌≡◌, false, IfErr, IfOk, OnOk};
 ghost use Rattle.change_law.specs.Effect.{IsFaultFor};
 ghost use Rattle.local_zone.specs.Saved.{needs_memory, TakesBack};
-ghost use Rattle.table_changes.specs.Zones.{zone_code, zone_reason, zones_after, zones_removed};
+ghost use Rattle.table_changes.specs.Zones.{zone_code, zones_after, zones_removed, FailsZoneChange, MakesZoneChange};
 
 use change_law::ChangeFault;
 use dns_name::Name;
@@ -42,12 +42,10 @@ pub(crate) fn set_zone(
     name: Name,
     kind: ZoneType,
 ) -> Result<SavedTables, ChangeFault>
-    ensures ok { OnOk result ((zone_reason (ZoneChange.SetZone name kind) table.old ≡ None)
-        × (table.new ≡ zones_after (ZoneChange.SetZone name kind) table.old)) }
+    ensures ok { OnOk result (MakesZoneChange (ZoneChange.SetZone name kind) table.old table.new) }
     ensures saved { IfOk result (λ saved. TakesBack saved table.new table.old) }
     ensures frees { IfOk result (λ saved. zones_removed (ZoneChange.SetZone name kind) table.old ≡ false → needs_memory saved ≡ false) }
-    ensures err { IfErr result (λ fault. IsFaultFor (zone_reason (ZoneChange.SetZone name kind) table.old) fault
-        × (table.new ≡ table.old)) }
+    ensures err { IfErr result (FailsZoneChange (ZoneChange.SetZone name kind) table.old table.new) }
 {
     match table.set(name, kind) {
         Ok(saved) => Ok(saved),
@@ -60,11 +58,10 @@ pub(crate) fn add_record(
     table: &mut ZoneTable,
     new: Shared<Record>,
 ) -> Result<SavedTables, ChangeFault>
-    ensures ok { OnOk result ((zone_reason (ZoneChange.AddRecord new) table.old ≡ None)
-        × (table.new ≡ zones_after (ZoneChange.AddRecord new) table.old)) }
+    ensures ok { OnOk result (MakesZoneChange (ZoneChange.AddRecord new) table.old table.new) }
     ensures saved { IfOk result (λ saved. TakesBack saved table.new table.old) }
     ensures frees { IfOk result (λ saved. zones_removed (ZoneChange.AddRecord new) table.old ≡ false → needs_memory saved ≡ false) }
-    ensures err { IfErr result (λ fault. IsFaultFor (zone_reason (ZoneChange.AddRecord new) table.old) fault × (table.new ≡ table.old)) }
+    ensures err { IfErr result (FailsZoneChange (ZoneChange.AddRecord new) table.old table.new) }
 {
     match table.add_record(new) {
         Ok(saved) => Ok(saved),
@@ -103,10 +100,10 @@ pub(crate) fn make_zone_change(
     table: &mut ZoneTable,
     change: ZoneChange,
 ) -> Result<SavedTables, ChangeFault>
-    ensures ok { OnOk result ((zone_reason change table.old ≡ None) × (table.new ≡ zones_after change table.old)) }
+    ensures ok { OnOk result (MakesZoneChange change table.old table.new) }
     ensures saved { IfOk result (λ saved. TakesBack saved table.new table.old) }
     ensures frees { IfOk result (λ saved. zones_removed change table.old ≡ false → needs_memory saved ≡ false) }
-    ensures err { IfErr result (λ fault. IsFaultFor (zone_reason change table.old) fault × (table.new ≡ table.old)) }
+    ensures err { IfErr result (FailsZoneChange change table.old table.new) }
 {
     match change {
         ZoneChange::SetZone { name, kind } => set_zone(table, name, kind),
