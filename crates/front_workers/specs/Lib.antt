@@ -5,6 +5,7 @@ pub mod Descriptors
 pub mod Endings
 pub mod Looked
 pub mod Patience
+pub mod Permits
 pub mod Sockets
 pub mod Streaming
 pub mod FilledCells

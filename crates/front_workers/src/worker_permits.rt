@@ -1,6 +1,7 @@
 //! The permits of one worker's exchanges.
 
 ghost use Rattle.std.specs.Prelude.{◌≡◌, ◌<◌, vec_len, IfOk, MatchResult};
+ghost use Rattle.system.specs.Counts.{Rises};
 ghost use Rattle.front_workers.specs.declared.limit.TheConstants.{MOST_EXCHANGES};
 ghost use Rattle.outside.specs.declared.permits.TheConstants.{COUNTERS};
 
@@ -36,6 +37,8 @@ pub(crate) struct WorkerPermits<'a> {
     gave_back: bool,
     /// The moment of the last look that found none, in milliseconds.
     looked: u64,
+    /// How many permits were asked for, up to 2^64 - 1.
+    asked: u64,
     ghost each: { vec_len stands ≡ MOST_EXCHANGES },
 }
 
@@ -49,6 +52,7 @@ impl<'a> WorkerPermits<'a> {
             next: 0,
             gave_back: false,
             looked: 0,
+            asked: 0,
         })
     }
 
@@ -57,7 +61,9 @@ impl<'a> WorkerPermits<'a> {
     pub fn ask(&mut self, key: usize, query: &[u8]) -> Result<Permit, NoPermit>
         ensures key { MatchResult result (λ permit. permit.key ≡ key) (λ refused. refused.key ≡ key) }
         ensures counted { key < MOST_EXCHANGES → IfOk result (λ permit. permit.counter < COUNTERS) }
+        ensures asked { Rises self.old.asked self.new.asked }
     {
+        self.asked = self.asked.saturating_add(1);
         let Some(stand) = self.stands.get_mut(key) else {
             return self.permits.take(COUNTERS, key);
         };
@@ -75,7 +81,9 @@ impl<'a> WorkerPermits<'a> {
     }
 
     /// Ends the exchange under a key. If it holds a permit, it gives it back.
-    pub fn end(&mut self, key: usize) {
+    pub fn end(&mut self, key: usize)
+        ensures { self.new.asked ≡ self.old.asked }
+    {
         let Some(stand) = self.stands.get_mut(key) else {
             return;
         };
@@ -135,6 +143,7 @@ impl<'a> Drop for WorkerPermits<'a> {
             next: _,
             gave_back: _,
             looked: _,
+            asked: _,
         } = self;
         for stand in &stands {
             if let Stand::Holds(counter) = stand {

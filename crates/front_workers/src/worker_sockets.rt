@@ -15,6 +15,7 @@ ghost use Rattle.flight.specs.Flight.{query_to};
 ghost use Rattle.flight.specs.Told.{octets_of, IsHeard, Keeps};
 ghost use Rattle.outside.specs.Exchanges.{IsNotToBeHad, TellsOf};
 ghost use Rattle.front_workers.specs.Endings.{IsTooLong, Refuses};
+ghost use Rattle.front_workers.specs.Permits.{AsksOnce};
 ghost use Rattle.front.specs.Rooms.{arrived, fronts_of};
 ghost use Rattle.front.specs.Connections.{Tends};
 ghost use Rattle.outside.specs.Hashing.{IsSeeded};
@@ -317,7 +318,9 @@ impl<'a, R: ReadyNet + Log, B: Drop> WorkerSockets<'a, R, B> {
             over self.old.place server.now) }
         ensures failed { IfNone result (IsNotToBeHad R.failed R.Datagrams.opened R.Datagrams.is_at R.Datagrams.failed
             R.Connection.connected R.Connection.is_at R.Connection.failed self.old.place server.now over query) }
-        ensures unnoted { (self.new.pauses ≡ self.old.pauses) × (self.new.refusals ≡ self.old.refusals) }
+        // Nothing is noted of the server, and no further permit is asked for.
+        ensures unnoted { (self.new.pauses ≡ self.old.pauses) × (self.new.refusals ≡ self.old.refusals)
+            × (self.new.permits.asked ≡ self.old.permits.asked) }
     {
         let key = permit.key();
         self.tally.ask(over);
@@ -416,7 +419,8 @@ impl<'a, D: Numbered, C: Clock, R: ReadyNet + Log + Wait, K: Client, B: ReplySen
     ) -> Option<SocketLine<R>>
         // As for any `Sockets`. Also, the server is not withheld and has not refused the zone lately, and if a query left, the service
         // may ask that server. There is an exchange unless that is so, the server is passed over, for every question or for this one, the
-        // network failed, the address belongs to no host, the server is the service itself, or over TCP the query is too long.
+        // network failed, the address belongs to no host, the server is the service itself, or over TCP the query is too long. At most one
+        // permit is asked for.
         ensures asked { IfSome result (λ line. line.asked ≡ query_to server.now over query) }
         ensures watched { IfSome result (λ line. line.token.0 ≡ key) }
         ensures opened { OnSome result (CountsOpened self.old.counts self.new.counts) }
@@ -432,7 +436,7 @@ impl<'a, D: Numbered, C: Clock, R: ReadyNet + Log + Wait, K: Client, B: ReplySen
             ⊎ (IsPassedOver server.now (others_in (option_copied hunt.entry)) over query self.old.moment self.old.pauses
             ⊎ IsNotToBeHad R.failed R.Datagrams.opened R.Datagrams.is_at R.Datagrams.failed
             R.Connection.connected R.Connection.is_at R.Connection.failed self.old.place server.now over query)) }
-        ensures pauses { (self.new.refusals ≡ self.old.refusals)
+        ensures pauses { (self.new.refusals ≡ self.old.refusals) × AsksOnce self.old.permits.asked self.new.permits.asked
             × HeedsPause
             (IsLeftAlone self.old.do_not_query.now server.now over (option_copied hunt.entry) self.old.moment self.old.refusals)
             (IsSomeAnd result (λ line. line.waits ≡ true))

@@ -1,4 +1,4 @@
-use Rattle.std.proofs.Common.{◌≡◌, ◌∙◌, ℕ, Bool, false, List, Option, Some, None, OnSome, inl, inr, refl, rules, subst}
+use Rattle.std.proofs.Common.{◌≡◌, ◌∙◌, ℕ, Bool, false, List, Option, Some, None, OnSome, inl, inr, refl, rules, subst, sym}
 use Rattle.std.specs.Prelude.{IfSome}
 use Rattle.dns_query.specs.declared.over.Over.{Over}
 use Rattle.dns_text.specs.declared.addr.Addr.{Addr}
@@ -7,6 +7,7 @@ use Rattle.outside.specs.declared.pauses.Pauses.{Pauses}
 use Rattle.outside.specs.Pauses.{IsPassedOver}
 use Rattle.outside.specs.Pauses.HeedsPause.{passed_over}
 use Rattle.outside.specs.Refusals.{LooksUpList}
+use Rattle.system.specs.Counts.{Rises}
 use Rattle.outside.proofs.Remembering.{refuted}
 use Rattle.front_workers.proofs.worker_sockets.WorkerSocketsSocketsSocketLine.open.Goals as goal
 
@@ -31,7 +32,8 @@ pub returns-then-not-lets_through-clause-pauses : goal.returns-then-not-lets_thr
 returns-then-not-lets_through-clause-pauses g c =
     let same = c.as_slice-octets.ensures ∙ c.get.ensures in
     let passed = c.lets_through.ensures.passed_over c.if-not-lets_through.true in
-    (refl, passed_over (passed_by c.args.server.now _ _ c.args.over _ _ c.args.self.now.moment c.args.self.now.pauses c.others_of.ensures same passed.0) (search rules) passed.1)
+    let once = subst (λ (asked : ℕ). Rises c.args.self.now.permits.asked asked) (sym c.end.ensures) c.ask.ensures.asked in
+    (refl, inr once, passed_over (passed_by c.args.server.now _ _ c.args.over _ _ c.args.self.now.moment c.args.self.now.pauses c.others_of.ensures same passed.0) (search rules) passed.1)
 
 pub returns-clause-watched : goal.returns-clause-watched
 returns-clause-watched g c = subst (λ (key : ℕ). IfSome c.begin.result (λ line. line.token.0 ≡ key)) c.in-Ok.ensures.key c.begin.ensures.watched
