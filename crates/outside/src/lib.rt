@@ -13,7 +13,9 @@ mod fitting;
 mod drawn_port;
 // The network of name servers, where no call waits.
 mod ready_net;
-// The right to open one socket of it.
+// The permits of exchanges: a few for each question, over all workers.
+mod permits;
+// The right to open one socket of the network, for a permit.
 mod one_socket;
 // The log lines about a question: an exchange that failed, and a reply that no message holds.
 mod fault_line;
@@ -27,8 +29,6 @@ mod framed_query;
 mod framed_reply;
 // A query and its reply over TCP, without waiting.
 mod tcp_line;
-// The permits of exchanges: a few for each question, over all workers.
-mod permits;
 // What is wrong with what came of an exchange.
 mod flaw;
 // The transport of an exchange.

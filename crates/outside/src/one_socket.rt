@@ -2,6 +2,7 @@
 
 ghost use Rattle.std.specs.Prelude.{IfOk, OnErr};
 
+use crate::permits::Permit;
 use crate::ready_net::ReadyNet;
 use mio::{Registry, Token};
 use std::io;
@@ -10,14 +11,14 @@ use std::net::SocketAddr;
 /// The right to open one socket to a server, for which a permit was given up. It cannot be cloned, and opening a socket consumes it. An
 /// exchange that begins gets one, so its query leaves by no second socket.
 #[derive(Drop)]
-pub struct OneSocket<'a, N, P> {
+pub struct OneSocket<'a, N> {
     net: &'a N,
-    permit: P,
+    permit: Permit,
 }
 
-impl<'a, N: ReadyNet, P: Drop> OneSocket<'a, N, P> {
-    /// The right to open one socket of this network, for this permit. If a permit cannot be cloned either, there is one socket for each.
-    pub fn new(net: &'a N, permit: P) -> OneSocket<'a, N, P> {
+impl<'a, N: ReadyNet> OneSocket<'a, N> {
+    /// The right to open one socket of this network, for this permit. A permit cannot be cloned either, so there is one socket for each.
+    pub fn new(net: &'a N, permit: Permit) -> OneSocket<'a, N> {
         OneSocket { net, permit }
     }
 

@@ -15,7 +15,7 @@ ghost use Rattle.outside.specs.declared.flaw.Flaw.TheVariants.{Misfits};
 use crate::fault_line::log_exchange;
 use crate::flaw::Flaw;
 use crate::one_socket::OneSocket;
-use crate::permits::{NoPermit, Permit};
+use crate::permits::NoPermit;
 use crate::ready_net::ReadyNet;
 use crate::tcp_line::TcpLine;
 use crate::transport::Transport;
@@ -116,7 +116,7 @@ impl<R: ReadyNet> SocketLine<R> {
     /// listens at `service`, and queries neither itself nor an address that belongs to no host. An exchange that begins is counted here,
     /// where its socket is opened.
     pub fn open(
-        right: OneSocket<'_, R, Permit>,
+        right: OneSocket<'_, R>,
         alloc: Global,
         registry: &Registry,
         token: Token,

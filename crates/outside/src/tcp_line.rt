@@ -45,8 +45,8 @@ impl<S: ReadyConnection> TcpLine<S> {
     /// Begins to connect, watched by the poll. It can open no other connection, and takes no memory. It fails if the query is longer than
     /// one may be, if no descriptor is left, if the system knows no way to the place, if the address belongs to no host, or if the service,
     /// which listens at `service`, would ask itself.
-    pub fn begin<R: ReadyNet<Connection = S>, P: Drop>(
-        right: OneSocket<'_, R, P>,
+    pub fn begin<R: ReadyNet<Connection = S>>(
+        right: OneSocket<'_, R>,
         alloc: Global,
         registry: &Registry,
         token: Token,

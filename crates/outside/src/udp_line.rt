@@ -50,8 +50,8 @@ impl<S: ReadySocket> UdpLine<S> {
     /// Sends one query, in one datagram, by a new socket. It can open no other one. It fails if no descriptor is left, if the system
     /// knows no way to the place or cannot send, if the address belongs to no host, or if the service, which listens at `service`, would
     /// ask itself.
-    pub fn begin<R: ReadyNet<Datagrams = S>, P: Drop>(
-        right: OneSocket<'_, R, P>,
+    pub fn begin<R: ReadyNet<Datagrams = S>>(
+        right: OneSocket<'_, R>,
         registry: &Registry,
         token: Token,
         service: SocketAddr,
