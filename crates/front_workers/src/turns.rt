@@ -31,7 +31,7 @@ use front::{
 };
 use log::Log;
 use mio::Events;
-use outside::{ReadyNet, SocketLine};
+use outside::{PermittedNet, ReadyNet, SocketLine};
 use rand_core::Rng;
 use std::alloc::Global;
 use std::io;
@@ -73,7 +73,7 @@ impl TurnTaken {
 /// last, the socket of the service, and the replies that wait to be sent by it.
 #[derive(Drop)]
 pub(crate) struct Turns<'a, R, S: ServiceSocket> {
-    sockets: WorkerSockets<'a, R, Outbox<S>>,
+    sockets: WorkerSockets<'a, R, R, Outbox<S>>,
     clock: MonotonicClock<'a, R>,
     events: Events,
     taken: u64,
@@ -119,6 +119,7 @@ impl<'a, R: ReadyNet + Log + Elapsing + Wait, S: ServiceSocket> Turns<'a, R, S> 
         Ok(Turns {
             sockets: WorkerSockets::new(
                 rt,
+                PermittedNet::new(rt),
                 tally,
                 alloc,
                 poll,
@@ -391,7 +392,7 @@ pub(crate) fn look_all<
     B: ReplySender<K>,
 >(
     events: &Events,
-    sockets: &mut WorkerSockets<'_, R, B>,
+    sockets: &mut WorkerSockets<'_, R, R, B>,
     clock: &mut MonotonicClock<'_, R>,
     desk: &mut D,
     questions: &mut Flight<D, SocketLine<R>, C, G, K>,
@@ -422,7 +423,7 @@ pub(crate) fn begin_anew<
     K: Client,
     B: ReplySender<K>,
 >(
-    sockets: &mut WorkerSockets<'_, R, B>,
+    sockets: &mut WorkerSockets<'_, R, R, B>,
     desk: &mut D,
     questions: &mut Flight<D, SocketLine<R>, C, G, K>,
     now: u64,

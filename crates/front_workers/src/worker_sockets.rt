@@ -44,7 +44,7 @@ use iterate::{Allowance, Hunt};
 use log::{Log, warn};
 use mio::{Events, Poll, Registry, Token};
 use outside::{
-    OneSocket, Pauses, Permit, ReadyNet, Refusals, SocketLine, WITHHELD, is_withheld,
+    Pauses, Permit, PermittedNet, ReadyNet, Refusals, SocketLine, WITHHELD, is_withheld,
     list_of_strangers, log_exchange, log_too_long, note_heard, others_of,
 };
 use replies::{MOST_MESSAGE, wants_reply};
@@ -56,10 +56,13 @@ use std::sync::atomic::{AtomicU64, Ordering};
 use std::time::Duration;
 use system::{AddressRange, DEVICE_FAULT, cause_of};
 
-/// The sockets of one worker: those by which replies leave, and those of its exchanges.
+/// The sockets of one worker: those by which replies leave, and those of its exchanges. It opens one only for a permit.
 #[derive(Drop)]
-pub(crate) struct WorkerSockets<'a, R, B> {
-    rt: &'a R,
+pub(crate) struct WorkerSockets<'a, L, R, B> {
+    /// Takes log lines, and waits for locks.
+    rt: &'a L,
+    /// The network of name servers.
+    net: PermittedNet<'a, R>,
     /// The counters that others read.
     pub(crate) tally: &'a Tally,
     alloc: Global,
@@ -92,13 +95,14 @@ pub(crate) struct WorkerSockets<'a, R, B> {
     ghost whole: { vec_len room ≡ MOST_MESSAGE },
 }
 
-impl<'a, R: Log, B: Drop> WorkerSockets<'a, R, B> {
+impl<'a, L: Log, R, B: Drop> WorkerSockets<'a, L, R, B> {
     ghost use Rattle.front_workers.specs.Asking.{asking_at};
     ghost use Rattle.front_workers.specs.Sockets.{asking_of};
 
     /// The sockets of a worker whose service listens at `place`. Strangers do not know the seed.
     pub fn new(
-        rt: &'a R,
+        rt: &'a L,
+        net: PermittedNet<'a, R>,
         tally: &'a Tally,
         alloc: Global,
         poll: Poll,
@@ -106,7 +110,7 @@ impl<'a, R: Log, B: Drop> WorkerSockets<'a, R, B> {
         outbox: B,
         asking: AskingTerms<'a>,
         seed: TableSeed,
-    ) -> Result<WorkerSockets<'a, R, B>, NoMemory>
+    ) -> Result<WorkerSockets<'a, L, R, B>, NoMemory>
         ensures asks { IfOk result (λ sockets. asking_of sockets ≡ asking_at place asking.entry) }
         ensures counts { IfOk result (λ sockets. sockets.counts ≡ no_counts) }
         ensures outbox { IfOk result (λ sockets. sockets.outbox ≡ outbox) }
@@ -115,6 +119,7 @@ impl<'a, R: Log, B: Drop> WorkerSockets<'a, R, B> {
     {
         Ok(WorkerSockets {
             rt,
+            net,
             tally,
             alloc,
             poll,
@@ -227,7 +232,7 @@ impl<'a, R: Log, B: Drop> WorkerSockets<'a, R, B> {
     }
 }
 
-impl<'a, R: Log, S: ClientStream> WorkerSockets<'a, R, TcpFront<S>> {
+impl<'a, L: Log, R, S: ClientStream> WorkerSockets<'a, L, R, TcpFront<S>> {
     ghost use Rattle.front_workers.specs.Sockets.{asking_of};
 
     /// Begins the connection of a client at this address.
@@ -241,7 +246,7 @@ impl<'a, R: Log, S: ClientStream> WorkerSockets<'a, R, TcpFront<S>> {
     }
 }
 
-impl<'a, R: Log, S: ServiceSocket> WorkerSockets<'a, R, Outbox<S>> {
+impl<'a, L: Log, R, S: ServiceSocket> WorkerSockets<'a, L, R, Outbox<S>> {
     ghost use Rattle.front_workers.specs.Sockets.{asking_of};
 
     /// Sends a reply with the next batch, or at once if there is no memory for it to wait.
@@ -296,7 +301,7 @@ impl<'a, R: Log, S: ServiceSocket> WorkerSockets<'a, R, Outbox<S>> {
     }
 }
 
-impl<'a, R: ReadyNet + Log, B: Drop> WorkerSockets<'a, R, B> {
+impl<'a, L: Log, R: ReadyNet, B: Drop> WorkerSockets<'a, L, R, B> {
     ghost use Rattle.front_workers.specs.Sockets.{sockets_of};
 
     /// Begins an exchange, for its permit and under the key of that. Returns `None` if it could not begin.
@@ -326,7 +331,7 @@ impl<'a, R: ReadyNet + Log, B: Drop> WorkerSockets<'a, R, B> {
         self.tally.ask(over);
         let asked = query.share();
         match SocketLine::open(
-            OneSocket::new(self.rt, permit),
+            self.net.one_socket(permit),
             self.alloc,
             self.poll.registry(),
             Token(key),
@@ -370,12 +375,12 @@ impl<'a, R: ReadyNet + Log, B: Drop> WorkerSockets<'a, R, B> {
     }
 }
 
-impl<'a, D: Numbered, C: Clock, R: ReadyNet + Log + Wait, K: Client, B: ReplySender<K>> Sockets<
+impl<'a, D: Numbered, C: Clock, L: Log + Wait, R: ReadyNet, K: Client, B: ReplySender<K>> Sockets<
     D,
     SocketLine<R>,
     C,
     K,
-> for WorkerSockets<'a, R, B> {
+> for WorkerSockets<'a, L, R, B> {
     ghost use Rattle.front_workers.specs.Asking.{PostsBy, SocketsState};
     ghost use Rattle.front_workers.specs.Sockets.{sockets_of};
 

@@ -15,7 +15,7 @@ mod drawn_port;
 mod ready_net;
 // The permits of exchanges: a few for each question, over all workers.
 mod permits;
-// The right to open one socket of the network, for a permit.
+// The right to open one socket, and a network that gives it for a permit alone.
 mod one_socket;
 // The log lines about a question: an exchange that failed, and a reply that no message holds.
 mod fault_line;
@@ -69,7 +69,7 @@ pub use fitting::{MOST_MISFITS, fits};
 pub use framed_query::MOST_QUERY;
 pub use heard::UdpHeard;
 pub use noting::note_heard;
-pub use one_socket::OneSocket;
+pub use one_socket::{OneSocket, PermittedNet};
 pub use others::others_of;
 pub use pauses::Pauses;
 pub use permits::{COUNTERS, MOST_EQUAL, NoPermit, Permit, Permits};

@@ -17,11 +17,6 @@ pub struct OneSocket<'a, N> {
 }
 
 impl<'a, N: ReadyNet> OneSocket<'a, N> {
-    /// The right to open one socket of this network, for this permit. A permit cannot be cloned either, so there is one socket for each.
-    pub fn new(net: &'a N, permit: Permit) -> OneSocket<'a, N> {
-        OneSocket { net, permit }
-    }
-
     /// Opens a socket for datagrams, as `ReadyNet` does.
     pub fn open_socket(
         self,
@@ -50,5 +45,26 @@ impl<'a, N: ReadyNet> OneSocket<'a, N> {
         ensures failed { OnErr result N.failed }
     {
         self.net.begin_connection(registry, token, place)
+    }
+}
+
+/// A network that opens a socket for a permit alone. Whoever has no other hold of it sends nothing without one.
+#[derive(Drop)]
+pub struct PermittedNet<'a, N> {
+    net: &'a N,
+}
+
+impl<'a, N> PermittedNet<'a, N> {
+    /// So much of this network.
+    pub fn new(net: &'a N) -> PermittedNet<'a, N> {
+        PermittedNet { net }
+    }
+
+    /// The right to open one socket, for this permit. A permit cannot be cloned either, so there is one socket for each.
+    pub fn one_socket(&self, permit: Permit) -> OneSocket<'a, N> {
+        OneSocket {
+            net: self.net,
+            permit,
+        }
     }
 }

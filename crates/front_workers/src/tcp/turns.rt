@@ -27,7 +27,7 @@ use front::{
 };
 use log::Log;
 use mio::Events;
-use outside::{ReadyNet, SocketLine};
+use outside::{PermittedNet, ReadyNet, SocketLine};
 use rand_core::Rng;
 use replies::{MOST_DATAGRAM, is_dear, wants_reply};
 use std::alloc::Global;
@@ -68,7 +68,7 @@ pub(crate) struct TcpTurnTaken {
 /// and the connections of its clients.
 #[derive(Drop)]
 pub(crate) struct TcpTurns<'a, R, S: ClientStream, L> {
-    sockets: WorkerSockets<'a, R, TcpFront<S>>,
+    sockets: WorkerSockets<'a, R, R, TcpFront<S>>,
     listener: L,
     clock: MonotonicClock<'a, R>,
     events: Events,
@@ -127,7 +127,17 @@ impl<'a, R: ReadyNet + Log + Elapsing + Wait, S: ClientStream, L: ClientListener
         } = listener;
         let front = TcpFront::new(alloc, connections)?;
         Ok(TcpTurns {
-            sockets: WorkerSockets::new(rt, tally, alloc, poll, place, front, asking, seed)?,
+            sockets: WorkerSockets::new(
+                rt,
+                PermittedNet::new(rt),
+                tally,
+                alloc,
+                poll,
+                place,
+                front,
+                asking,
+                seed,
+            )?,
             listener,
             clock: MonotonicClock::new(rt, start),
             events: Events::with_capacity(alloc, MOST_READY)?,
@@ -471,7 +481,7 @@ impl<'a, R: ReadyNet + Log + Elapsing + Wait, S: ClientStream, L: ClientListener
 /// Puts the connections that events name into the queue. Returns whether connections may be there to be accepted.
 fn note_events<R: Log, S: ClientStream>(
     events: &Events,
-    sockets: &mut WorkerSockets<'_, R, TcpFront<S>>,
+    sockets: &mut WorkerSockets<'_, R, R, TcpFront<S>>,
 ) -> bool
     ensures connections { sockets.new.outbox ≡ sockets.old.outbox }
     ensures counts { sockets.new.counts ≡ sockets.old.counts }
