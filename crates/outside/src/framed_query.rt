@@ -6,6 +6,7 @@ ghost use Rattle.arrayvec.specs.ArrayVec.{array_vec_len};
 ghost use Rattle.replies.specs.Framing.{framed};
 
 use arrayvec::ArrayVec;
+use replies::size_octets;
 use std::io;
 use std::io::{ErrorKind, Write};
 use system::{MOST_CALLS, would_wait};
@@ -37,8 +38,9 @@ impl FramedQuery {
             return Err(io::Error::from(ErrorKind::InvalidInput));
         }
         let mut octets = ArrayVec::new();
-        octets.push((size / 256) as u8);
-        octets.push((size % 256) as u8);
+        let [high, low] = size_octets(size);
+        octets.push(high);
+        octets.push(low);
         octets.try_extend_from_slice(query).unwrap();
         Ok(FramedQuery { octets, left: 0 })
     }

@@ -1,6 +1,6 @@
 //! Messages over TCP, each preceded by its length in two octets (RFC 1035, section 4.2.2).
 
-ghost use Rattle.std.specs.Prelude.{◌≡◌, [], ◌∷◌, ◌+◌, ◌^◌, ◌<◌, ◌≤◌, ◌↔◌, length, IfOk, OnOk};
+ghost use Rattle.std.specs.Prelude.{◌≡◌, [], ◌∷◌, ◌++◌, ◌+◌, ◌^◌, ◌<◌, ◌≤◌, ◌↔◌, length, vec_len, IfOk, OnOk};
 ghost use Rattle.streams.specs.declared.source.TheConstants.{MOST_COUNTED};
 ghost use Rattle.replies.specs.declared.limits.TheConstants.{MOST_MESSAGE};
 ghost use Rattle.replies.specs.Framing.{length_octets, framed, SizeCame, BodyCame, MessageCame, CountsRead};
@@ -18,6 +18,14 @@ pub fn size_of(high: u8, low: u8) -> usize
     ensures range { result < 2 ^ 16 }
 {
     usize::from(high) * 256 + usize::from(low)
+}
+
+/// The two octets that spell a length, the high one first.
+pub fn size_octets(size: usize) -> [u8; 2]
+    requires { size ≤ MOST_MESSAGE }
+    ensures { result ≡ length_octets size }
+{
+    [(size / 256) as u8, (size % 256) as u8]
 }
 
 /// The length of the next message, or None at the end of the input.
@@ -83,16 +91,26 @@ pub fn take_message<S: Source>(
     }
 }
 
+/// Appends a message preceded by its length. After an error some of its octets may be there.
+pub fn append_framed(out: &mut Vec<u8>, message: &[u8]) -> Result<(), NoMemory>
+    requires { length message.now ≤ MOST_MESSAGE }
+    ensures appended { OnOk result (out.new.items ≡ out.old.items ++ framed message.now) }
+    ensures no_less { vec_len out.old ≤ vec_len out.new }
+{
+    let [high, low] = size_octets(message.len());
+    out.push(high)?;
+    out.push(low)?;
+    out.extend_from_slice(message)?;
+    Ok(())
+}
+
 /// A message preceded by its length, as it goes out over TCP.
 pub fn frame(alloc: Global, message: &[u8]) -> Result<Vec<u8>, NoMemory>
     requires { length message.now ≤ MOST_MESSAGE }
     ensures { IfOk result (λ out. out.items ≡ framed message.now) }
 {
-    let size = message.len();
-    let mut out = Vec::with_capacity(alloc, size + 2)?;
-    out.push((size / 256) as u8)?;
-    out.push((size % 256) as u8)?;
-    out.extend_from_slice(message)?;
+    let mut out = Vec::with_capacity(alloc, message.len() + 2)?;
+    append_framed(&mut out, message)?;
     Ok(out)
 }
 

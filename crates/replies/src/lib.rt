@@ -22,7 +22,7 @@ mod framing;
 
 pub use dear::is_dear;
 pub use fault::StreamFault;
-pub use framing::{frame, octets_wanting, size_of, take_message};
+pub use framing::{append_framed, frame, octets_wanting, size_octets, size_of, take_message};
 pub use limits::{
     DATAGRAM_ROOM, ITEM_STEPS, MOST_DATAGRAM, MOST_FAILURES, MOST_FRAMED, MOST_MESSAGE, MOST_STEPS,
     MOST_UDP_REPLY, STEP_OCTETS, limits_law,

@@ -7,7 +7,7 @@ ghost use Rattle.replies.specs.Framing.{framed};
 
 use crate::tcp::client_stream::ClientStream;
 use dns_text::NoMemory;
-use replies::MOST_MESSAGE;
+use replies::{MOST_MESSAGE, append_framed};
 use std::alloc::Global;
 use std::io;
 use std::io::ErrorKind;
@@ -67,11 +67,7 @@ impl OwedReplies {
         requires { length reply.now ≤ MOST_MESSAGE }
         ensures { OnOk result (self.new.octets ≡ self.old.octets ++ framed reply.now) }
     {
-        let size = reply.len();
-        self.octets.push((size / 256) as u8)?;
-        self.octets.push((size % 256) as u8)?;
-        self.octets.extend_from_slice(reply)?;
-        Ok(())
+        append_framed(&mut self.octets, reply)
     }
 
     /// Frees the memory of what has left, if all has and it is not little.
