@@ -4,8 +4,6 @@
 
 // The connection of a client, as the system gives it.
 pub(crate) mod client_stream;
-// The message of a connection that has begun to come.
-pub(crate) mod begun_message;
 // The replies that a connection is owed.
 pub(crate) mod owed_replies;
 // The times of a connection.

@@ -25,7 +25,7 @@ mod heard;
 mod udp_line;
 // A query preceded by its length, and the count of octets that have left.
 mod framed_query;
-// The octets of a reply that have come, preceded by its length.
+// A reply that comes, preceded by its length.
 mod framed_reply;
 // A query and its reply over TCP, without waiting.
 mod tcp_line;

@@ -9,11 +9,12 @@ ghost use Rattle.outside.specs.Line.{IsDone, Moves, WentFrom, WentOn};
 ghost use Rattle.replies.specs.Wanting.{IsWholeFrame};
 
 use crate::framed_query::{FramedQuery, MOST_QUERY};
-use crate::framed_reply::FramedReply;
+use crate::framed_reply::read_on;
 use crate::one_socket::OneSocket;
 use crate::own::{check_host, check_other};
 use crate::ready_net::{ReadyConnection, ReadyNet};
 use mio::{Registry, Token};
+use replies::BegunMessage;
 use std::alloc::Global;
 use std::io;
 use std::marker::Model;
@@ -25,7 +26,7 @@ use std::net::SocketAddr;
 pub struct TcpLine<S> {
     stream: S,
     query: FramedQuery,
-    reply: FramedReply,
+    reply: BegunMessage,
 }
 
 impl<S> Model for TcpLine<S> {
@@ -71,7 +72,7 @@ impl<S: ReadyConnection> TcpLine<S> {
         Ok(TcpLine {
             stream,
             query,
-            reply: FramedReply::new(alloc),
+            reply: BegunMessage::new(alloc),
         })
     }
 
@@ -92,7 +93,7 @@ impl<S: ReadyConnection> TcpLine<S> {
         if !self.query.write_on(&mut self.stream)? {
             return Ok(false);
         }
-        self.reply.read_on(&mut self.stream, room)
+        read_on(&mut self.reply, &mut self.stream, room)
     }
 
     /// The reply, or None if it has not come whole.

@@ -19,10 +19,13 @@ mod dear;
 mod fault;
 // Messages preceded by their length.
 mod framing;
+// A message over TCP, as its octets come.
+mod begun_message;
 
+pub use begun_message::{BegunMessage, WholeMessage};
 pub use dear::is_dear;
 pub use fault::StreamFault;
-pub use framing::{append_framed, frame, octets_wanting, size_octets, size_of, take_message};
+pub use framing::{append_framed, frame, size_octets, size_of, take_message};
 pub use limits::{
     DATAGRAM_ROOM, ITEM_STEPS, MOST_DATAGRAM, MOST_FAILURES, MOST_FRAMED, MOST_MESSAGE, MOST_STEPS,
     MOST_UDP_REPLY, STEP_OCTETS, limits_law,

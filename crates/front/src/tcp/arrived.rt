@@ -1,6 +1,6 @@
 //! The result of reading a connection.
 
-use crate::tcp::begun_message::WholeMessage;
+use replies::WholeMessage;
 
 /// The result of one call that reads a connection.
 #[derive(Drop)]

@@ -2,10 +2,10 @@
 
 ghost use Rattle.std.specs.Prelude.{◌≡◌};
 
-use crate::tcp::begun_message::WholeMessage;
 use crate::tcp::client_stream::ClientStream;
 use dns_query::Over;
 use flight::{Client, Numbered};
+use replies::WholeMessage;
 use std::marker::PhantomData;
 use std::snapshot::Snapshot;
 

@@ -7,11 +7,11 @@ ghost use Rattle.front.specs.Connections.{IsFlushed, Serves, fresh};
 ghost use Rattle.front.specs.declared.tcp.owed_replies.TheConstants.{MOST_AT_REST};
 
 use crate::tcp::arrived::Arrived;
-use crate::tcp::begun_message::BegunMessage;
 use crate::tcp::client_stream::ClientStream;
 use crate::tcp::owed_replies::{MOST_AT_REST, OwedReplies};
 use crate::tcp::times::Times;
 use dns_text::NoMemory;
+use replies::BegunMessage;
 use std::alloc::Global;
 use std::io;
 use std::io::ErrorKind;
@@ -34,8 +34,9 @@ pub(crate) struct Connection<S: ClientStream> {
 }
 
 impl<S: ClientStream> Model for Connection<S> {
-    ghost use Rattle.std.specs.Prelude.{◌+◌, vec_capacity};
+    ghost use Rattle.std.specs.Prelude.{◌+◌, ◌<◌, length, vec_capacity};
     ghost use Rattle.replies.specs.Sizing.{capped};
+    ghost use Rattle.replies.specs.Wanting.{framed_size};
     ghost use Rattle.front.specs.Connections.{ConnectionState};
 
     ghost Value = { ConnectionState S };
@@ -48,6 +49,9 @@ impl<S: ClientStream> Model for Connection<S> {
       owed = connection.owed.octets;
       kept = capped (vec_capacity connection.begun.octets + connection.owed.kept);
     } };
+
+    // A message is taken as soon as it is whole.
+    ghost invariant = { λ connection. length connection.begun.octets.items < framed_size connection.begun.octets.items };
 }
 
 impl<S: ClientStream> Connection<S> {
@@ -131,7 +135,8 @@ impl<S: ClientStream> Connection<S> {
             }
             Ok(count) => {
                 self.times.begin(now, self.begun.is_empty());
-                match self.begun.add(alloc, &room[..count])? {
+                self.begun.add(&room[..count])?;
+                match self.begun.take(alloc) {
                     Some(message) => {
                         self.times.note(now);
                         Ok(Arrived::Message(message))

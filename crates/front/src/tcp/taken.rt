@@ -1,6 +1,6 @@
 //! The result of taking a message of a connection.
 
-use crate::tcp::begun_message::WholeMessage;
+use replies::WholeMessage;
 
 /// The result of one call that takes a message of a connection.
 #[derive(Drop)]
