@@ -1,5 +1,6 @@
 -- A client's question, for contracts inside the crate.
 use Rattle.std.specs.Prelude.{◌≡◌, ℕ, List, Result, Ok, Err}
+use Rattle.dns_query.specs.declared.over.Over.{Over}
 use Rattle.dns_text.specs.declared.record.Question.{Question}
 use Rattle.dns_wire.specs.declared.server.query.Query.{Query}
 use Rattle.dns_wire.specs.declared.server.query.Asked.TheVariants.{Good}
@@ -21,7 +22,7 @@ use Rattle.replies.specs.Calls.{Calls}
 use Rattle.flight.specs.declared.asking.Asking.{Asking}
 use Rattle.flight.specs.declared.sockets.Listened.{Listened}
 use Rattle.flight.specs.declared.counts.Counts.{Counts}
-use Rattle.flight.specs.Clients.{SettlesOrWaits}
+use Rattle.flight.specs.Clients.{SettlesBy, SettlesOrWaits}
 use Rattle.flight.specs.Flight.{Sent, Hears, Answered, Awaits, Flies, Lands}
 use Rattle.flight.specs.Origin.{Origin, origin_of}
 use Rattle.flight.specs.Told.{IsOutcome}
@@ -75,6 +76,11 @@ LandsFor calls seen hears ticks since port asking answer = Lands calls seen hear
 abbrev pub SettlesAsking : {W O G K : Type 0} → (K → List ℕ → Type 0) → (K → ℕ) → (W → ℕ) → (W → Counts) → (W → O) → (O → K → List ℕ → O → Type 0) → ℕ → Asking G K → FlightState → W → FlightState → W → Type 0
 SettlesAsking sent network server_port counts outbox posts now asking flight old flight' new =
     SettlesOrWaits sent server_port counts outbox posts now asking.client (λ origin. origin ≡ origin_in network asking) flight old flight' new
+
+-- The client of a question is settled, and its reply, or none, gives this answer.
+abbrev pub AnswersAsking : {W O G K : Type 0} → (K → Over) → (W → ℕ) → (W → Counts) → (W → O) → (O → K → List ℕ → O → Type 0) → Asking G K → List ℕ → Answer → W → W → Type 0
+AnswersAsking over server_port counts outbox posts asking octets answer old new =
+    SettlesBy over server_port counts outbox posts asking.client octets asking.query answer old new
 
 -- The client of a query is settled, or waits for an exchange that begins now, with a question that counts as begun at this moment.
 abbrev pub SettlesQuery : {W O K : Type 0} → (K → List ℕ → Type 0) → (K → ℕ) → (W → ℕ) → (W → Counts) → (W → O) → (O → K → List ℕ → O → Type 0) → ℕ → K → Query → ℕ → FlightState → W → FlightState → W → Type 0

@@ -1,5 +1,5 @@
 -- Whether a question may begin an exchange, for contracts inside the crate.
-use Rattle.std.specs.Prelude.{◌≡◌, ◌<◌, ◌+◌, ℕ, max, Option, List}
+use Rattle.std.specs.Prelude.{◌≡◌, ◌<◌, ◌+◌, ℕ, max, Option, List, Result, IfErr, OnOk}
 use Rattle.flight.specs.declared.asking.Asking.{Asking}
 use Rattle.flight.specs.declared.cause.Cause.{Cause}
 use Rattle.flight.specs.declared.cause.Unserved.TheVariants.{TooLarge, TooLong, TooMany}
@@ -25,3 +25,11 @@ IsShown network now asking latest asker exchanges limit cause =
     (cause.why ≡ TooMany → ¬ (HasPlaceNow network now asking latest asker exchanges limit))
     × (cause.why ≡ TooLong → asking.began + LAST_BEGINNING < max now latest)
     × (cause.why ≡ TooLarge → KeepsTooMuch (kept_in asking.task.steps.items) exchanges)
+
+-- If room was made for a question, it may begin an exchange at such a moment.
+abbrev pub MayBeginIfOk : {A E G K : Type 0} → Result A E → (K → ℕ) → ℕ → Asking G K → ℕ → Asker → List (Option UnderWay) → ℕ → Type 0
+MayBeginIfOk result network now asking latest asker exchanges limit = OnOk result (MayBeginNow network now asking latest asker exchanges limit)
+
+-- If a question was refused, the cause was shown to be so.
+abbrev pub IsShownIfErr : {A G K : Type 0} → Result A Cause → (K → ℕ) → ℕ → Asking G K → ℕ → Asker → List (Option UnderWay) → ℕ → Type 0
+IsShownIfErr result network now asking latest asker exchanges limit = IfErr result (IsShown network now asking latest asker exchanges limit)

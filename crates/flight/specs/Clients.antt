@@ -1,5 +1,5 @@
 -- The fate of clients: settled, or waiting for an exchange.
-use Rattle.std.specs.Prelude.{◌≡◌, ◌≤◌, ℕ, max, Option, List}
+use Rattle.std.specs.Prelude.{◌≡◌, ◌≤◌, ◌+◌, ℕ, max, Option, List}
 use Rattle.std.specs.List.{AllByRecursion}
 use Rattle.dns_query.specs.declared.over.Over.{Over}
 use Rattle.dns_wire.specs.declared.server.query.Query.{Query}
@@ -24,6 +24,10 @@ pub record Settles {W O K : Type 0} (server_port : W → ℕ) (counts : W → Co
 abbrev pub SettlesBy : {W O K : Type 0} → (K → Over) → (W → ℕ) → (W → Counts) → (W → O) → (O → K → List ℕ → O → Type 0) → K → List ℕ → Query → Answer → W → W → Type 0
 SettlesBy over server_port counts outbox posts client octets query answer old new =
     (reply : Option (List ℕ)) × IsGiven (over client) octets query answer reply × Settles server_port counts outbox posts client reply old new
+
+-- One client more waits than those in flight. Some of these waits end, and nothing else leaves.
+abbrev pub EndsWithOneMore : {W O K : Type 0} → (K → List ℕ → Type 0) → (O → K → List ℕ → O → Type 0) → (W → O) → FlightState → W → FlightState → W → Type 0
+EndsWithOneMore sent posts outbox flight old flight' new = Ends sent posts 0 (outstanding flight + 1) (outbox old) (outstanding flight') (outbox new)
 
 -- This client is settled, or waits with such a question for an exchange that begins now. Nothing leaves but its reply. No exchange is listened to, and none expires. The limit of exchanges is kept if it was kept before, and so is the bound of what questions keep. No zone and no network takes places that others need.
 pub record SettlesOrWaits {W O K : Type 0} (sent : K → List ℕ → Type 0) (server_port : W → ℕ) (counts : W → Counts) (outbox : W → O) (posts : O → K → List ℕ → O → Type 0) (now : ℕ) (client : K) (of : Origin → Type 0)
@@ -57,3 +61,8 @@ pub record LosesNone {W O K : Type 0} (sent : K → List ℕ → Type 0) (server
   pub joins_none : JoinsNone flight flight'
   pub bounded : IsBounded flight → IsBounded flight'
   pub limit : flight'.limit ≡ flight.limit
+
+-- So it is whatever the time is.
+abbrev pub LosesNoneAtAnyTime : {W O K : Type 0} → (K → List ℕ → Type 0) → (W → ℕ) → (W → Counts) → (W → O) → (O → K → List ℕ → O → Type 0) → FlightState → W → FlightState → W → Type 0
+LosesNoneAtAnyTime sent server_port counts outbox posts flight old flight' new =
+    (now : ℕ) → LosesNone sent server_port counts outbox posts now flight old flight' new

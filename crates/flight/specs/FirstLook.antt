@@ -1,5 +1,5 @@
 -- The first lookup of a question, and what it settles.
-use Rattle.std.specs.Prelude.{◌≡◌, ◌≢◌, ℕ, List, None, Some, Result, IfSome}
+use Rattle.std.specs.Prelude.{◌≡◌, ◌≢◌, ℕ, List, [], None, Some, Option, Result, IfOk, IfSome, MatchOption}
 use Rattle.local_zone.specs.declared.local_answer.Local.TheVariants as local
 use Rattle.dns_text.specs.declared.record.Question.{Question}
 use Rattle.dns_wire.specs.declared.server.query.Query.{Query}
@@ -11,19 +11,31 @@ use Rattle.history.specs.declared.event.Event.TheVariants.{Look}
 use Rattle.history.specs.declared.event.Reply.{Reply}
 use Rattle.history.specs.declared.event.Reply.TheVariants.{Seen}
 use Rattle.history.specs.declared.event.Seen.TheVariants.{Local as LocalSeen}
+use Rattle.iterate.specs.declared.answer.Answer.{Answer}
 use Rattle.iterate.specs.declared.want.Input.{Input}
 use Rattle.iterate.specs.declared.want.Input.TheVariants.{Reply as Replied}
-use Rattle.iterate.specs.Resolved.{IsNoAnswer}
+use Rattle.iterate.specs.declared.want.Want.TheVariants.{Book}
+use Rattle.iterate.specs.Exchanges.{AddsLook, Exchange}
+use Rattle.iterate.specs.Phase.{Suits}
+use Rattle.iterate.specs.Resolved.{IsNoAnswer, IsResolved}
 use Rattle.replies.specs.Calls.{Calls}
 use Rattle.flight.specs.declared.sockets.Listened.{Listened}
 use Rattle.flight.specs.declared.sockets.Listened.TheVariants.{Anew}
+use Rattle.flight.specs.declared.refused.HeardOrRefused.{HeardOrRefused}
 use Rattle.flight.specs.Asking.{input_of}
 use Rattle.flight.specs.Origin.{zone_of}
+use Rattle.flight.specs.Told.{listened_of}
 use Rattle.flight.specs.Waiting.{FlightState, UnderWay, exchange_at}
 
 -- A local zone says that the question gets no reply.
 abbrev pub IsSilence : Input → Type 0
 IsSilence input = input ≡ Replied (Seen (LocalSeen local.Drop))
+
+-- What came of the first lookup of a question settles it with this answer, or is no answer to it.
+abbrev pub IsSettledBy : {E : Type 0} → Question → Input → Result (Option Answer) E → Type 0
+IsSettledBy question input result =
+    (port m : ℕ) (log : List Exchange) → AddsLook [] m (Asked question) input log → Suits (Book (Look m (Asked question))) input
+    → IfOk result (λ answer. MatchOption answer (IsNoAnswer question input) (IsResolved port question log))
 
 -- This came of the first lookup of a question. If it is a cached or local answer, the desk is not called again, and no exchange begins. If it is silence, nothing leaves for clients.
 pub record HeedsInput {D O : Type 0} (question : Question) (input : Input) (desk : D) (flight : FlightState) (outbox : O) (desk' : D) (flight' : FlightState) (outbox' : O) : Type 0 where
@@ -39,6 +51,11 @@ pub data HeedsFirstLook {D O : Type 0} (calls : Calls D) (question : Question) (
 -- The same of a worker's sockets, before and after.
 abbrev pub HeedsLook : {D W O : Type 0} → Calls D → (W → O) → Question → D → FlightState → W → D → FlightState → W → Type 0
 HeedsLook calls outbox question desk flight sockets desk' flight' sockets' = HeedsFirstLook calls question desk flight (outbox sockets) desk' flight' (outbox sockets')
+
+-- If the question begins anew by what was heard, it heeds its first lookup so.
+abbrev pub HeedsAnew : {D W O : Type 0} → Calls D → (W → O) → HeardOrRefused → Question → D → FlightState → W → D → FlightState → W → Type 0
+HeedsAnew calls outbox heard question desk flight sockets desk' flight' sockets' =
+    listened_of heard ≡ Anew → HeedsLook calls outbox question desk flight sockets desk' flight' sockets'
 
 -- The same of the question that the octets of a client ask, if they ask one.
 abbrev pub HeedsLookOf : {D W O : Type 0} → Calls D → (W → O) → List ℕ → D → FlightState → W → D → FlightState → W → Type 0

@@ -1,10 +1,12 @@
 -- One question in flight: its calls of the desk and its exchanges with name servers, while other questions call between.
-use Rattle.std.specs.Prelude.{◌≡◌, ◌≤◌, ℕ, IsTrue, Result, Ok, Err, Option, Some, None, List, []}
+use Rattle.std.specs.Prelude.{◌≡◌, ◌≤◌, ℕ, IsTrue, Result, Ok, Err, Option, Some, None, List, [], ◌∷◌}
 use Rattle.dns_query.specs.declared.over.Over.{Over}
 use Rattle.dns_text.specs.declared.addr.Addr.{Addr}
 use Rattle.dns_text.specs.declared.record.Question.{Question}
 use Rattle.history.specs.declared.desk.DeskFault.{DeskFault}
+use Rattle.history.specs.declared.event.Ask.TheVariants.{Answer as Asked}
 use Rattle.history.specs.declared.event.Event.{Event}
+use Rattle.history.specs.declared.event.Event.TheVariants.{Look}
 use Rattle.history.specs.declared.event.Reply.{Reply}
 use Rattle.iterate.specs.declared.answer.Answer.{Answer}
 use Rattle.iterate.specs.declared.want.Allowance.{Allowance}
@@ -46,6 +48,10 @@ pub data Answered {D : Type 0} (calls : Calls D) (seen : D → ℕ) (hears : Hea
   put_off : {n n' : ℕ} {d : D} {event : Event} → n ≤ seen d → IsTrue (asks_oldest event) → n' ≡ seen d → Answered calls seen hears n (Book event) (Refused Unswept) n'
   came : {n : ℕ} {server : Addr} {over : Over} {query octets : List ℕ} {allowance : Allowance} → hears (query_to server over query) (Some octets) → Answered calls seen hears n (Send server over query) (Came octets allowance) n
   failed : {n : ℕ} {server : Addr} {over : Over} {query : List ℕ} → hears (query_to server over query) None → Answered calls seen hears n (Send server over query) Failed n
+
+-- the steps of a task that began at this moment: it waits for the reply to the lookup of its question
+abbrev pub begun_steps : Question → ℕ → List Step
+begun_steps question moment = record { input = Begin; want = Book (Look moment (Asked question)) } ∷ []
 
 -- The task of a question took these steps, since the desk knew of so many calls. Each step read the clock, each query has an identifier that the generator drew, and each step but the first had the answer to the want before it. This input comes next, and n is the number of the desk's latest call that the question knows of.
 pub data Flies {D C : Type 0} (calls : Calls D) (seen : D → ℕ) (hears : Hears) (ticks : Ticks C) (since port : ℕ) (question : Question) : List Step → Input → ℕ → Type 0 where

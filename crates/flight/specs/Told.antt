@@ -27,6 +27,10 @@ pub data IsTold {D C : Type 0} (calls : Calls D) (seen : D → ℕ) (hears : Hea
       → Written over m query (reply_told query rcode aa aliases last authority) out
       → IsTold calls seen hears ticks since port over m out
 
+-- The octets of this client may get this reply.
+abbrev pub IsToldTo : {D C K : Type 0} → Calls D → (D → ℕ) → Hears → Ticks C → (K → ℕ) → (K → Over) → K → ℕ → List ℕ → List ℕ → Type 0
+IsToldTo calls seen hears ticks since over client port m out = IsTold calls seen hears ticks (since client) port (over client) m out
+
 -- The octets of a client are owed no reply: they ask for none, or their question ended in silence.
 pub data IsUntold {D C : Type 0} (calls : Calls D) (seen : D → ℕ) (hears : Hears) (ticks : Ticks C) (since port : ℕ) (m : List ℕ) : Type 0 where
   dropped : AsksFor m Drop → IsUntold calls seen hears ticks since port m

@@ -3,11 +3,10 @@
 ghost use Rattle.std.specs.Prelude.{◌≡◌, ◌≤◌, ◌+◌, None, IfNone, IfSome, OnSome};
 ghost use Rattle.system.specs.Counts.{Rises};
 ghost use Rattle.flight.specs.Asking.{AwaitsFor, FliesFor, HasHeardFor, IsAskedBy, SettlesAsking};
-ghost use Rattle.flight.specs.declared.sockets.Listened.TheVariants.{Anew};
 ghost use Rattle.flight.specs.Bounds.{IsBounded};
-ghost use Rattle.flight.specs.FirstLook.{HearsOut, HeedsLook};
+ghost use Rattle.flight.specs.Clients.{EndsWithOneMore};
+ghost use Rattle.flight.specs.FirstLook.{HearsOut, HeedsAnew};
 ghost use Rattle.flight.specs.Flight.{query_to};
-ghost use Rattle.flight.specs.Leaving.{Ends};
 ghost use Rattle.flight.specs.Told.{listened_of, Keeps};
 ghost use Rattle.flight.specs.Waiting.{IsAccounted, WaitsFrom, outstanding};
 ghost use Rattle.iterate.specs.declared.want.Want.{Want};
@@ -38,8 +37,7 @@ impl<D: Numbered, L: InFlight, C: Clock, G: Rng, K: Client> Flight<D, L, C, G, K
         job: Job<D, L, C, G, K>,
     )
         ensures port { O.server_port sockets.new ≡ O.server_port sockets.old }
-        ensures ends { Ends K.sent O.posts 0 (outstanding self.old + 1) (O.outbox sockets.old)
-            (outstanding self.new) (O.outbox sockets.new) }
+        ensures ends { EndsWithOneMore K.sent O.posts O.outbox self.old sockets.old self.new sockets.new }
         ensures accounted { IsAccounted 0 (outstanding self.old + 1) (O.counts sockets.old) (outstanding self.new) (O.counts sockets.new) }
         ensures heard { Rises (O.counts sockets.old).listened (O.counts sockets.new).listened }
         ensures waits { WaitsFrom now (λ origin. origin ≡ job.origin) self.old self.new }
@@ -78,8 +76,8 @@ impl<D: Numbered, L: InFlight, C: Clock, G: Rng, K: Client> Flight<D, L, C, G, K
             self.old sockets.old self.new sockets.new }
 
         // A question that begins anew heeds its first lookup.
-        ensures anew { listened_of heard ≡ Anew →
-            HeedsLook D.calls O.outbox asking.query.question desk.old self.old sockets.old desk.new self.new sockets.new }
+        ensures anew { HeedsAnew D.calls O.outbox heard asking.query.question
+            desk.old self.old sockets.old desk.new self.new sockets.new }
     {
         let input = match heard {
             HeardOrRefused::Came(reply) => {

@@ -1,9 +1,9 @@
 //! The questions of one worker that are in flight.
 
-ghost use Rattle.std.specs.Prelude.{◌≡◌, ◌⊎◌, ◌<◌, ◌≤◌, ◌+◌, [], ℕ, None, IfSome};
+ghost use Rattle.std.specs.Prelude.{◌≡◌, ◌⊎◌, ◌<◌, ◌≤◌, ◌+◌, [], None, IfSome};
 ghost use Rattle.system.specs.Counts.{Rises};
 ghost use Rattle.flight.specs.Bounds.{AllGoOn, EachIsSmall, EndsLargest, Relieves, kept_all};
-ghost use Rattle.flight.specs.Clients.{LosesNone, SettlesOctets};
+ghost use Rattle.flight.specs.Clients.{LosesNone, LosesNoneAtAnyTime, SettlesOctets};
 ghost use Rattle.flight.specs.FirstLook.{HeedsLookOf, ListensAt, ListensToEach};
 ghost use Rattle.flight.specs.Waiting.{EarlyGoOn, IsPatient, IsPatientUntil, IsTimely, OthersGoOn};
 ghost use Rattle.flight.specs.Waiting.{outstanding, since_at, time_left};
@@ -195,8 +195,8 @@ impl<D: Numbered, L: InFlight, C: Clock, G: Rng, K: Client> Flight<D, L, C, G, K
         ensures relieved { kept_all self.new ≤ MOST_AT_REST }
         ensures relieves { Relieves MOST_AT_REST self.old self.new }
         ensures go_on { AllGoOn self.old self.new }
-        ensures loses_none { (now : ℕ)
-            → LosesNone K.sent O.server_port O.counts O.outbox O.posts now self.old sockets.old self.new sockets.new }
+        ensures loses_none { LosesNoneAtAnyTime K.sent O.server_port O.counts O.outbox O.posts
+            self.old sockets.old self.new sockets.new }
         ensures unheard { (O.counts sockets.new).listened ≡ (O.counts sockets.old).listened }
         ensures unexpired { (O.counts sockets.new).expired ≡ (O.counts sockets.old).expired }
     {
@@ -210,8 +210,8 @@ impl<D: Numbered, L: InFlight, C: Clock, G: Rng, K: Client> Flight<D, L, C, G, K
         requires { MOST_AT_REST < kept_all self.old }
         ensures largest { EndsLargest self.old self.new }
         ensures fewer { outstanding self.new + 1 ≡ outstanding self.old }
-        ensures loses_none { (now : ℕ)
-            → LosesNone K.sent O.server_port O.counts O.outbox O.posts now self.old sockets.old self.new sockets.new }
+        ensures loses_none { LosesNoneAtAnyTime K.sent O.server_port O.counts O.outbox O.posts
+            self.old sockets.old self.new sockets.new }
         ensures unheard { (O.counts sockets.new).listened ≡ (O.counts sockets.old).listened }
         ensures unexpired { (O.counts sockets.new).expired ≡ (O.counts sockets.old).expired }
     {

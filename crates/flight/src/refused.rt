@@ -1,7 +1,7 @@
 //! The calls of this crate that want memory, those of a task in the module below. Each returns a `Refused` if it got none, and nothing
 //! else makes one.
 
-ghost use Rattle.std.specs.Prelude.{◌≡◌, ◌<◌, ◌≤◌, [], ℕ, List, Option, length, option_map, IfErr, IfOk, IfSome, MatchOption, OnOk};
+ghost use Rattle.std.specs.Prelude.{◌≡◌, ◌<◌, ◌≤◌, Option, length, option_map, IfErr, IfOk, IfSome, OnOk};
 ghost use Rattle.std.specs.VecDeque.{deque_capacity, deque_len};
 ghost use Rattle.slab.specs.Slab.{HasRoomFor};
 ghost use Rattle.dns_wire.specs.declared.server.query.Asked.TheVariants.{Good};
@@ -10,12 +10,9 @@ ghost use Rattle.replies.specs.Reply.{most_octets, Tells};
 ghost use Rattle.history.specs.declared.event.Ask.TheVariants.{Answer as Asks};
 ghost use Rattle.history.specs.declared.event.Event.TheVariants.{Look};
 ghost use Rattle.iterate.specs.declared.search.Hunt.{Hunt};
-ghost use Rattle.iterate.specs.declared.want.Want.TheVariants.{Book};
-ghost use Rattle.iterate.specs.Exchanges.{AddsLook, Exchange};
-ghost use Rattle.iterate.specs.Phase.{Suits};
-ghost use Rattle.iterate.specs.Resolved.{IsNoAnswer, IsResolved};
 ghost use Rattle.iterate.specs.Told.{IsFit};
 ghost use Rattle.flight.specs.Counted.{CountsListened};
+ghost use Rattle.flight.specs.FirstLook.{IsSettledBy};
 ghost use Rattle.flight.specs.Told.{listened_of, IsHeard, Keeps};
 
 use crate::in_flight::InFlight;
@@ -102,9 +99,7 @@ pub(crate) fn settled(
     question: &Question,
     input: &Input,
 ) -> Result<Option<Answer>, Refused>
-    ensures { (port m : ℕ) (log : List Exchange) → AddsLook [] m (Asks question.now) input.now log
-        → Suits (Book (Look m (Asks question.now))) input.now
-        → IfOk result (λ answer. MatchOption answer (IsNoAnswer question.now input.now) (IsResolved port question.now log)) }
+    ensures { IsSettledBy question.now input.now result }
 {
     match iterate::settled(alloc, question, input) {
         Ok(answer) => Ok(answer),

@@ -11,7 +11,7 @@ ghost use Rattle.flight.specs.declared.sockets.Listened.{Listened};
 ghost use Rattle.flight.specs.Clients.{Settles};
 ghost use Rattle.flight.specs.Counted.{CountsAbandoned, CountsExpired, CountsListened, CountsOpened};
 ghost use Rattle.flight.specs.Flight.{query_to};
-ghost use Rattle.flight.specs.Told.{octets_of, IsHeard, IsTold, IsUntold, Keeps};
+ghost use Rattle.flight.specs.Told.{octets_of, IsHeard, IsToldTo, IsUntold, Keeps};
 
 use crate::cause::Cause;
 use crate::in_flight::InFlight;
@@ -145,7 +145,7 @@ pub trait Sockets<D: Numbered, L: InFlight, C: Clock, K: Client> {
     /// Sends a client the reply to its octets, now or later. It may be lost on the way.
     fn give(&mut self, client: K, octets: &[u8], reply: ReplyOctets)
         requires own { K.sent client octets.now }
-        requires told { IsTold D.calls D.seen L.hears C.ticks (K.since client) (server_port self.old) (K.over client)
+        requires told { IsToldTo D.calls D.seen L.hears C.ticks K.since K.over client (server_port self.old)
             octets.now (octets_of reply) }
         requires short { length (octets_of reply) ≤ most_octets (K.over client) }
         ensures { Settles server_port counts outbox posts client (Some (octets_of reply)) self.old self.new };

@@ -6,7 +6,7 @@ ghost use Rattle.dns_wire.specs.Server.Asking.{AsksFor};
 ghost use Rattle.replies.specs.Reply.{fault_octets};
 ghost use Rattle.iterate.specs.declared.answer.Answer.TheVariants.{Silent};
 ghost use Rattle.iterate.specs.Told.{IsFit};
-ghost use Rattle.flight.specs.Asking.{IsAskedBy, LandsFor};
+ghost use Rattle.flight.specs.Asking.{AnswersAsking, IsAskedBy, LandsFor};
 ghost use Rattle.flight.specs.Clients.{Settles, SettlesBy};
 ghost use Rattle.flight.specs.Flight.{Lands};
 ghost use Rattle.flight.specs.Leaving.{Ends};
@@ -111,7 +111,7 @@ pub(crate) fn conclude<
     requires asked { IsAskedBy K.sent asking.port octets.now asking.client asking.query asking.task }
     requires lands { LandsFor D.calls D.seen L.hears C.ticks K.since (O.server_port sockets.old) asking answer }
     requires fit { IsFit answer }
-    ensures { SettlesBy K.over O.server_port O.counts O.outbox O.posts asking.client octets.now asking.query answer sockets.old sockets.new }
+    ensures { AnswersAsking K.over O.server_port O.counts O.outbox O.posts asking octets.now answer sockets.old sockets.new }
 {
     let Asking {
         client,

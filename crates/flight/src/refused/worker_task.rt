@@ -1,12 +1,9 @@
 //! The task of a question in a worker.
 
-ghost use Rattle.std.specs.Prelude.{◌≡◌, ◌∷◌, [], IfOk, OnErr, IsErr};
+ghost use Rattle.std.specs.Prelude.{◌≡◌, IfOk, OnErr, IsErr};
 ghost use Rattle.std.specs.Option.{option_copied};
-ghost use Rattle.history.specs.declared.event.Ask.TheVariants.{Answer as Asked};
-ghost use Rattle.history.specs.declared.event.Event.TheVariants.{Look};
+ghost use Rattle.flight.specs.Flight.{begun_steps};
 ghost use Rattle.iterate.specs.declared.phase.Phase.TheVariants.{Broken, First};
-ghost use Rattle.iterate.specs.declared.want.Input.TheVariants.{Begin};
-ghost use Rattle.iterate.specs.declared.want.Want.TheVariants.{Book};
 ghost use Rattle.iterate.specs.Phase.{drawing};
 ghost use Rattle.iterate.specs.Task.{hunt_in, IsDueAt, IsSameTask, StepFails, StepsOn};
 
@@ -46,8 +43,7 @@ impl<G: Rng> WorkerTask<G> {
     ) -> Result<WorkerTask<G>, Refused>
         ensures question { IfOk result (λ task. task.question ≡ question.now) }
         ensures port { IfOk result (λ task. task.port ≡ port) }
-        ensures steps { IfOk result (λ task.
-            task.steps.items ≡ record { input = Begin; want = Book (Look moment (Asked question.now)) } ∷ []) }
+        ensures steps { IfOk result (λ task. task.steps.items ≡ begun_steps question.now moment) }
         ensures phase { IfOk result (λ task. task.phase ≡ First) }
     {
         let copy = match question.clone() {
