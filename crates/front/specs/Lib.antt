@@ -1,5 +1,6 @@
 pub mod Answerable
 pub mod Arrivals
+pub mod Batch
 pub mod Connections
 pub mod Memory
 pub mod Moves

@@ -1,6 +1,6 @@
 //! The datagrams that have come in.
 
-ghost use Rattle.std.specs.Prelude.{◌≡◌, ◌⊎◌, ◌≤◌, false, true, IfErr, IfOk, IfSome, IsSome, IsSomeAnd, OnErr, map, take, vec_len};
+ghost use Rattle.std.specs.Prelude.{◌≡◌, ◌⊎◌, ◌≤◌, false, true, IfErr, IfOk, IfSome, IsSome, IsSomeAnd, OnErr, take, vec_len};
 ghost use Rattle.std.specs.IoError.{error_kind};
 ghost use Rattle.std.specs.List.{AllWithin};
 ghost use Rattle.front.specs.declared.inbox.TheConstants.{BATCH};
@@ -98,7 +98,8 @@ pub struct Inbox<S: ServiceSocket> {
 }
 
 impl<S: ServiceSocket> Inbox<S> {
-    ghost use Rattle.front.specs.Rooms.{arrived, fronts_of};
+    ghost use Rattle.front.specs.Batch.{batch_of};
+    ghost use Rattle.front.specs.Rooms.{fronts_of};
     ghost use Rattle.front.specs.Moves.{AllMoved};
 
     /// An empty inbox.
@@ -115,8 +116,7 @@ impl<S: ServiceSocket> Inbox<S> {
     /// Takes datagrams of a socket until it has none, or the inbox is full. Returns whether the socket may have more.
     pub fn fill(&mut self, socket: &mut S) -> io::Result<bool>
         requires empty { self.old.filled ≡ 0 }
-        ensures took { AllMoved S.takes (fronts_of (map (λ slot. arrived slot.came slot.room) (take self.new.filled self.new.slots.items)))
-            socket.old socket.new }
+        ensures took { AllMoved S.takes (fronts_of (batch_of self.new)) socket.old socket.new }
         ensures drained { IfOk result (λ more. more ≡ false → S.drained) }
         ensures full { IfOk result (λ more. more ≡ true → S.interrupted ⊎ (self.new.filled ≡ BATCH)) }
         ensures failed { OnErr result S.failed }

@@ -1,10 +1,11 @@
 //! The outbox of a worker: the socket of the service, and the replies that wait to be sent.
 
-ghost use Rattle.std.specs.Prelude.{◌≡◌, ◌⊎◌, [], ◌∷◌, false, map, take, true, IfOk, OnErr};
+ghost use Rattle.std.specs.Prelude.{◌≡◌, ◌⊎◌, [], ◌∷◌, false, map, true, IfOk, OnErr};
 ghost use Rattle.flight.specs.Told.{octets_of};
+ghost use Rattle.front.specs.Batch.{batch_of};
 ghost use Rattle.front.specs.Moves.{AllMoved, datagram_to};
 ghost use Rattle.front.specs.Outgoing.{Posts, datagram_of};
-ghost use Rattle.front.specs.Rooms.{arrived, fronts_of};
+ghost use Rattle.front.specs.Rooms.{fronts_of};
 ghost use Rattle.front.specs.declared.inbox.TheConstants.{BATCH};
 
 use crate::buffers::Buffers;
@@ -91,9 +92,7 @@ impl<S: ServiceSocket> Outbox<S> {
     /// Takes the datagrams that are there into an empty inbox, until it is full. Returns whether there may be more.
     pub fn receive(&mut self, inbox: &mut Inbox<S>) -> io::Result<bool>
         requires empty { inbox.old.filled ≡ 0 }
-        ensures took { AllMoved S.takes
-            (fronts_of (map (λ slot. arrived slot.came slot.room) (take inbox.new.filled inbox.new.slots.items)))
-            self.old.socket self.new.socket }
+        ensures took { AllMoved S.takes (fronts_of (batch_of inbox.new)) self.old.socket self.new.socket }
         ensures waiting { self.new.waiting ≡ self.old.waiting }
         ensures drained { IfOk result (λ more. more ≡ false → S.drained) }
         ensures full { IfOk result (λ more. more ≡ true → S.interrupted ⊎ (inbox.new.filled ≡ BATCH)) }

@@ -1,6 +1,6 @@
 //! The turns of a worker. In each it waits, goes on with its exchanges, and takes datagrams.
 
-ghost use Rattle.std.specs.Prelude.{◌≡◌, ◌≤◌, [], false, map, max, take, IfOk, OnErr, OnOk};
+ghost use Rattle.std.specs.Prelude.{◌≡◌, ◌≤◌, [], false, max, IfOk, OnErr, OnOk};
 ghost use Rattle.std.specs.Duration.{as_nanos};
 ghost use Rattle.system.specs.Counts.{Rises};
 ghost use Rattle.mio.specs.Events.{items};
@@ -13,7 +13,7 @@ ghost use Rattle.front_workers.specs.Accounts.{GoesOn, KeepsTime, QuestionsGoOn,
 ghost use Rattle.front_workers.specs.Asking.{PostsBy, asking_at};
 ghost use Rattle.front_workers.specs.Sockets.{sockets_of};
 ghost use Rattle.front_workers.specs.Begun.{AllBegin, BatchBegins, IsBegun, Runs, TakesNone};
-ghost use Rattle.front.specs.Rooms.{arrived};
+ghost use Rattle.front.specs.Batch.{batch_of};
 ghost use Rattle.front_workers.specs.Looked.{AllLookedAt, EndOverdue, LooksAtAll};
 ghost use Rattle.front_workers.specs.Patience.{AreRead, EndsOverdue, IsReadOn, patience_of};
 ghost use Rattle.front.specs.Taken.{IsQuery};
@@ -194,9 +194,7 @@ impl<'a, R: ReadyNet + Log + Elapsing + Wait, S: ServiceSocket> Turns<'a, R, S> 
         inbox: &Inbox<S>,
     )
         ensures goes_on { GoesOn S.takes S.sends questions.old self.old questions.new self.new }
-        ensures begin { AllBegin S.takes S.sends
-            (map (λ slot. arrived slot.came slot.room) (take inbox.now.filled inbox.now.slots.items))
-            questions.old self.old questions.new self.new }
+        ensures begin { AllBegin S.takes S.sends (batch_of inbox.now) questions.old self.old questions.new self.new }
         ensures reported { self.new.reported ≡ self.old.reported }
     {
         for slot in inbox.datagrams() {
@@ -216,9 +214,7 @@ impl<'a, R: ReadyNet + Log + Elapsing + Wait, S: ServiceSocket> Turns<'a, R, S> 
         ensures failed { OnErr result S.failed }
         ensures goes_on { GoesOn S.takes S.sends questions.old self.old questions.new self.new }
         ensures sent { self.new.outbox.waiting ≡ [] }
-        ensures begun { BatchBegins S.takes S.sends
-            (map (λ slot. arrived slot.came slot.room) (take inbox.new.filled inbox.new.slots.items))
-            questions.old self.old questions.new self.new }
+        ensures begun { BatchBegins S.takes S.sends (batch_of inbox.new) questions.old self.old questions.new self.new }
         ensures reported { self.new.reported ≡ self.old.reported }
     {
         inbox.clear();

@@ -1,6 +1,6 @@
 //! The sockets of one worker.
 
-ghost use Rattle.std.specs.Prelude.{◌≡◌, ◌⊎◌, ◌≤◌, [], ◌∷◌, false, length, map, take, true, vec_len};
+ghost use Rattle.std.specs.Prelude.{◌≡◌, ◌⊎◌, ◌≤◌, [], ◌∷◌, false, length, true, vec_len};
 ghost use Rattle.std.specs.Prelude.{IfNone, IfOk, IfSome, IsSomeAnd, OnErr, OnSome};
 ghost use Rattle.std.specs.Option.{option_copied};
 ghost use Rattle.clock.specs.Moments.{millis_at};
@@ -16,7 +16,8 @@ ghost use Rattle.flight.specs.Told.{octets_of, IsHeard, Keeps};
 ghost use Rattle.outside.specs.Exchanges.{IsNotToBeHad, TellsOf};
 ghost use Rattle.front_workers.specs.Endings.{IsTooLong, Refuses};
 ghost use Rattle.front_workers.specs.Permits.{AsksOnce};
-ghost use Rattle.front.specs.Rooms.{arrived, fronts_of};
+ghost use Rattle.front.specs.Batch.{batch_of};
+ghost use Rattle.front.specs.Rooms.{fronts_of};
 ghost use Rattle.front.specs.Connections.{Tends};
 ghost use Rattle.outside.specs.Hashing.{IsSeeded};
 ghost use Rattle.front.specs.Moves.{AllMoved, datagram_to};
@@ -272,9 +273,7 @@ impl<'a, L: Log, R, S: ServiceSocket> WorkerSockets<'a, L, R, Outbox<S>> {
     /// Takes the datagrams that are there into an empty inbox, until it is full. Returns whether there may be more.
     pub fn receive(&mut self, inbox: &mut Inbox<S>) -> io::Result<bool>
         requires empty { inbox.old.filled ≡ 0 }
-        ensures took { AllMoved S.takes
-            (fronts_of (map (λ slot. arrived slot.came slot.room) (take inbox.new.filled inbox.new.slots.items)))
-            self.old.outbox.socket self.new.outbox.socket }
+        ensures took { AllMoved S.takes (fronts_of (batch_of inbox.new)) self.old.outbox.socket self.new.outbox.socket }
         ensures waiting { self.new.outbox.waiting ≡ self.old.outbox.waiting }
         ensures asks { asking_of self.new ≡ asking_of self.old }
         ensures counts { self.new.counts ≡ self.old.counts }
