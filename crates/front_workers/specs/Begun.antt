@@ -4,11 +4,12 @@ use Rattle.std.specs.List.{AllByRecursion}
 use Rattle.std.specs.declared.net.SocketAddr.{SocketAddr}
 use Rattle.system.specs.declared.came.Came.{Came}
 use Rattle.system.specs.Counts.{Rises}
+use Rattle.flight.specs.Bounds.{IsBounded}
 use Rattle.flight.specs.Leaving.{Ends}
 use Rattle.flight.specs.Waiting.{FlightState, outstanding}
 use Rattle.front.specs.declared.client.UdpClient.{UdpClient}
 use Rattle.front.specs.declared.inbox.Arrival.TheVariants.{Passed, TooLong, Query}
-use Rattle.front_workers.specs.Accounts.{WorkerState}
+use Rattle.front_workers.specs.Accounts.{KeepsTime, WorkerState}
 use Rattle.front_workers.specs.Endings.{Endings, Refuses}
 use Rattle.front.specs.Moves.{AllMoved, Moves}
 use Rattle.front.specs.Outgoing.{IsSentBy, OutboxState, Posts, PostsTo}
@@ -62,3 +63,8 @@ pub data Runs {S : Type 0} (takes sends : Moves S) (flight : FlightState) (old :
 -- no question in flight
 abbrev pub none_in_flight : ℕ → FlightState
 none_in_flight limit = record { exchanges = []; begun = []; latest = 0; limit = limit }
+
+-- A worker ran, at first with no question in flight. What the questions that wait at the end keep is within its bound, and no exchange began later than the clock says.
+abbrev pub RunsFromNone : {S : Type 0} → Moves S → Moves S → ℕ → WorkerState S → WorkerState S → Type 0
+RunsFromNone takes sends limit old new =
+    (flight : FlightState) × Runs takes sends (none_in_flight limit) old flight new × IsBounded flight × KeepsTime old.clock (none_in_flight limit) new.clock flight

@@ -1,5 +1,5 @@
 -- The cells that the workers filled, and how many of them a zone may have.
-use Rattle.std.specs.Prelude.{◌≡◌, ◌≤◌, ◌<◌, ◌⊎◌, ◌+◌, ◌*◌, ◌%◌, get_or, ℕ, ◌-◌, ◌/◌, ◌==◌, max, min, Bool, true, false, Option, Some, None, is_some, count_by, length, List}
+use Rattle.std.specs.Prelude.{◌≡◌, ◌≤◌, ◌<◌, ◌⊎◌, ◌+◌, ◌*◌, ◌%◌, get_or, ℕ, ◌-◌, ◌/◌, ◌==◌, max, min, Bool, true, false, Option, Some, None, is_some, count_by, length, slice_set, List}
 use Rattle.iterate.specs.declared.limits.TheConstants.{MOST_FINDS}
 use Rattle.front_workers.specs.declared.filled_cells.Filled.{Filled}
 use Rattle.front_workers.specs.declared.filled_cells.TheConstants.{FREE_FOR_ZONE, LEAST_SHARE, LOOKED_AT, ROW}
@@ -44,6 +44,10 @@ pub record IsPlaceFor (places : List (Option Filled)) (first mark place : ℕ) :
   pub from_first : first ≤ place
   pub in_row : place < first + ROW
   pub chosen : (is_marked mark (get_or places place None) ≡ true) ⊎ ((other : ℕ) → first ≤ other → other < first + ROW → IsPassed places mark place other)
+
+-- A cell is noted in its place of the row of its hash.
+abbrev pub NotesCell : List (Option Filled) → Filled → List (Option Filled) → Type 0
+NotesCell places cell places' = (place : ℕ) × IsPlaceFor places (row_of places cell.mark) cell.mark place × (places' ≡ slice_set places place (Some cell))
 
 -- Some of the cells have left, all of them at their end.
 pub record HaveEnded (now : ℕ) (before after : List (Option Filled)) : Type 0 where

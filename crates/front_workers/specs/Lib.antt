@@ -4,6 +4,7 @@ pub mod Begun
 pub mod Descriptors
 pub mod Endings
 pub mod Looked
+pub mod Noting
 pub mod Patience
 pub mod Permits
 pub mod Sockets

@@ -2,6 +2,7 @@
 use Rattle.std.specs.Prelude.{◌≡◌, ◌≢◌, ◌≤◌, ℕ, IfSome, List, [], ◌∷◌}
 use Rattle.mio.specs.declared.event.event.Event.{Event}
 use Rattle.mio.specs.Event.{event_token}
+use Rattle.clock.specs.Moments.{ClockState, millis_at}
 use Rattle.system.specs.Counts.{Rises}
 use Rattle.flight.specs.declared.counts.Counts.{Counts}
 use Rattle.flight.specs.declared.kept.TheConstants.{MOST_AT_REST}
@@ -37,3 +38,7 @@ pub record LooksAtAll (events : List Event) (now : ℕ) (flight : FlightState) (
   pub relieves : Relieves MOST_AT_REST anew flight'
   pub relieved : kept_all flight' ≤ MOST_AT_REST
   pub listened : mid.listened ≤ new.listened
+
+-- So it is at the last moment of this clock.
+abbrev pub LooksAtAllBy : List Event → ClockState → FlightState → Counts → FlightState → Counts → Type 0
+LooksAtAllBy events clock flight old flight' new = LooksAtAll events (millis_at clock.last) flight old flight' new

@@ -15,6 +15,7 @@ use Rattle.flight.specs.Leaving.{Ends}
 use Rattle.flight.specs.Waiting.{FlightState, IsPatient, IsTimely, outstanding}
 use Rattle.front_workers.specs.Accounts.{KeepsTime}
 use Rattle.front_workers.specs.Asking.{AskingState}
+use Rattle.front_workers.specs.Begun.{none_in_flight}
 use Rattle.front.specs.declared.tcp.client.TcpClient.{TcpClient}
 use Rattle.front.specs.Connections.{ConnectionsState, Owes, ServesOne, Tends, no_connections}
 use Rattle.front_workers.specs.Looked.{LooksAtAll}
@@ -105,3 +106,9 @@ pub record StreamEndsOverdue {S : Type 0} (reads writes : Passes S) (drained : T
   pub looks : LooksAtAll new.reported (millis_at mid.clock.last) flight old.counts between mid.counts
   pub listened : mid.counts.listened ≤ new.counts.listened
   pub after : StreamRuns reads writes drained between mid flight' new
+
+-- A worker ran, at first with no question in flight. Each message and each exchange is accounted for, and so many exchanges at most are under way at the end. What the questions that wait then keep is within its bound, and no exchange began later than the clock says.
+abbrev pub StreamRunsFromNone : {S : Type 0} → Passes S → Passes S → Type 0 → ℕ → StreamWorker S → StreamWorker S → Type 0
+StreamRunsFromNone reads writes drained limit old new =
+    (flight : FlightState) × StreamRuns reads writes drained (none_in_flight limit) old flight new × (outstanding flight ≤ limit) × IsBounded flight
+    × AreAccounted 0 old.taken old.counts (outstanding flight) new.taken new.counts × KeepsTime old.clock (none_in_flight limit) new.clock flight

@@ -1,7 +1,7 @@
 //! The cells that the workers filled, and how many of them each zone has.
 
 ghost use Rattle.std.specs.Prelude.{◌≡◌, ◌<◌, ◌≤◌, ◌+◌, ℕ, None, Some, IfOk, count_by, is_some, replicate, slice_get, slice_index, slice_set, vec_len};
-ghost use Rattle.front_workers.specs.FilledCells.{allowed_of, end_in, is_marked, is_of, row_of, IsLookedOver, IsPlaceFor};
+ghost use Rattle.front_workers.specs.FilledCells.{allowed_of, end_in, is_marked, is_of, IsLookedOver, IsPlaceFor, NotesCell};
 ghost use Rattle.front_workers.specs.declared.filled_cells.TheConstants.{ROW, ZONE_COUNTERS};
 
 use dns_text::NoMemory;
@@ -157,9 +157,7 @@ impl FilledCells {
     pub(crate) fn note(&mut self, cell: Filled)
         requires { cell.counter < ZONE_COUNTERS }
         ensures few { vec_len self.old.places < ROW → self.new.places ≡ self.old.places }
-        ensures noted { ROW ≤ vec_len self.old.places
-            → (place : ℕ) × IsPlaceFor self.old.places.items (row_of self.old.places.items cell.mark) cell.mark place
-            × (self.new.places.items ≡ slice_set self.old.places.items place (Some cell)) }
+        ensures noted { ROW ≤ vec_len self.old.places → NotesCell self.old.places.items cell self.new.places.items }
     {
         let rows = self.places.len() / ROW;
         if rows == 0 {

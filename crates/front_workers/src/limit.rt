@@ -1,6 +1,6 @@
 //! The limit of exchanges that a worker may have under way.
 
-ghost use Rattle.std.specs.Prelude.{◌≡◌, ◌*◌, ◌+◌, ◌-◌, ◌/◌, ◌≤◌, min};
+ghost use Rattle.std.specs.Prelude.{◌≡◌, ◌*◌, ◌-◌, ◌/◌, ◌≤◌, min};
 ghost use Rattle.front_workers.specs.declared.filled_cells.TheConstants.{FREE_FOR_ZONE, LEAST_SHARE};
 ghost use Rattle.outside.specs.declared.permits.TheConstants.{MOST_EQUAL};
 ghost use Rattle.front.specs.declared.tcp.tcp_front.TheConstants.{MOST_KEPT, NETWORK_PART};
@@ -11,7 +11,7 @@ ghost use Rattle.outside.specs.declared.silence.TheConstants.{CLOSED_PAUSE, SILE
 ghost use Rattle.outside.specs.declared.refused_zones.TheConstants.{MOST_REFUSALS, REFUSED_PAUSE};
 ghost use Rattle.outside.specs.declared.servers.TheConstants.{MOST_SERVERS};
 ghost use Rattle.outside.specs.declared.questions.TheConstants.{MOST_QUESTIONS};
-ghost use Rattle.front_workers.specs.Descriptors.{SufficeFor};
+ghost use Rattle.front_workers.specs.Descriptors.{FitBeside, SufficeFor};
 
 /// The most exchanges that a worker has under way, however many descriptors the process may have.
 pub const MOST_EXCHANGES: usize = 512;
@@ -42,8 +42,7 @@ pub fn most_connections(descriptors: u64, udp: u8, tcp: u8, exchanges: usize) ->
     requires some { 1 ≤ tcp }
     requires few { exchanges ≤ MOST_EXCHANGES }
     ensures most { result ≤ MOST_CONNECTIONS }
-    ensures room { exchanges * (udp + tcp) ≤ descriptors - SPARE_DESCRIPTORS
-        → exchanges * (udp + tcp) + result * tcp ≤ descriptors - SPARE_DESCRIPTORS }
+    ensures room { FitBeside result exchanges udp tcp descriptors }
 {
     let workers = u64::from(udp) + u64::from(tcp);
     let held = exchanges as u64 * workers;

@@ -9,12 +9,12 @@ ghost use Rattle.flight.specs.declared.kept.TheConstants.{MOST_AT_REST};
 ghost use Rattle.flight.specs.declared.table.TheConstants.{PATIENCE, QUESTION_PATIENCE};
 ghost use Rattle.flight.specs.Bounds.{AllGoOn, Relieves, kept_all};
 ghost use Rattle.flight.specs.Waiting.{IsPatient, IsTimely, JoinsNone, outstanding, time_left};
-ghost use Rattle.front_workers.specs.Accounts.{GoesOn, KeepsTime, QuestionsGoOn, fresh_worker};
-ghost use Rattle.front_workers.specs.Asking.{PostsBy, asking_at};
-ghost use Rattle.front_workers.specs.Sockets.{sockets_of};
+ghost use Rattle.front_workers.specs.Accounts.{GoesOn, KeepsTime, fresh_worker};
+ghost use Rattle.front_workers.specs.Asking.{asking_at};
+ghost use Rattle.front_workers.specs.Sockets.{QuestionsGoOnBy};
 ghost use Rattle.front_workers.specs.Begun.{AllBegin, BatchBegins, IsBegun, Runs, TakesNone};
 ghost use Rattle.front.specs.Batch.{batch_of};
-ghost use Rattle.front_workers.specs.Looked.{AllLookedAt, EndOverdue, LooksAtAll};
+ghost use Rattle.front_workers.specs.Looked.{AllLookedAt, EndOverdue, LooksAtAllBy};
 ghost use Rattle.front_workers.specs.Patience.{AreRead, EndsOverdue, IsReadOn, patience_of};
 ghost use Rattle.front.specs.Taken.{IsQuery};
 
@@ -302,7 +302,7 @@ impl<'a, R: ReadyNet + Log + Elapsing + Wait, S: ServiceSocket> Turns<'a, R, S> 
         ensures read { IsReadOn R.passed self.old.clock self.new.clock }
         ensures patient { IsPatient PATIENCE (millis_at self.new.clock.last) questions.new }
         ensures timely { IsTimely QUESTION_PATIENCE (millis_at self.new.clock.last) questions.new }
-        ensures looks { LooksAtAll self.old.reported (millis_at self.new.clock.last)
+        ensures looks { LooksAtAllBy self.old.reported self.new.clock
             questions.old self.old.counts questions.new self.new.counts }
         ensures reported { self.new.reported ≡ self.old.reported }
     {
@@ -393,8 +393,7 @@ pub(crate) fn look_all<
     desk: &mut D,
     questions: &mut Flight<D, SocketLine<R>, C, G, K>,
 )
-    ensures go_on { QuestionsGoOn K.sent (PostsBy B.posts) questions.old sockets.old.counts (sockets_of sockets.old)
-        questions.new sockets.new.counts (sockets_of sockets.new) }
+    ensures go_on { QuestionsGoOnBy K.sent B.posts questions.old sockets.old questions.new sockets.new }
     ensures in_time { sockets.new.counts.expired ≡ sockets.old.counts.expired }
     ensures read { AreRead R.passed clock.old clock.new }
     ensures looked { AllLookedAt (items events.now) questions.old sockets.old.counts questions.new sockets.new.counts }
@@ -426,8 +425,7 @@ pub(crate) fn begin_anew<
 )
     requires patient { IsPatient PATIENCE now questions.old }
     requires timely { IsTimely QUESTION_PATIENCE now questions.old }
-    ensures go_on { QuestionsGoOn K.sent (PostsBy B.posts) questions.old sockets.old.counts (sockets_of sockets.old)
-        questions.new sockets.new.counts (sockets_of sockets.new) }
+    ensures go_on { QuestionsGoOnBy K.sent B.posts questions.old sockets.old questions.new sockets.new }
     ensures joins_none { JoinsNone questions.old questions.new }
     ensures patient { IsPatient PATIENCE now questions.new }
     ensures timely { IsTimely QUESTION_PATIENCE now questions.new }

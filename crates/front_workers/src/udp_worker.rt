@@ -4,11 +4,9 @@ ghost use Rattle.std.specs.Prelude.{◌≡◌, ◌≤◌, [], ℕ, IfOk};
 ghost use Rattle.replies.specs.declared.limits.TheConstants.{MOST_FAILURES};
 ghost use Rattle.plain_workers.specs.declared.work_end.WorkEnd.TheVariants.{Ended, Failing};
 ghost use Rattle.plain_workers.specs.Working.{HasFailed};
-ghost use Rattle.flight.specs.Bounds.{IsBounded};
-ghost use Rattle.flight.specs.Waiting.{FlightState};
-ghost use Rattle.front_workers.specs.Accounts.{Accounts, KeepsTime, fresh_worker};
+ghost use Rattle.front_workers.specs.Accounts.{Accounts, fresh_worker};
 ghost use Rattle.front_workers.specs.Asking.{asking_at};
-ghost use Rattle.front_workers.specs.Begun.{Runs, none_in_flight};
+ghost use Rattle.front_workers.specs.Begun.{RunsFromNone};
 
 use crate::asking::AskingTerms;
 use crate::table_seed::TableSeed;
@@ -97,8 +95,7 @@ pub fn fly_udp<
     ensures accounts { (waiting : ℕ) × (waiting ≤ limit) × Accounts S.takes S.sends 0 worker.old waiting worker.new }
     // Each datagram that was taken began once, as a client of its own, and no other client came. What the questions that wait keep
     // is within its bound. No exchange began later than the clock says.
-    ensures runs { (flight : FlightState) × Runs S.takes S.sends (none_in_flight limit) worker.old flight worker.new × IsBounded flight
-        × KeepsTime worker.old.clock (none_in_flight limit) worker.new.clock flight }
+    ensures runs { RunsFromNone S.takes S.sends limit worker.old worker.new }
     // It asked name servers in one way throughout.
     ensures asks { worker.new.asking ≡ worker.old.asking }
     // No reply waits at the end.

@@ -16,14 +16,14 @@ ghost use Rattle.flight.specs.Told.{octets_of, IsHeard, Keeps};
 ghost use Rattle.outside.specs.Exchanges.{IsNotToBeHad, TellsOf};
 ghost use Rattle.front_workers.specs.Endings.{IsTooLong, Refuses};
 ghost use Rattle.front_workers.specs.Permits.{AsksOnce};
+ghost use Rattle.front_workers.specs.Noting.{LosesReplyTo, NotesAnswerTo, NotesHeardOf};
 ghost use Rattle.front.specs.Batch.{batch_of};
 ghost use Rattle.front.specs.Rooms.{fronts_of};
 ghost use Rattle.front.specs.Connections.{Tends};
-ghost use Rattle.outside.specs.Hashing.{IsSeeded};
 ghost use Rattle.front.specs.Moves.{AllMoved, datagram_to};
 ghost use Rattle.front.specs.Outgoing.{Posts};
-ghost use Rattle.outside.specs.Pauses.{others_in, HeedsPause, IsPassedOver, Loses, NotesHeard};
-ghost use Rattle.outside.specs.Refusals.{IsLeftAlone, LooksUpList, NotesAnswer, list_of_strangers};
+ghost use Rattle.outside.specs.Pauses.{others_in, HeedsPause, IsPassedOver};
+ghost use Rattle.outside.specs.Refusals.{IsLeftAlone, LooksUpList, list_of_strangers};
 ghost use Rattle.outside.specs.Replies.{IsTooDear, MayCome};
 ghost use Rattle.front.specs.declared.inbox.TheConstants.{BATCH};
 
@@ -98,7 +98,7 @@ pub(crate) struct WorkerSockets<'a, L, R, B> {
 
 impl<'a, L: Log, R, B: Drop> WorkerSockets<'a, L, R, B> {
     ghost use Rattle.front_workers.specs.Asking.{asking_at};
-    ghost use Rattle.front_workers.specs.Sockets.{asking_of};
+    ghost use Rattle.front_workers.specs.Sockets.{asking_of, AreSeeded};
 
     /// The sockets of a worker whose service listens at `place`. Strangers do not know the seed.
     pub fn new(
@@ -115,8 +115,7 @@ impl<'a, L: Log, R, B: Drop> WorkerSockets<'a, L, R, B> {
         ensures asks { IfOk result (λ sockets. asking_of sockets ≡ asking_at place asking.entry) }
         ensures counts { IfOk result (λ sockets. sockets.counts ≡ no_counts) }
         ensures outbox { IfOk result (λ sockets. sockets.outbox ≡ outbox) }
-        ensures seed { IfOk result (λ sockets. IsSeeded seed sockets.pauses.servers × IsSeeded seed sockets.pauses.questions
-            × IsSeeded seed sockets.refusals.zones) }
+        ensures seed { IfOk result (AreSeeded seed) }
     {
         Ok(WorkerSockets {
             rt,
@@ -497,10 +496,8 @@ impl<'a, D: Numbered, C: Clock, L: Log + Wait, R: ReadyNet, K: Client, B: ReplyS
             (MayCome R.Datagrams.opened R.Datagrams.sent R.Datagrams.came
             R.Connection.connected R.Connection.contents R.Connection.remaining line.old.asked)
             R.Datagrams.sent R.Datagrams.came R.Datagrams.drained R.Datagrams.reported_again R.Datagrams.failed result line.old }
-        ensures refusals { NotesAnswer result line.old.asked.server line.old.asked.over line.old.zone
-            self.old.moment self.old.refusals self.new.refusals }
-        ensures pauses { NotesHeard result line.new.flaw line.old.asked.server line.old.asked.over line.old.asked.query
-            self.old.moment self.old.pauses self.new.pauses }
+        ensures refusals { NotesAnswerTo result line.old.asked line.old.zone self.old.moment self.old.refusals self.new.refusals }
+        ensures pauses { NotesHeardOf result line.new.flaw line.old.asked self.old.moment self.old.pauses self.new.pauses }
     {
         let heard = line.hear(self.alloc, self.poll.registry(), &mut self.room);
         self.counts.listen(&heard);
@@ -530,8 +527,7 @@ impl<'a, D: Numbered, C: Clock, L: Log + Wait, R: ReadyNet, K: Client, B: ReplyS
         ensures expired { CountsExpired self.old.counts self.new.counts }
         ensures keeps { Keeps (λ sockets. sockets.server_port) sockets_of self.old self.new }
         ensures unsent { line.waits ≡ true → self.new.pauses ≡ self.old.pauses }
-        ensures pauses { line.waits ≡ false
-            → Loses line.asked.server line.asked.over line.asked.query self.old.moment self.old.pauses self.new.pauses }
+        ensures pauses { line.waits ≡ false → LosesReplyTo line.asked self.old.moment self.old.pauses self.new.pauses }
     {
         self.permits.end(line.key());
         self.counts.expire();

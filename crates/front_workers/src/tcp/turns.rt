@@ -10,7 +10,7 @@ ghost use Rattle.flight.specs.Waiting.{IsPatient, IsTimely};
 ghost use Rattle.front_workers.specs.Asking.{asking_at};
 ghost use Rattle.front_workers.specs.Sockets.{asking_of};
 ghost use Rattle.front.specs.Connections.{Tends};
-ghost use Rattle.front_workers.specs.Looked.{AllLookedAt, EndOverdue, LooksAtAll};
+ghost use Rattle.front_workers.specs.Looked.{AllLookedAt, EndOverdue, LooksAtAllBy};
 ghost use Rattle.front.specs.Memory.{KeepLittle};
 ghost use Rattle.front_workers.specs.Streaming.{BeginsClient, StreamEndsOverdue, StreamGoesOn, fresh_worker};
 
@@ -401,7 +401,7 @@ impl<'a, R: ReadyNet + Log + Elapsing + Wait, S: ClientStream, L: ClientListener
         ensures goes_on { StreamGoesOn S.reads S.writes S.drained questions.old self.old questions.new self.new }
         ensures patient { IsPatient PATIENCE (millis_at self.new.clock.last) questions.new }
         ensures timely { IsTimely QUESTION_PATIENCE (millis_at self.new.clock.last) questions.new }
-        ensures looks { LooksAtAll self.old.reported (millis_at self.new.clock.last)
+        ensures looks { LooksAtAllBy self.old.reported self.new.clock
             questions.old self.old.counts questions.new self.new.counts }
         ensures reported { self.new.reported ≡ self.old.reported }
     {

@@ -1,16 +1,12 @@
 //! A worker that serves many connections, with many questions in flight.
 
-ghost use Rattle.std.specs.Prelude.{◌≡◌, ◌≤◌, ℕ, IfOk};
+ghost use Rattle.std.specs.Prelude.{◌≡◌, IfOk};
 ghost use Rattle.replies.specs.declared.limits.TheConstants.{MOST_FAILURES};
 ghost use Rattle.plain_workers.specs.declared.work_end.WorkEnd.TheVariants.{Ended, Failing};
 ghost use Rattle.plain_workers.specs.Working.{HasFailed};
-ghost use Rattle.flight.specs.Bounds.{IsBounded};
-ghost use Rattle.flight.specs.Waiting.{FlightState, outstanding};
-ghost use Rattle.front_workers.specs.Accounts.{KeepsTime};
 ghost use Rattle.front_workers.specs.Asking.{asking_at};
-ghost use Rattle.front_workers.specs.Begun.{none_in_flight};
 ghost use Rattle.front.specs.Memory.{KeepLittle};
-ghost use Rattle.front_workers.specs.Streaming.{AreAccounted, StreamRuns, fresh_worker};
+ghost use Rattle.front_workers.specs.Streaming.{StreamRunsFromNone, fresh_worker};
 
 use crate::asking::AskingTerms;
 use crate::table_seed::TableSeed;
@@ -101,10 +97,7 @@ pub fn fly_tcp<
     // be owed to its connection for each client that got one, unless the connection had ended, and no other. What a connection was sent is
     // the first of what it is owed, in order. Each message was settled once, and each exchange that began ended once, except those that
     // wait at the end. No exchange begins later than the last moment of the worker's clock.
-    ensures runs { (flight : FlightState) × StreamRuns S.reads S.writes S.drained (none_in_flight limit) worker.old flight worker.new
-        × (outstanding flight ≤ limit) × IsBounded flight
-        × AreAccounted 0 worker.old.taken worker.old.counts (outstanding flight) worker.new.taken worker.new.counts
-        × KeepsTime worker.old.clock (none_in_flight limit) worker.new.clock flight }
+    ensures runs { StreamRunsFromNone S.reads S.writes S.drained limit worker.old worker.new }
     // Beyond what each may keep at rest, the connections keep no more memory than all may.
     ensures kept { KeepLittle worker.new.connections }
     // It asked name servers in one way throughout.
