@@ -1,5 +1,5 @@
 -- The state before and after each call of this crate: a desk, and the tools of a worker.
-use Rattle.std.specs.Prelude.{ℕ, Option, Result, List}
+use Rattle.std.specs.Prelude.{ℕ, Option, option_map, Result, IfOk, List, Vec}
 use Rattle.std.specs.declared.net.SocketAddr.{SocketAddr}
 use Rattle.rand_core.specs.Stream.{Stream}
 use Rattle.dns_text.specs.declared.record.Question.{Question}
@@ -42,6 +42,11 @@ TaskBreaksOff calls asks ticks stream question desk tools desk' tools' =
 abbrev pub QueryServed : {D X C R : Type 0} → Calls D → Asks X → Ticks C → (R → Stream) → Over → List ℕ → Option (List ℕ) → D → Tools X C R → D → Tools X C R → Type 0
 QueryServed calls asks ticks stream over octets reply desk tools desk' tools' =
     Serves calls asks ticks tools.server_port over octets desk tools.exchange (lent_of stream tools) reply desk' tools'.exchange (lent_of stream tools')
+
+-- If there was memory for it, the query in these octets got the reply that was returned, or none.
+abbrev pub QueryReplied : {D X C R A E : Type 0} → Calls D → Asks X → Ticks C → (R → Stream) → Over → List ℕ → Result (Option (Vec ℕ A)) E → D → Tools X C R → D → Tools X C R → Type 0
+QueryReplied calls asks ticks stream over octets result desk tools desk' tools' =
+    IfOk result (λ reply. QueryServed calls asks ticks stream over octets (option_map (λ out. out.items) reply) desk tools desk' tools')
 
 -- The query in these octets got no reply, since no memory was left.
 abbrev pub QueryUnserved : {D X C R : Type 0} → Calls D → Asks X → Ticks C → (R → Stream) → List ℕ → D → Tools X C R → D → Tools X C R → Type 0

@@ -1,5 +1,5 @@
 -- The work of a worker on connections: each is served as a stream of messages.
-use Rattle.std.specs.Prelude.{◌≡◌, ℕ, ◌+◌, Option, Result, Err, List}
+use Rattle.std.specs.Prelude.{◌≡◌, ℕ, ◌+◌, Option, Result, Err, IsErrOf, List}
 use Rattle.streams.specs.Engine.{FailsToRead}
 use Rattle.system.specs.declared.device.DeviceFault.{DeviceFault}
 use Rattle.replies.specs.declared.fault.StreamFault.{StreamFault}
@@ -12,6 +12,10 @@ abbrev pub IsExcused : {A S W : Type 0} → (S → ℕ) → (S → ℕ) → (W �
 IsExcused calls reads_failed writes_failed (Err Read) s s' w w' = FailsToRead (calls s) (calls s') (reads_failed s) (reads_failed s')
 IsExcused calls reads_failed writes_failed (Err Write) s s' w w' = writes_failed w' ≡ writes_failed w + 1
 IsExcused calls reads_failed writes_failed _ s s' w w' = Unit {0}
+
+-- If a stream ended by `Read`, its reader could not read on: the reader before and after.
+abbrev pub ReadFails : {A S : Type 0} → (S → ℕ) → (S → ℕ) → Result A StreamFault → S → S → Type 0
+ReadFails calls failures result s s' = IsErrOf result Read → FailsToRead (calls s) (calls s') (failures s) (failures s')
 
 -- A connection is served as a stream of messages.
 abbrev pub Streamed : {O S W : Type 0} → Serving O → Lacking O → (S → Option (List ℕ)) → (S → ℕ) → (S → ℕ) → (W → Option (List ℕ)) → (W → ℕ) → S × W → O → O → Type 0

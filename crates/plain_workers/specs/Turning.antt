@@ -1,5 +1,5 @@
 -- The end of a want, for contracts inside the crate.
-use Rattle.std.specs.Prelude.{◌≡◌, ℕ, List, Option, Err}
+use Rattle.std.specs.Prelude.{◌≡◌, ℕ, List, Option, Result, IfOk, Err}
 use Rattle.dns_query.specs.declared.over.Over.{Over}
 use Rattle.dns_text.specs.declared.addr.Addr.{Addr}
 use Rattle.iterate.specs.declared.search.Hunt.{Hunt}
@@ -15,6 +15,10 @@ use Rattle.plain_workers.specs.Leads.{Asks, Met}
 abbrev pub TakesTurn : {D X : Type 0} → Calls D → Asks X → D → X → Option Hunt → Want → WantOutcome → D → X → Type 0
 TakesTurn calls asks d x hunt want (Go next) d' x' = Met calls asks d x hunt want next d' x'
 TakesTurn calls asks d x hunt want (Done answer) d' x' = (want ≡ Finish answer) × (d' ≡ d) × (x' ≡ x)
+
+-- So it is if there was memory for the exchange.
+abbrev pub TakesTurnIfOk : {D X E : Type 0} → Calls D → Asks X → D → X → Option Hunt → Want → Result WantOutcome E → D → X → Type 0
+TakesTurnIfOk calls asks d x hunt want result d' x' = IfOk result (λ outcome. TakesTurn calls asks d x hunt want outcome d' x')
 
 -- The want is a query, and the exchange found no memory.
 pub data Lacks {D X : Type 0} (asks : Asks X) : D → X → Option Hunt → Want → D → X → Type 0 where

@@ -1,12 +1,11 @@
 //! The reader of a client's connection.
 
-ghost use Rattle.std.specs.Prelude.{◌≡◌, ◌+◌, ◌<◌, ◌≤◌, None, length, take, drop, IfOk, IfSome, MatchBool, MatchOption, OnErr};
+ghost use Rattle.std.specs.Prelude.{◌≡◌, ◌+◌, ◌<◌, ◌≤◌, None, length, take, drop, IfOk, IfSome, MatchBool, OnErr};
 ghost use Rattle.std.specs.Io.Buffered.{reader_buffer, reader_capacity, reader_inner, reader_remaining};
-ghost use Rattle.std.specs.Io.KnownBytes.{Consumes, IsAtEnd, Keeps};
+ghost use Rattle.std.specs.Io.KnownBytes.{IsAtEnd, Keeps};
 ghost use Rattle.streams.specs.Told.{CountsFailure};
 ghost use Rattle.streams.specs.declared.source.TheConstants.{MOST_COUNTED};
-ghost use Rattle.plain_workers.specs.declared.spot.Spot.TheVariants.{Beginning};
-ghost use Rattle.plain_workers.specs.Reads.{Reads};
+ghost use Rattle.plain_workers.specs.Reads.{ReadsMessage, ReadsUnknown};
 ghost use Rattle.plain_workers.specs.Spots.{spot_after, IsOfOneMessage};
 
 use crate::spot::Spot;
@@ -118,8 +117,8 @@ impl<'a, R: Clock, F: StopFlag, S: Read + Timeouts> FrameReader<'a, R, F, S> {
     /// Some octets of one message, or no octets if none came so far. None at the end.
     fn come(&mut self, room: &mut [u8]) -> io::Result<Option<usize>>
         // It ends if the flag is set where a message begins, or with the connection.
-        ensures read { IfOk result (λ came. Reads came ((self.old.spot ≡ Beginning) × F.stopped)
-            (reader_remaining S.remaining self.old.stream) (reader_remaining S.remaining self.new.stream) room.new) }
+        ensures read { ReadsMessage result self.old.spot F.stopped self.old.stream self.new.stream
+            (reader_remaining S.remaining) room.new }
         ensures within { IfOk result (λ came. IfSome came (λ count. count ≤ length room.new)) }
         ensures spot { IfOk result (λ came. IfSome came (λ count. self.new.spot ≡ spot_after self.old.spot (take count room.new))) }
         ensures one { IfOk result (λ came. IfSome came (λ count. IsOfOneMessage self.old.spot (take count room.new))) }
@@ -150,12 +149,11 @@ impl<'a, R: Clock, F: StopFlag, S: Read + Timeouts> Source for FrameReader<'a, R
         requires room { 0 < length room.old }
         requires few { self.old.calls < MOST_COUNTED }
         // As at a source of which nothing is known,
-        ensures some { IfOk result (λ came.
-            MatchOption came (Keeps None None × IsAtEnd None) (λ n. (n ≤ length room.new) × Consumes None None (take n room.new))) }
+        ensures some { ReadsUnknown result room.new }
         ensures err { OnErr result (Keeps None None) }
         // and it ends if the flag is set where a message begins, or with the connection.
-        ensures read { IfOk result (λ came. Reads came ((self.old.spot ≡ Beginning) × F.stopped)
-            (reader_remaining S.remaining self.old.stream) (reader_remaining S.remaining self.new.stream) room.new) }
+        ensures read { ReadsMessage result self.old.spot F.stopped self.old.stream self.new.stream
+            (reader_remaining S.remaining) room.new }
         ensures length { length room.new ≡ length room.old }
         ensures calls { self.new.calls ≡ self.old.calls + 1 }
         ensures failures { CountsFailure result self.old.failures self.new.failures }

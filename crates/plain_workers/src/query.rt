@@ -1,10 +1,10 @@
 //! A query, from its octets to its reply.
 
-ghost use Rattle.std.specs.Prelude.{◌≡◌, ◌≤◌, length, option_map, IfOk, IfSome, OnErr};
+ghost use Rattle.std.specs.Prelude.{◌≡◌, ◌≤◌, length, IfOk, IfSome, OnErr};
 ghost use Rattle.dns_wire.specs.declared.server.query.Asked.TheVariants.{Good};
 ghost use Rattle.dns_wire.specs.Server.Asking.{AsksFor};
 ghost use Rattle.replies.specs.Reply.{most_octets};
-ghost use Rattle.plain_workers.specs.States.{QueryServed, QueryUnserved};
+ghost use Rattle.plain_workers.specs.States.{QueryReplied, QueryUnserved};
 
 use crate::exchange::Exchange;
 use crate::run::run_task;
@@ -31,8 +31,7 @@ fn answer_query<D: Desk, X: Exchange, C: Clock, R: Rng>(
     requires { AsksFor octets.now (Good query.now) }
     ensures port { tools.new.server_port ≡ tools.old.server_port }
     ensures short { IfOk result (λ reply. IfSome reply (λ out. length out.items ≤ most_octets over)) }
-    ensures serves { IfOk result (λ reply. QueryServed D.calls X.asks C.ticks R.stream over octets.now (option_map (λ out. out.items) reply)
-        desk.old tools.old desk.new tools.new) }
+    ensures serves { QueryReplied D.calls X.asks C.ticks R.stream over octets.now result desk.old tools.old desk.new tools.new }
     ensures unserved { OnErr result (QueryUnserved D.calls X.asks C.ticks R.stream octets.now desk.old tools.old desk.new tools.new) }
 {
     let question = query.question.clone()?;
@@ -51,8 +50,7 @@ pub fn serve_query<D: Desk, X: Exchange, C: Clock, R: Rng>(
 ) -> Result<Option<Vec<u8>>, NoMemory>
     ensures port { tools.new.server_port ≡ tools.old.server_port }
     ensures short { IfOk result (λ reply. IfSome reply (λ out. length out.items ≤ most_octets over)) }
-    ensures serves { IfOk result (λ reply. QueryServed D.calls X.asks C.ticks R.stream over octets.now (option_map (λ out. out.items) reply)
-        desk.old tools.old desk.new tools.new) }
+    ensures serves { QueryReplied D.calls X.asks C.ticks R.stream over octets.now result desk.old tools.old desk.new tools.new }
     ensures unserved { OnErr result (QueryUnserved D.calls X.asks C.ticks R.stream octets.now desk.old tools.old desk.new tools.new) }
 {
     if is_dear(octets) && wants_reply(octets) {

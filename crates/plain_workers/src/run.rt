@@ -4,7 +4,7 @@ ghost use Rattle.std.specs.Prelude.{◌≡◌, IfOk, OnErr};
 ghost use Rattle.std.specs.Option.{option_copied};
 ghost use Rattle.iterate.specs.Told.{IsFit};
 ghost use Rattle.plain_workers.specs.States.{TaskBreaksOff, TaskEnds};
-ghost use Rattle.plain_workers.specs.Turning.{TakesTurn, Lacks};
+ghost use Rattle.plain_workers.specs.Turning.{TakesTurnIfOk, Lacks};
 
 use crate::exchange::Exchange;
 use crate::tools::Tools;
@@ -32,8 +32,7 @@ fn meet<D: Desk, X: Exchange>(
     hunt: Option<&Hunt>,
     want: Want,
 ) -> Result<WantOutcome, NoMemory>
-    ensures turns { IfOk result (λ outcome. TakesTurn D.calls X.asks desk.old exchange.old (option_copied hunt.entry) want outcome
-        desk.new exchange.new) }
+    ensures turns { TakesTurnIfOk D.calls X.asks desk.old exchange.old (option_copied hunt.entry) want result desk.new exchange.new }
     ensures lacks { OnErr result (Lacks X.asks desk.old exchange.old (option_copied hunt.entry) want desk.new exchange.new) }
 {
     match want {

@@ -1,12 +1,12 @@
 //! A stream of messages.
 
 ghost use Rattle.std.specs.Prelude.{◌≡◌, ◌+◌, ◌<◌, ◌≤◌, IsErrOf};
-ghost use Rattle.streams.specs.Engine.{FailsToRead};
 ghost use Rattle.streams.specs.declared.engine.TheConstants.{MOST_READS};
 ghost use Rattle.streams.specs.declared.source.TheConstants.{MOST_COUNTED};
-ghost use Rattle.replies.specs.declared.fault.StreamFault.TheVariants.{Read as ReadFault, Write as WriteFault};
+ghost use Rattle.replies.specs.declared.fault.StreamFault.TheVariants.{Write as WriteFault};
 ghost use Rattle.replies.specs.Framing.{CountsWrite};
 ghost use Rattle.plain_workers.specs.States.{MessageServed, StreamServed};
+ghost use Rattle.plain_workers.specs.TcpWorking.{ReadFails};
 
 use crate::exchange::Exchange;
 use crate::query::serve_query;
@@ -60,8 +60,7 @@ pub fn serve_stream<D: Desk, X: Exchange, C: Clock, R: Rng, S: Source, W: Sink>(
         (S.remaining reader.old) (S.remaining reader.new) (W.contents writer.old) (W.contents writer.new) }
     // It gives up only if a read or a write failed, or if it took as many reads as it may.
     ensures few { S.calls reader.new < S.calls reader.old + MOST_READS }
-    ensures read_failed { IsErrOf result ReadFault
-        → FailsToRead (S.calls reader.old) (S.calls reader.new) (S.failures reader.old) (S.failures reader.new) }
+    ensures read_failed { ReadFails S.calls S.failures result reader.old reader.new }
     ensures write_failed { IsErrOf result WriteFault → W.failures writer.new ≡ W.failures writer.old + 1 }
 {
     let mut left = MOST_READS - 1;
