@@ -1,5 +1,5 @@
 -- What a call gives back.
-use Rattle.std.specs.Prelude.{◌≡◌, ◌⊎◌, ℕ, Bool, ◌+◌, ◌<◌, ◌≤◌, ◌^◌, true, false, IsTrue, List, length, Result, Ok, Err, IsErrOf}
+use Rattle.std.specs.Prelude.{◌≡◌, ◌⊎◌, ℕ, Bool, ◌+◌, ◌<◌, ◌≤◌, ◌^◌, true, false, IsTrue, List, length, Option, IfSome, Result, Ok, Err, IsErrOf}
 use Rattle.history.specs.declared.event.Ask.{Ask}
 use Rattle.history.specs.declared.event.Ask.TheVariants.{Oldest}
 use Rattle.history.specs.declared.event.Event.{Event}
@@ -80,6 +80,16 @@ pub record IsLocked {B : Type 0} (stands_for : B → List Event → Type 0) (mad
   pub ended : IsErrOf answer (CallStep CountEnded) → MOST_EVENTS ≤ before.total
   pub free : IsFreeCall is_free before event → ¬ (IsErrOf answer (CallStep NoMemory))
   pub own : LacksByBook stands_for made_with stored is_free before event (IsErrOf answer (CallStep NoMemory)) after
+
+-- If room for a call takes no memory, and its answer is that there is none, the book's own step met that.
+abbrev pub LacksMemoryByBook : {B : Type 0} → (B → List Event → Type 0) → (B → Settings) → (B → ℕ) → (B → Event → Type 0) → KeptState B → Event → Result Reply CallFault → KeptState B → Type 0
+LacksMemoryByBook stands_for made_with stored is_free before event answer after =
+    LacksByBook stands_for made_with stored is_free before event (IsErrOf answer (CallStep NoMemory)) after
+
+-- If there is an answer, it is that of a call at a shared book that was made with these settings.
+abbrev pub IsLockedIfSome : {B : Type 0} → (B → List Event → Type 0) → (B → Settings) → (B → ℕ) → (B → Event → Type 0) → Settings → PassState → Event → Option (Result Reply CallFault) → PassState → Type 0
+IsLockedIfSome stands_for made_with stored is_free settings pass event told pass' =
+    IfSome told (λ answer. IsLocked stands_for made_with stored is_free settings pass event answer pass')
 
 -- A call whose event is first shared and copied, which may find no memory if the event is more than a moment and a ticket.
 abbrev pub IsShared : {B : Type 0} → (B → List Event → Type 0) → (B → Settings) → (B → ℕ) → (B → Event → Type 0) → Settings → PassState → Event → Result Reply CallFault → PassState → Type 0

@@ -2,8 +2,8 @@
 
 ghost use Rattle.std.specs.Prelude.{◌≡◌, ◌+◌, ◌<◌, ◌≤◌, ◌^◌, ◌↔◌, ◌⊎◌, IfOk, IfErr, OnOk, OnErr, IsErr, IsErrOf};
 ghost use Rattle.shared_book.specs.Pass.{IsSplit, IsJoined, calls_of, parts_of};
-ghost use Rattle.shared_book.specs.Kept.{IsFreeCall, IsKept, IsKeptAs, LacksByBook};
-ghost use Rattle.shared_book.specs.Calling.{IsCall, IsUnsplit};
+ghost use Rattle.shared_book.specs.Kept.{IsFreeCall, IsKept, IsKeptAs};
+ghost use Rattle.shared_book.specs.Calling.{IsCall, IsUnsplit, LacksMemoryByBook};
 
 use crate::fault::{CallFault, SplitFault, SplitFound};
 use crate::kept::Kept;
@@ -24,8 +24,7 @@ impl<B: Book, L: CallLedger> Kept<B, L> {
         ensures there { IsKeptAs B.stands_for B.settings L.settings self.old }
         ensures call { IsCall B.stands_for B.settings B.stored self.old pass.old event result self.new pass.new }
         ensures free { IsFreeCall B.is_free self.old event → ¬ (IsErrOf result (CallFault.Step StepFault.NoMemory)) }
-        ensures own { LacksByBook B.stands_for B.settings B.stored B.is_free self.old event
-            (IsErrOf result (CallFault.Step StepFault.NoMemory)) self.new }
+        ensures own { LacksMemoryByBook B.stands_for B.settings B.stored B.is_free self.old event result self.new }
     {
         if self.total < pass.seen() {
             drop(event);

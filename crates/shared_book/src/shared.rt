@@ -4,7 +4,7 @@ ghost use Rattle.std.specs.Prelude.{◌≡◌, ◌≤◌, ◌↔◌, true, false
 ghost use Rattle.shared_book.specs.Fresh.{CanShare, IsKnownAs};
 ghost use Rattle.shared_book.specs.declared.kept.TheConstants.{MOST_RECORDED};
 ghost use Rattle.shared_book.specs.Pass.{first_pass, IsSplit, IsJoined};
-ghost use Rattle.shared_book.specs.Calling.{IsReceiptOf, IsJustified, IsCallReply, IsFaultOf, IsLocked, IsShared, IsUnsplit, answer_of, asks_oldest, is_oldest};
+ghost use Rattle.shared_book.specs.Calling.{IsReceiptOf, IsJustified, IsCallReply, IsFaultOf, IsLocked, IsLockedIfSome, IsShared, IsUnsplit, answer_of, asks_oldest, is_oldest};
 ghost use Rattle.shared_book.specs.Closing.{IsClosed};
 ghost use Rattle.shared_book.specs.Kept.{IsKept, IsTurnThere, IsTurnForThere, IsSweepThere};
 
@@ -194,8 +194,7 @@ impl<B: Book, L: CallLedger> SharedBook<B, L> {
         requires same { copy ≡ event }
         ensures ok { IfSome result (λ answer. IfOk answer (λ reply. IsCallReply L.settings pass.old event reply pass.new)) }
         ensures err { IfSome result (λ answer. IfErr answer (λ fault. IsFaultOf L.settings pass.old event fault pass.new)) }
-        ensures locked { IfSome result (λ answer.
-            IsLocked B.stands_for B.settings B.stored B.is_free L.settings pass.old event answer pass.new) }
+        ensures locked { IsLockedIfSome B.stands_for B.settings B.stored B.is_free L.settings pass.old event result pass.new }
         ensures turn { IfNone result (IsTurnForThere B.stands_for B.settings B.stored B.unswept L.settings false true) }
         ensures same_pass { IfNone result (pass.new ≡ pass.old) }
     {
