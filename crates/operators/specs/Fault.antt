@@ -65,6 +65,10 @@ abbrev pub IsRefused : List ℕ → List ℕ → CliFault → Type 0
 IsRefused path refusal fault =
     (fault.status ≡ 1) × (octets_in fault.text ≡ with_end (codes "resolver: cannot start") ++ why_line (file_reason path refusal))
 
+-- The lines for a file that cannot be read: the second says why.
+abbrev pub SayUnread : List ℕ → List ℕ → Type 0
+SayUnread path lines = (reason : List ℕ) × (lines ≡ with_end (codes "resolver: read failed") ++ why_line (file_reason path reason))
+
 -- The file cannot be read, and the second line says why.
 abbrev pub IsUnread : List ℕ → CliFault → Type 0
 IsUnread path fault = (fault.status ≡ 1) × (reason : List ℕ)

@@ -1,6 +1,8 @@
 -- The lines that a service obeys before it is ready.
-use Rattle.std.specs.Prelude.{◌≡◌, ◌++◌, ◌||◌, ℕ, Bool, false, List, Option, IfSome, codes, decimal, nat_eq}
+use Rattle.std.specs.Prelude.{◌≡◌, ◌++◌, ◌||◌, ℕ, Bool, false, List, Option, IfSome, Result, Ok, codes, decimal, nat_eq}
 use Rattle.std.specs.List.{starts_with}
+use Rattle.streams.specs.declared.fault.Ended.{Ended}
+use Rattle.streams.specs.declared.fault.Ended.TheVariants.{EndOfInput}
 use Rattle.streams.specs.Split.{IsLineHeard, lines_of}
 use Rattle.streams.specs.Transcript.{Obeying, Transcript, paired}
 use Rattle.clock.specs.Ticks.{Ticks}
@@ -21,6 +23,10 @@ abbrev pub AcceptsLine : {C D : Type 0} → Ticks C → Calls D → C → D → 
 AcceptsLine ticks calls clock desk line text ends clock' desk' =
     ends ≡ false → (heard : List ℕ) × IsLineHeard heard line × IsAccepted ticks calls clock desk heard clock' desk'
 
+-- A line is obeyed as if it were the only one of an operator, and gets this reply.
+abbrev pub IsRepliedTo : {C D : Type 0} → Ticks C → Calls D → C → D → List ℕ → List ℕ → C → D → Type 0
+IsRepliedTo ticks calls clock desk line reply clock' desk' = Transcript (paired (Controls ticks calls)) (clock, desk) (lines_of line) reply (clock', desk')
+
 -- An input was read to its end, and each of its lines was accepted, in order.
 pub record AcceptsInput {C D : Type 0} (ticks : Ticks C) (calls : Calls D) (unread : Option (List ℕ)) (clock : C) (desk : D)
     (clock' : C) (desk' : D) : Type 0 where
@@ -28,6 +34,10 @@ pub record AcceptsInput {C D : Type 0} (ticks : Ticks C) (calls : Calls D) (unre
   pub text : List ℕ
   pub all : IfSome unread (λ octets. input ≡ octets)
   pub obeyed : Transcript (paired (AcceptsLine ticks calls)) (clock, desk) (lines_of input) text (clock', desk')
+
+-- If the run ended at the end of its input, each line was accepted.
+abbrev pub AcceptsIfEnded : {C D E : Type 0} → Ticks C → Calls D → Result Ended E → Option (List ℕ) → C → D → C → D → Type 0
+AcceptsIfEnded ticks calls result unread clock desk clock' desk' = result ≡ Ok EndOfInput → AcceptsInput ticks calls unread clock desk clock' desk'
 
 -- The number of a line that was refused, its reply, and the line.
 abbrev pub refusal_of : ℕ → List ℕ → List ℕ → List ℕ

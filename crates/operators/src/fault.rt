@@ -1,11 +1,11 @@
 //! The end of a run that failed: its exit status, and the lines for standard error.
 
-ghost use Rattle.std.specs.Prelude.{◌≡◌, ◌++◌, ◌⊎◌, ℕ, List, IfOk, OnOk, codes};
+ghost use Rattle.std.specs.Prelude.{◌≡◌, ◌++◌, ◌⊎◌, IfOk, OnOk, codes};
 ghost use Rattle.dns_text.specs.Addr.{addr_text};
 ghost use Rattle.streams.specs.Split.{with_end};
 ghost use Rattle.operators.specs.Fault.{ProgramEnds, EndsFor, IsNoMemory, IsBadArguments, IsNotLoopback, HasWhy};
 ghost use Rattle.operators.specs.Fault.{IsFailedRead, IsFailedWrite, shown, why_line, CannotStart, CannotListen};
-ghost use Rattle.operators.specs.Fault.{HasNoService, HasNoReply, IsRefused, IsUnread, file_reason};
+ghost use Rattle.operators.specs.Fault.{HasNoService, HasNoReply, IsRefused, IsUnread, SayUnread, file_reason};
 
 use dns_name::NoMemory;
 use dns_text::{Addr, push_addr};
@@ -229,8 +229,7 @@ fn file_lines(alloc: Global, words: &[u8], path: &str, reason: &[u8]) -> Result<
 
 /// The lines for a file that cannot be read.
 fn unread_lines<W: Display>(alloc: Global, path: &str, why: &W) -> Result<Vec<u8>, AllocError>
-    ensures { IfOk result (λ lines. (reason : List ℕ) × (lines.items
-        ≡ with_end (codes "resolver: read failed") ++ why_line (file_reason path.now reason))) }
+    ensures { IfOk result (λ lines. SayUnread path.now lines.items) }
 {
     let reason = why.to_string(alloc)?;
     file_lines(alloc, b"resolver: read failed", path, reason.as_bytes())

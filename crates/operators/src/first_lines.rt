@@ -2,12 +2,8 @@
 
 ghost use Rattle.std.specs.Prelude.{◌≡◌, [], None, Some, Ok, false, IfOk, IfErr, IfSome, OnOk};
 ghost use Rattle.std.specs.Io.BufRead.{strip_last};
-ghost use Rattle.streams.specs.Split.{lines_of};
-ghost use Rattle.streams.specs.Transcript.{Transcript, paired};
-ghost use Rattle.streams.specs.declared.fault.Ended.TheVariants.{EndOfInput};
-ghost use Rattle.command_text.specs.Control.{Controls};
 ghost use Rattle.operators.specs.Fault.{CannotObey};
-ghost use Rattle.operators.specs.FirstLines.{AcceptsInput, AcceptsLine, IsAccepted, refusal_of};
+ghost use Rattle.operators.specs.FirstLines.{AcceptsIfEnded, AcceptsInput, AcceptsLine, IsAccepted, IsRepliedTo, refusal_of};
 
 use crate::fault::CliFault;
 use crate::file_reader::FileReader;
@@ -167,8 +163,7 @@ fn reply_to<D: Desk, C: Clock>(
     clock: &mut C,
     line: &[u8],
 ) -> Result<Vec<u8>, &'static [u8]>
-    ensures { IfOk result (λ reply. Transcript (paired (Controls C.ticks D.calls)) (clock.old, desk.old)
-        (lines_of line.now) reply.items (clock.new, desk.new)) }
+    ensures { IfOk result (λ reply. IsRepliedTo C.ticks D.calls clock.old desk.old line.now reply.items clock.new desk.new) }
 {
     let mut reader = CountedReader::new(line);
     let mut reply = KeptReply::new(alloc);
@@ -201,8 +196,8 @@ fn obey_lines<D: Desk, C: Clock, S: Source>(
     reader: &mut S,
 ) -> Result<Ended, ScriptFault>
     requires { S.calls reader.old ≡ 0 }
-    ensures { result ≡ Ok EndOfInput
-        → AcceptsInput C.ticks D.calls (S.remaining reader.old) lines.old.clock desk.old lines.new.clock desk.new }
+    ensures { AcceptsIfEnded C.ticks D.calls result (S.remaining reader.old)
+        lines.old.clock desk.old lines.new.clock desk.new }
 {
     let mut writer = CountedWriter::new(io::sink());
     run_lines::<FirstLines<C>, D, UntilRefused, S, CountedWriter<io::Sink>>(
