@@ -1,8 +1,8 @@
 -- Data of a set, separated by words that are a bar alone.
-use Rattle.std.specs.Prelude.{ℕ, Bool, true, false, ◌&&◌, List, [], ◌∷◌, ◌++◌, Option, None, ◌==◌, is_none, unwrap_or, if◌then◌else◌}
+use Rattle.std.specs.Prelude.{◌≡◌, ◌≢◌, ℕ, Bool, true, false, ◌&&◌, List, [], ◌∷◌, ◌++◌, Option, None, Some, ◌==◌, codes, is_none, unwrap_or, if◌then◌else◌}
 use Rattle.dns_text.specs.declared.word.Within.{Within}
 use Rattle.dns_text.specs.declared.word.Within.TheVariants.{Plain}
-use Rattle.dns_text.specs.Word.{is_blank, after_octet}
+use Rattle.dns_text.specs.Word.{is_blank, after_octet, next_word}
 
 -- A blank follows, or the text ends.
 abbrev pub is_at_end : List ℕ → Bool
@@ -30,3 +30,15 @@ pieces_from within (c ∷ text) =
 -- The pieces of a text between the words that are a bar alone.
 abbrev pub pieces : List ℕ → List (List ℕ)
 pieces text = pieces_from None text
+
+-- A word that is a bar alone ends a piece, with the blanks before it.
+abbrev pub BarsEndPieces : Type 0
+BarsEndPieces =
+    (text word after : List ℕ) → next_word text ≡ Some (word, after) → word ≡ codes "|"
+    → (first : List ℕ) × (text ≡ first ++ codes "|" ++ after) × (pieces text ≡ first ∷ pieces after)
+
+-- Any other word is part of its piece.
+abbrev pub WordsGoOnInPieces : Type 0
+WordsGoOnInPieces =
+    (text word after : List ℕ) → next_word text ≡ Some (word, after) → word ≢ codes "|"
+    → (first : List ℕ) × (text ≡ first ++ after) × (pieces text ≡ onto first (pieces after))

@@ -14,5 +14,6 @@ pub mod Line
 pub mod CommandWords
 pub mod Text
 pub mod Obeying
+pub mod Reading
 pub mod Script
 pub mod Control

@@ -60,6 +60,17 @@ GoesByHistory stands_for book moment after_book after_moment goes =
     (place : Place) → stands_for book place.history → place.moment ≡ moment → (next : Place)
     × goes place next × stands_for after_book next.history × (next.moment ≡ after_moment)
 
+-- From whatever history the book stands for before, an event leads to one that it stands for afterwards, and is answered so.
+abbrev pub AsksByHistory : {B : Type 0} → (B → List Event → Type 0) → (B → Settings) → B → Event → List ℕ → B → Type 0
+AsksByHistory stands_for settings book event text after_book =
+    (place : Place) → stands_for book place.history → (next : Place)
+    × Asks (settings book) place event text next × stands_for after_book next.history × (next.moment ≡ place.moment)
+
+-- From whatever history the book stands for before, what was read of a line takes effect.
+abbrev pub DoesByHistory : {B : Type 0} → (B → List Event → Type 0) → (B → Settings) → ℕ → B → Result Line LineFault → List ℕ → ℕ → B → Type 0
+DoesByHistory stands_for settings moment book said text after_moment after_book =
+    GoesByHistory stands_for book moment after_book after_moment (λ place next. Does (settings book) place said text next)
+
 -- The line takes effect, or it needs memory and there is none.
 abbrev pub DoesUnless : Settings → Place → Result Line LineFault → Bool → List ℕ → Place → Type 0
 DoesUnless settings place said takes text next = Does settings place said text next ⊎ (IsTrue takes × Drops place text next)
@@ -67,3 +78,8 @@ DoesUnless settings place said takes text next = Does settings place said text n
 -- One script line: it is obeyed, or it needs memory and there is none.
 abbrev pub Obeys : Settings → Place → List ℕ → List ℕ → Place → Type 0
 Obeys settings place line text next = DoesUnless settings place (says Script line) (takes_memory Script line) text next
+
+-- From whatever history the book stands for before, a line is obeyed.
+abbrev pub ObeysByHistory : {B : Type 0} → (B → List Event → Type 0) → (B → Settings) → ℕ → B → List ℕ → List ℕ → ℕ → B → Type 0
+ObeysByHistory stands_for settings moment book line text after_moment after_book =
+    GoesByHistory stands_for book moment after_book after_moment (λ place next. Obeys (settings book) place line text next)

@@ -3,10 +3,11 @@
 ghost use Rattle.std.specs.Prelude.{◌≡◌, ◌≤◌, ◌<◌, ◌+◌, IsErrOf};
 ghost use Rattle.streams.specs.declared.engine.TheConstants.{MOST_READS};
 ghost use Rattle.streams.specs.declared.source.TheConstants.{MOST_COUNTED};
-ghost use Rattle.streams.specs.declared.fault.ScriptFault.TheVariants.{Read as ReadFault, Write as WriteFault};
+ghost use Rattle.streams.specs.declared.fault.ScriptFault.TheVariants.{Write as WriteFault};
 ghost use Rattle.streams.specs.Transcript.{paired};
-ghost use Rattle.streams.specs.Engine.{RunsLines, FailsToRead};
+ghost use Rattle.streams.specs.Engine.{RunsLines};
 ghost use Rattle.command_text.specs.Control.{Controls};
+ghost use Rattle.command_text.specs.Reading.{ReadFails};
 
 use crate::control_line::obey_control;
 use clock::Clock;
@@ -38,8 +39,7 @@ pub fn serve_control<D: Desk, C: Clock, S: Source, W: Sink>(
     requires writes { W.failures writer.old < MOST_COUNTED }
     // It reads fewer times than it may, and fails only if a read or a write failed, or if it may not read once more.
     ensures few { S.calls reader.new < S.calls reader.old + MOST_READS }
-    ensures read_failed { IsErrOf result ReadFault
-        → FailsToRead (S.calls reader.old) (S.calls reader.new) (S.failures reader.old) (S.failures reader.new) }
+    ensures read_failed { ReadFails S.calls S.failures result reader.old reader.new }
     ensures write_failed { IsErrOf result WriteFault → W.failures writer.new ≡ W.failures writer.old + 1 }
     // What it read, which lines of that it obeyed, and what it wrote.
     ensures runs { RunsLines result (paired (Controls C.ticks D.calls)) (clock.old, desk.old) (clock.new, desk.new)

@@ -1,10 +1,10 @@
 //! Laws of the definitions alone.
 
-ghost use Rattle.std.specs.Prelude.{◌≡◌, ◌≢◌, ℕ, List, [], ◌∷◌, ◌++◌, Some, None, map, codes};
+ghost use Rattle.std.specs.Prelude.{◌≡◌, ℕ, List, [], ◌∷◌, None, codes};
 ghost use Rattle.std.specs.List.{AllByRecursion};
 ghost use Rattle.dns_text.specs.Word.{next_word, AreWords};
 ghost use Rattle.command_text.specs.Addrs.{words_of};
-ghost use Rattle.command_text.specs.Bar.{onto, pieces};
+ghost use Rattle.command_text.specs.Bar.{BarsEndPieces, WordsGoOnInPieces, pieces};
 ghost use Rattle.command_text.specs.CommandWords.{ReadsCommands};
 ghost use Rattle.command_text.specs.Line.{IsUnknown};
 ghost use Rattle.command_text.specs.declared.words.Channel.TheVariants.{Script, Control};
@@ -15,10 +15,8 @@ use dns_text::written_law;
 /// Any other word is part of its piece.
 pub fn bars_are()
     ensures none { (text : List ℕ) → next_word text ≡ None → pieces text ≡ text ∷ [] }
-    ensures bar { (text word after : List ℕ) → next_word text ≡ Some (word, after) → word ≡ codes "|"
-        → (first : List ℕ) × (text ≡ first ++ codes "|" ++ after) × (pieces text ≡ first ∷ pieces after) }
-    ensures word { (text word after : List ℕ) → next_word text ≡ Some (word, after) → word ≢ codes "|"
-        → (first : List ℕ) × (text ≡ first ++ after) × (pieces text ≡ onto first (pieces after)) }
+    ensures bar { BarsEndPieces }
+    ensures word { WordsGoOnInPieces }
 {}
 
 /// The words that addresses are read from are those of the text and no others.

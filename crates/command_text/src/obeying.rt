@@ -1,13 +1,12 @@
 //! The effect of one script line.
 
-ghost use Rattle.std.specs.Prelude.{◌≡◌, List, Ok, IfOk, codes};
+ghost use Rattle.std.specs.Prelude.{◌≡◌, Ok, IfOk, codes};
 ghost use Rattle.streams.specs.Split.{with_end};
 ghost use Rattle.streams.specs.Text.{octets_in};
-ghost use Rattle.history.specs.declared.event.Event.{Event};
 ghost use Rattle.command_text.specs.declared.line.Line.TheVariants.{At, Admit, Deny, Request as RequestLine};
 ghost use Rattle.command_text.specs.Admission.{IsFindOf};
 ghost use Rattle.command_text.specs.Denial.{IsDenialOf};
-ghost use Rattle.command_text.specs.Obeying.{Place, Asks, Does, GoesByHistory, Obeys};
+ghost use Rattle.command_text.specs.Obeying.{AsksByHistory, DoesByHistory, ObeysByHistory};
 
 use crate::admission_find::Admission;
 use crate::denial_find::Denial;
@@ -23,9 +22,7 @@ use streams::Text;
 
 /// Gives the book an event, and returns its answer as text.
 fn ask<B: Book>(alloc: Global, book: &mut B, event: Event) -> Text
-    ensures asks { (place : Place) → B.stands_for book.old place.history → (next : Place)
-        × Asks (B.settings book.old) place event (octets_in result) next
-        × B.stands_for book.new next.history × (next.moment ≡ place.moment) }
+    ensures asks { AsksByHistory B.stands_for B.settings book.old event (octets_in result) book.new }
     ensures settings { B.settings book.new ≡ B.settings book.old }
 {
     let answer = book.call(event);
@@ -48,8 +45,7 @@ fn share_find(alloc: Global, admission: Admission) -> Result<SharedFind, AllocEr
 }
 
 fn obey_admit<B: Book>(alloc: Global, book: &mut B, moment: u64, admission: Admission) -> Text
-    ensures does { GoesByHistory B.stands_for book.old moment book.new moment
-        (λ place next. Does (B.settings book.old) place (Ok (Admit admission)) (octets_in result) next) }
+    ensures does { DoesByHistory B.stands_for B.settings moment book.old (Ok (Admit admission)) (octets_in result) moment book.new }
     ensures settings { B.settings book.new ≡ B.settings book.old }
 {
     match share_find(alloc, admission) {
@@ -65,8 +61,7 @@ fn share_denial(alloc: Global, denial: Denial) -> Result<SharedFind, AllocError>
 }
 
 fn obey_deny<B: Book>(alloc: Global, book: &mut B, moment: u64, denial: Denial) -> Text
-    ensures does { GoesByHistory B.stands_for book.old moment book.new moment
-        (λ place next. Does (B.settings book.old) place (Ok (Deny denial)) (octets_in result) next) }
+    ensures does { DoesByHistory B.stands_for B.settings moment book.old (Ok (Deny denial)) (octets_in result) moment book.new }
     ensures settings { B.settings book.new ≡ B.settings book.old }
 {
     match share_denial(alloc, denial) {
@@ -76,8 +71,7 @@ fn obey_deny<B: Book>(alloc: Global, book: &mut B, moment: u64, denial: Denial) 
 }
 
 fn obey_request<B: Book>(alloc: Global, book: &mut B, moment: u64, request: Request) -> Text
-    ensures does { GoesByHistory B.stands_for book.old moment book.new moment
-        (λ place next. Does (B.settings book.old) place (Ok (RequestLine request)) (octets_in result) next) }
+    ensures does { DoesByHistory B.stands_for B.settings moment book.old (Ok (RequestLine request)) (octets_in result) moment book.new }
     ensures settings { B.settings book.new ≡ B.settings book.old }
 {
     ask(alloc, book, event_at(moment, request))
@@ -85,8 +79,7 @@ fn obey_request<B: Book>(alloc: Global, book: &mut B, moment: u64, request: Requ
 
 /// Obeys a line that was read.
 fn obey_line<B: Book>(alloc: Global, book: &mut B, moment: &mut u64, line: Line) -> Text
-    ensures does { GoesByHistory B.stands_for book.old moment.old book.new moment.new
-        (λ place next. Does (B.settings book.old) place (Ok line) (octets_in result) next) }
+    ensures does { DoesByHistory B.stands_for B.settings moment.old book.old (Ok line) (octets_in result) moment.new book.new }
     ensures settings { B.settings book.new ≡ B.settings book.old }
 {
     match line {
@@ -104,8 +97,7 @@ fn obey_line<B: Book>(alloc: Global, book: &mut B, moment: &mut u64, line: Line)
 
 /// Obeys a script line and returns the reply. The moment is that of the events of the lines to come.
 pub(crate) fn obey<B: Book>(alloc: Global, book: &mut B, moment: &mut u64, line: &[u8]) -> Text
-    ensures obeys { GoesByHistory B.stands_for book.old moment.old book.new moment.new
-        (λ place next. Obeys (B.settings book.old) place line.now (octets_in result) next) }
+    ensures obeys { ObeysByHistory B.stands_for B.settings moment.old book.old line.now (octets_in result) moment.new book.new }
     ensures settings { B.settings book.new ≡ B.settings book.old }
 {
     if is_silent(line) {

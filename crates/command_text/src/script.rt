@@ -3,10 +3,11 @@
 ghost use Rattle.std.specs.Prelude.{◌≡◌, List, ◌≤◌, ◌<◌, ◌+◌, IsErrOf};
 ghost use Rattle.streams.specs.declared.engine.TheConstants.{MOST_READS};
 ghost use Rattle.streams.specs.declared.source.TheConstants.{MOST_COUNTED};
-ghost use Rattle.streams.specs.declared.fault.ScriptFault.TheVariants.{Read as ReadFault, Write as WriteFault};
-ghost use Rattle.streams.specs.Engine.{RunsLines, FailsToRead};
+ghost use Rattle.streams.specs.declared.fault.ScriptFault.TheVariants.{Write as WriteFault};
+ghost use Rattle.streams.specs.Engine.{RunsLines};
 ghost use Rattle.history.specs.declared.event.Event.{Event};
 ghost use Rattle.command_text.specs.Obeying.{Place};
+ghost use Rattle.command_text.specs.Reading.{ReadFails};
 ghost use Rattle.command_text.specs.Script.{obeying, start_at, to_the_end};
 
 use crate::obeying::obey;
@@ -41,8 +42,7 @@ pub fn run_script<B: Book, S: Source, W: Sink>(
     requires writes { W.failures writer.old < MOST_COUNTED }
     // It reads fewer times than it may, and fails only if a read or a write failed, or if it may not read once more.
     ensures few { S.calls reader.new < S.calls reader.old + MOST_READS }
-    ensures read_failed { IsErrOf result ReadFault
-        → FailsToRead (S.calls reader.old) (S.calls reader.new) (S.failures reader.old) (S.failures reader.new) }
+    ensures read_failed { ReadFails S.calls S.failures result reader.old reader.new }
     ensures write_failed { IsErrOf result WriteFault → W.failures writer.new ≡ W.failures writer.old + 1 }
     // What it read, which lines of that it obeyed at the book's history, and what it wrote.
     ensures runs { (h : List Event) → B.stands_for book.old h → (next : Place)
