@@ -1,17 +1,18 @@
 -- What a worker notes of the servers that it asked.
-use Rattle.std.specs.Prelude.{ℕ, Option}
+use Rattle.std.specs.Prelude.{◌≡◌, ℕ, Option}
 use Rattle.dns_name.specs.Labels.{Labels}
 use Rattle.flight.specs.declared.sockets.Listened.{Listened}
 use Rattle.flight.specs.Flight.{Sent}
 use Rattle.outside.specs.declared.flaw.Flaw.{Flaw}
 use Rattle.outside.specs.declared.pauses.Pauses.{Pauses}
-use Rattle.outside.specs.declared.refusals.Refusals.{Refusals}
 use Rattle.outside.specs.Pauses.{Loses, NotesHeard}
 use Rattle.outside.specs.Refusals.{NotesAnswer}
+use Rattle.front_workers.specs.declared.worker_sockets.WorkerSockets.{WorkerSockets}
 
--- This was heard of a query about this zone: a refusal of the zone is remembered.
-abbrev pub NotesAnswerTo : Listened → Sent → Option Labels → ℕ → Refusals → Refusals → Type 0
-NotesAnswerTo heard asked zone now old new = NotesAnswer heard asked.server asked.over zone now old new
+-- This was heard of a query about this zone: these sockets remember a refusal of the zone, and ask for no permit.
+abbrev pub NotesAnswerTo : {L R B : Type 0} → Listened → Sent → Option Labels → WorkerSockets L R B → WorkerSockets L R B → Type 0
+NotesAnswerTo heard asked zone old new =
+    NotesAnswer heard asked.server asked.over zone old.moment old.refusals new.refusals × (new.permits.asked ≡ old.permits.asked)
 
 -- This was heard of a query, with this flaw, if any: what it shows of the server is remembered.
 abbrev pub NotesHeardOf : Listened → Option Flaw → Sent → ℕ → Pauses → Pauses → Type 0

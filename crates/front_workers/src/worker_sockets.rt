@@ -16,7 +16,6 @@ ghost use Rattle.flight.specs.Told.{octets_of, IsHeard, Keeps};
 ghost use Rattle.outside.specs.Exchanges.{IsNotToBeHad, TellsOf};
 ghost use Rattle.front_workers.specs.Endings.{IsTooLong, Refuses};
 ghost use Rattle.front_workers.specs.Permits.{AsksOnce};
-ghost use Rattle.front_workers.specs.Noting.{LosesReplyTo, NotesAnswerTo, NotesHeardOf};
 ghost use Rattle.front.specs.Batch.{batch_of};
 ghost use Rattle.front.specs.Rooms.{fronts_of};
 ghost use Rattle.front.specs.Connections.{Tends};
@@ -357,7 +356,8 @@ impl<'a, L: Log, R: ReadyNet, B: Drop> WorkerSockets<'a, L, R, B> {
     fn tell_heard(&mut self, heard: &Listened, line: &SocketLine<R>)
         ensures counts { self.new.counts ≡ self.old.counts }
         ensures keeps { Keeps (λ sockets. sockets.server_port) sockets_of self.old self.new }
-        ensures unnoted { (self.new.pauses ≡ self.old.pauses) × (self.new.refusals ≡ self.old.refusals) }
+        ensures unnoted { (self.new.pauses ≡ self.old.pauses) × (self.new.refusals ≡ self.old.refusals)
+            × (self.new.permits.asked ≡ self.old.permits.asked) }
         ensures moment { self.new.moment ≡ self.old.moment }
     {
         match heard {
@@ -380,6 +380,7 @@ impl<'a, D: Numbered, C: Clock, L: Log + Wait, R: ReadyNet, K: Client, B: ReplyS
     K,
 > for WorkerSockets<'a, L, R, B> {
     ghost use Rattle.front_workers.specs.Asking.{PostsBy, SocketsState};
+    ghost use Rattle.front_workers.specs.Noting.{LosesReplyTo, NotesAnswerTo, NotesHeardOf};
     ghost use Rattle.front_workers.specs.Sockets.{sockets_of};
 
     ghost server_port = { λ sockets. sockets.server_port };
@@ -485,7 +486,8 @@ impl<'a, D: Numbered, C: Clock, L: Log + Wait, R: ReadyNet, K: Client, B: ReplyS
     }
 
     fn hear(&mut self, line: &mut SocketLine<R>) -> Listened
-        // As for any `Sockets`. Also, what is told of the exchange is so, and a server that answered is not passed over any more.
+        // As for any `Sockets`. Also, what is told of the exchange is so, and a server that answered is not passed over any more. No
+        // permit is asked for.
         ensures heard { IsHeard (MayCome R.Datagrams.opened R.Datagrams.sent R.Datagrams.came
             R.Connection.connected R.Connection.contents R.Connection.remaining line.old.asked) result }
         ensures asked { line.new.asked ≡ line.old.asked }
@@ -496,7 +498,7 @@ impl<'a, D: Numbered, C: Clock, L: Log + Wait, R: ReadyNet, K: Client, B: ReplyS
             (MayCome R.Datagrams.opened R.Datagrams.sent R.Datagrams.came
             R.Connection.connected R.Connection.contents R.Connection.remaining line.old.asked)
             R.Datagrams.sent R.Datagrams.came R.Datagrams.drained R.Datagrams.reported_again R.Datagrams.failed result line.old }
-        ensures refusals { NotesAnswerTo result line.old.asked line.old.zone self.old.moment self.old.refusals self.new.refusals }
+        ensures refusals { NotesAnswerTo result line.old.asked line.old.zone self.old self.new }
         ensures pauses { NotesHeardOf result line.new.flaw line.old.asked self.old.moment self.old.pauses self.new.pauses }
     {
         let heard = line.hear(self.alloc, self.poll.registry(), &mut self.room);
@@ -523,11 +525,12 @@ impl<'a, D: Numbered, C: Clock, L: Log + Wait, R: ReadyNet, K: Client, B: ReplyS
     }
 
     fn expire(&mut self, line: SocketLine<R>)
-        // As for any `Sockets`. Also, the server let a query go unanswered, unless none was sent.
+        // As for any `Sockets`. Also, the server let a query go unanswered, unless none was sent. No permit is asked for.
         ensures expired { CountsExpired self.old.counts self.new.counts }
         ensures keeps { Keeps (λ sockets. sockets.server_port) sockets_of self.old self.new }
         ensures unsent { line.waits ≡ true → self.new.pauses ≡ self.old.pauses }
         ensures pauses { line.waits ≡ false → LosesReplyTo line.asked self.old.moment self.old.pauses self.new.pauses }
+        ensures unasked { self.new.permits.asked ≡ self.old.permits.asked }
     {
         self.permits.end(line.key());
         self.counts.expire();
@@ -546,10 +549,11 @@ impl<'a, D: Numbered, C: Clock, L: Log + Wait, R: ReadyNet, K: Client, B: ReplyS
     }
 
     fn abandon(&mut self, line: SocketLine<R>)
-        // As for any `Sockets`. Also, nothing is noted of the server.
+        // As for any `Sockets`. Also, nothing is noted of the server, and no permit is asked for.
         ensures abandoned { CountsAbandoned self.old.counts self.new.counts }
         ensures keeps { Keeps (λ sockets. sockets.server_port) sockets_of self.old self.new }
-        ensures unnoted { (self.new.pauses ≡ self.old.pauses) × (self.new.refusals ≡ self.old.refusals) }
+        ensures unnoted { (self.new.pauses ≡ self.old.pauses) × (self.new.refusals ≡ self.old.refusals)
+            × (self.new.permits.asked ≡ self.old.permits.asked) }
     {
         self.permits.end(line.key());
         self.counts.abandon();
