@@ -235,7 +235,7 @@ settles_kinds : {S : Type 0} (owners after : IndexMap Labels OwnerCells S) (numb
 settles_kinds owners after number name [] step all = tt
 settles_kinds owners after number name (k ∷ kinds) step all = (step k all.0, settles_kinds owners after number name kinds step all.1)
 
-pub settles_flush : {S : Type 0} (owners after : IndexMap Labels OwnerCells S) (number : ℕ) (flush : Flush) → ((k : ℕ) → CanSettleAt number k flush.name owners → CanSettleAt number k flush.name after)
+settles_flush : {S : Type 0} (owners after : IndexMap Labels OwnerCells S) (number : ℕ) (flush : Flush) → ((k : ℕ) → CanSettleAt number k flush.name owners → CanSettleAt number k flush.name after)
     → CanSettleFlush owners number flush → CanSettleFlush after number flush
 settles_flush owners after number flush step told = settles_kinds owners after number flush.name (types_of flush.reach) step told
 

@@ -28,12 +28,11 @@ oldest_same number (own ∷ later) chosen e c same =
     same own later chosen refl (ap chosen (number_of own.number number (left_true (own.number == number) own.shown e)) ∙ (c ∙ e))
 
 -- If the oldest has its number and is in force, it is permanent.
-pub oldest_settled : (P : ℕ → Type 0) (number : ℕ) (olds : List KeptFlush) (was now : List Settling) → stands_first number olds ≡ true
-    → ((own : KeptFlush) (later : List KeptFlush) → olds ≡ own ∷ later → (names : ℕ) × (P names × (now ≡ joined_by own.flush.reach own.flush.name own.number names was))) → (names : ℕ) × (P names × (now ≡ settled_once number names olds was))
-oldest_settled P number [] was now e step = absurd cc
-oldest_settled P number (own ∷ later) was now e step =
-    let here = step own later refl in
-    (here.0, (here.1.0, here.1.1 ∙ ap (λ (b : Bool). if b then joined_by own.flush.reach own.flush.name own.number here.0 was else cleared_once number here.0 (own ∷ later) was) (sym e)))
+pub oldest_settled : (number names : ℕ) (olds : List KeptFlush) (was now : List Settling) → stands_first number olds ≡ true
+    → ((own : KeptFlush) (later : List KeptFlush) → olds ≡ own ∷ later → now ≡ joined_by own.flush.reach own.flush.name own.number names was) → now ≡ settled_once number names olds was
+oldest_settled number names [] was now e step = absurd cc
+oldest_settled number names (own ∷ later) was now e step =
+    step own later refl ∙ ap (λ (b : Bool). if b then joined_by own.flush.reach own.flush.name own.number names was else cleared_once number names (own ∷ later) was) (sym e)
 
 -- Else no flush joins the permanent ones.
 pub cleared_settled : (number names : ℕ) (olds : List KeptFlush) (was : List Settling) → stands_first number olds ≡ false → cleared_once number names olds was ≡ settled_once number names olds was

@@ -1,6 +1,6 @@
--- What the permanent flushes of the list have left to reach, and room for one more.
+-- What the permanent flushes of the list have left to reach.
 use Rattle.std.proofs.Common.{◌≡◌, ℕ, suc, ◌+◌, ◌-◌, ◌<◌, ◌≤◌, min, Bool, true, false, cond, List, [], ◌∷◌, ◌++◌, length, get_or, refl, sym, ap, ◌∙◌, subst, arith, inl, inr}
-use Rattle.std.specs.Prelude.{◌==◌, nat_lt}
+use Rattle.std.specs.Prelude.{◌==◌}
 use Rattle.std.specs.List.{remove}
 use Rattle.std.proofs.lemmas.Bool.{eq-eqb, eqb-true}
 use Rattle.std.proofs.lemmas.Bool.Decides.{nat_tests}
@@ -9,7 +9,7 @@ use Rattle.dns_name.specs.Labels.{Labels}
 use Rattle.ranked.specs.declared.flush.Reach.{Reach}
 use Rattle.ranked.specs.declared.flush.Reach.TheVariants.{OneType, Name, Zone}
 use Rattle.shelf.specs.declared.settling.Settling.{Settling}
-use Rattle.shelf.specs.Settling.{doubted, doubting, first_at, joining, most_left, most_settling, steps_left, with_left, with_room, without_outdone, HaveStepped}
+use Rattle.shelf.specs.Settling.{first_at, joining, most_left, steps_left, with_left, HaveStepped}
 use Rattle.shelf.specs.Sweep.{count_ended, EndNear}
 use Rattle.shelf.proofs.ListLaws.{lt_or}
 
@@ -45,32 +45,6 @@ stepped_left from left old new (x ∷ later) now own some read at here less step
       | inl more ↦ omega (arith, more, less, few, same)
       | inr low ↦ omega (arith, step low)
     ]
-
--- ---- room for one more
-
-pub is_full : (settlings : List Settling) → most_settling ≤ length settlings → with_room settlings ≡ first_at 0 settlings
-is_full settlings full =
-    let off : nat_lt (length settlings) most_settling ≡ false = grind (arith, nat_tests) in
-    ap (λ b. cond b settlings (first_at 0 settlings)) off
-
-pub has_room : (settlings : List Settling) → length settlings < most_settling → with_room settlings ≡ settlings
-has_room settlings few =
-    let on : nat_lt (length settlings) most_settling ≡ true = grind (arith, nat_tests) in
-    ap (λ b. cond b settlings (first_at 0 settlings)) on
-
-pub doubted_full : (names : ℕ) (settlings : List Settling) → most_settling ≤ length settlings → settlings ≡ doubted names settlings
-doubted_full names settlings full =
-    let off : nat_lt (length settlings) most_settling ≡ false = grind (arith, nat_tests) in
-    ap (λ b. cond b (without_outdone [] 0 settlings ++ doubting names ∷ []) settlings) (sym off)
-
-pub doubted_room : (names : ℕ) (settlings : List Settling) → length settlings < most_settling → without_outdone [] 0 settlings ++ doubting names ∷ [] ≡ doubted names settlings
-doubted_room names settlings few =
-    let on : nat_lt (length settlings) most_settling ≡ true = grind (arith, nat_tests) in
-    ap (λ b. cond b (without_outdone [] 0 settlings ++ doubting names ∷ []) settlings) (sym on)
-
-pub room_made : (settlings now : List Settling) → now ≡ first_at 0 settlings → most_settling ≤ length settlings → length settlings ≤ most_settling → length now < most_settling
-room_made [] now at full few = absurd (omega (arith, full))
-room_made (own ∷ later) now at full few = omega (arith, ap length at, few)
 
 -- ---- steps
 

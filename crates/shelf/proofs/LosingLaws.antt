@@ -32,7 +32,7 @@ pub lose_no_cells : {S : Type 0} (owners : IndexMap Labels OwnerCells S) (stored
 lose_no_cells owners stored ends counted size = record { places = lose_none owners stored counted; ends = λ kept is. is; size = size }
 
 -- What two calls lose.
-pub lose_twice : {S : Type 0} (first middle last : IndexMap Labels OwnerCells S) (a b c : ℕ) → LosePlaces first a middle b → LosePlaces middle b last c → LosePlaces first a last c
+lose_twice : {S : Type 0} (first middle last : IndexMap Labels OwnerCells S) (a b c : ℕ) → LosePlaces first a middle b → LosePlaces middle b last c → LosePlaces first a last c
 lose_twice first middle last a b c before after = record {
   gains = gain_twice first middle last before.gains after.gains;
   counted = after.counted;
@@ -84,7 +84,6 @@ swept_loses t old new kept rest is none whole swept room = subst (λ (x : Shelf)
     space = whole.space;
     named = swept.named whole.named;
     useful = whole.useful;
-    short = whole.short;
     doubt = omega (arith, swept.sure);
   };
   flushes = (refl, refl, refl);

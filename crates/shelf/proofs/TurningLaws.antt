@@ -41,6 +41,5 @@ module _ (number : ℕ) (shown : Bool) (old new : Shelf) (rest : new ≡ record 
     space = omega (arith, ap (λ (l : List KeptFlush). length l) set, length_shown number shown old.kept.items, is.space);
     named = is.named;
     useful = is.useful;
-    short = is.short;
     doubt = is.doubt;
   })

@@ -1,5 +1,5 @@
 -- Permanent flushes of zones that have not reached the cells of each name yet.
-use Rattle.std.specs.Prelude.{◌≡◌, ◌<◌, ◌≤◌, ◌+◌, ◌++◌, ◌&&◌, ◌==◌, ◌∷◌, [], ℕ, Bool, false, length, nat_le, nat_lt, not, max, min, fold, vec_capacity, List, Option, Vec, if◌then◌else◌}
+use Rattle.std.specs.Prelude.{◌≡◌, ◌≤◌, ◌+◌, ◌++◌, ◌&&◌, ◌==◌, ◌∷◌, [], ℕ, Bool, false, length, nat_le, not, max, min, fold, vec_capacity, List, Option, Vec, if◌then◌else◌}
 use Rattle.std.specs.List.{AllByRecursion, filter, list_any}
 use Rattle.indexmap.specs.IndexMap.{IndexMap}
 use Rattle.dns_name.specs.Labels.{Labels}
@@ -117,14 +117,6 @@ abbrev pub first_at : ℕ → List Settling → List Settling
 first_at left [] = []
 first_at left (own ∷ later) = if left == 0 then later else with_left left own ∷ later
 
--- the most flushes that have names left to reach
-abbrev pub most_settling : ℕ
-most_settling = 256
-
--- the flushes, without the first if there are as many as there may be
-abbrev pub with_room : List Settling → List Settling
-with_room settlings = if nat_lt (length settlings) most_settling then settlings else first_at 0 settlings
-
 -- A flush that has gone leaves moments in doubt. An entry of number 0 changes no version: its steps only end the names in doubt.
 abbrev pub doubting : ℕ → Settling
 doubting names = record { zone = []; number = 0; left = names }
@@ -137,20 +129,15 @@ joining Zone zone number names = record { zone = zone; number = number; left = n
 
 -- the flushes once another one is permanent: it joins them, without those that it outdoes
 abbrev pub joined_by : Reach → Labels → ℕ → ℕ → List Settling → List Settling
-joined_by reach zone number names settlings = joined_to (joining reach zone number names) (with_room settlings)
+joined_by reach zone number names settlings = joined_to (joining reach zone number names) settlings
 
--- What joins the permanent flushes has each name left that is there, unless another flush had to reach its names first to make room.
-abbrev pub HasEachLeft : {S : Type 0} → List Settling → IndexMap Labels OwnerCells S → ℕ → Type 0
-HasEachLeft settlings owners names = length settlings < most_settling → names ≡ length owners.entries
-
--- A flush has joined the permanent ones.
+-- A flush has joined the permanent ones, and has each name left that is there.
 abbrev pub HasJoined : {S : Type 0} → Flush → ℕ → IndexMap Labels OwnerCells S → List Settling → List Settling → Type 0
-HasJoined flush number owners was now =
-    (names : ℕ) × (HasEachLeft was owners names × (now ≡ joined_by flush.reach flush.name number names was))
+HasJoined flush number owners was now = now ≡ joined_by flush.reach flush.name number (length owners.entries) was
 
 -- the flushes once an undone one has gone
 abbrev pub doubted : ℕ → List Settling → List Settling
-doubted names settlings = if nat_lt (length settlings) most_settling then without_outdone [] 0 settlings ++ doubting names ∷ [] else settlings
+doubted names settlings = without_outdone [] 0 settlings ++ doubting names ∷ []
 
 -- the same, if the flush of a number was kept
 abbrev pub cleared_once : ℕ → ℕ → List KeptFlush → List Settling → List Settling
@@ -162,9 +149,9 @@ settled_once number names [] settlings = settlings
 settled_once number names (own ∷ later) settlings =
     if own.number == number && own.shown then joined_by own.flush.reach own.flush.name own.number names settlings else cleared_once number names (own ∷ later) settlings
 
--- the same in a cache, if the flush has so many names left
-abbrev pub settled_by : ℕ → ℕ → Shelf → List Settling
-settled_by number names shelf = settled_once number names shelf.kept.items shelf.settlings.items
+-- the same in a cache
+abbrev pub settled_by : ℕ → Shelf → List Settling
+settled_by number shelf = settled_once number (length shelf.owners.entries) shelf.kept.items shelf.settlings.items
 
 -- the permanent flushes of a cache, once the kept flush of a number was dropped
 abbrev pub cleared_by : ℕ → Shelf → List Settling
@@ -185,11 +172,10 @@ pub record HasShrunk {A : Type 0} (old new : Vec Settling A) : Type 0 where
 abbrev pub IsOneLonger : {A : Type 0} → Vec Settling A → Vec Settling A → Type 0
 IsOneLonger old new = (length new.items ≤ length old.items + 1) × (vec_capacity new ≡ vec_capacity old)
 
--- It has at most one more, none is outdone if none was, and they are at most 256 if they were.
+-- It has at most one more, and none is outdone if none was.
 pub record HasGrown {A : Type 0} (old new : Vec Settling A) : Type 0 where
   pub more : IsOneLonger old new
   pub useful : AreUseful old.items → AreUseful new.items
-  pub short : length old.items ≤ most_settling → length new.items ≤ most_settling
 
 -- the same version
 abbrev pub unmoved : Question → ℕ → ℕ

@@ -21,7 +21,7 @@ use Rattle.shelf.specs.declared.shelf.Shelf.{Shelf}
 pub use Rattle.shelf.specs.Kept.{is_kept, is_version}
 use Rattle.shelf.specs.Kept.{stands_first, turned_over, with_shown}
 use Rattle.shelf.specs.Clean.{AreEnds}
-use Rattle.shelf.specs.Settling.{most_left, most_settling, reached_at_once, settled_by, settled_cell, AreUseful, HasEachLeft, HasJoined, HaveStepped, IsSettling}
+use Rattle.shelf.specs.Settling.{most_left, reached_at_once, settled_by, settled_cell, AreUseful, HasJoined, HaveStepped, IsSettling}
 use Rattle.ranked.specs.Flush.{covers, flushed_types}
 
 -- an admission of a find at a moment, or a flush with its number
@@ -77,7 +77,7 @@ types_of Zone = []
 abbrev pub CanSettleFlush : {S : Type 0} → IndexMap Labels OwnerCells S → ℕ → Flush → Type 0
 CanSettleFlush owners number flush = AllByRecursion (λ kind. CanSettleAt number kind flush.name owners) (types_of flush.reach)
 
--- No admission has reached a version past the greatest number, and each cell has only a find about its question. Each kept flush can become permanent with no memory. The places that count are counted, and are at most the limit. No name needs a sweep before its end. Each permanent flush has reached each name from its place on, and none is outdone by a later one. They are at most 256. One of them has each name left that a flush left in doubt. There is room for each kept flush to become permanent. Each name of the index has a place that counts, and each of its columns counts unless a find of the whole name is cached.
+-- No admission has reached a version past the greatest number, and each cell has only a find about its question. Each kept flush can become permanent with no memory. The places that count are counted, and are at most the limit. No name needs a sweep before its end. Each permanent flush has reached each name from its place on, and none is outdone by a later one. One of them has each name left that a flush left in doubt. There is room for each kept flush to become permanent. Each name of the index has a place that counts, and each of its columns counts unless a find of the whole name is cached.
 pub record IsShelf (shelf : Shelf) : Type 0 where
   pub upto : AreUpTo shelf.top shelf.owners
   pub about : AreAbout shelf.owners
@@ -93,7 +93,6 @@ pub record IsShelf (shelf : Shelf) : Type 0 where
   pub space : length shelf.settlings.items + length shelf.kept.items ≤ vec_capacity shelf.settlings
   pub named : EachCounts shelf.owners.entries
   pub useful : AreUseful shelf.settlings.items
-  pub short : length shelf.settlings.items ≤ most_settling
   pub doubt : shelf.ends.left ≤ most_left shelf.settlings.items
 
 -- the version so far, or that of a flush if it is chosen and covers the question
@@ -168,8 +167,7 @@ pub record LetsGo (number : ℕ) (old new : Shelf) : Type 0 where
 
 -- The kept flush of a number has gone, and the first permanent flush has taken some steps since.
 abbrev pub HasSteppedSince : ℕ → Shelf → Shelf → Type 0
-HasSteppedSince number old new =
-    (names : ℕ) × (HasEachLeft old.settlings.items old.owners names × HaveStepped reached_at_once (settled_by number names old) new.settlings.items)
+HasSteppedSince number old new = HaveStepped reached_at_once (settled_by number old) new.settlings.items
 
 -- The oldest kept flush is permanent: with it in force, each cell shows what it did, whatever choice of the others is.
 abbrev pub ShowsOldest : Shelf → Shelf → Type 0

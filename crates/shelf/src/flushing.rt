@@ -9,7 +9,7 @@ ghost use Rattle.shelf.specs.Settling.{joined_to, joining, moved_by_flush, AreMo
 ghost use Rattle.shelf.specs.Told.{without, CanSettleFlush};
 
 use crate::ends::{Ends, doubt_all};
-use crate::settling::{Settling, make_room, settle_name, settle_zone};
+use crate::settling::{Settling, settle_name, settle_zone};
 use crate::shelf::KeptFlush;
 use cell_store::{Owners, open_kinds};
 use dns_name::{Name, NoMemory};
@@ -112,7 +112,6 @@ pub(crate) fn settle_flush(
     ensures space { HasGrown settlings.old settlings.new }
     ensures items { HasJoined flush number owners.old settlings.old.items settlings.new.items }
 {
-    make_room(owners, ends, stored, settlings);
     doubt_all(owners, ends);
     settle_reach(alloc, owners, ends, stored, settlings, flush, number);
 }

@@ -7,8 +7,8 @@ ghost use Rattle.cell_store.specs.Owner.{after_settle};
 ghost use Rattle.cell_store.specs.Store.{AreUpTo, CanSettleAt, HaveTop};
 ghost use Rattle.shelf.specs.Clean.{HaveEnds};
 ghost use Rattle.shelf.specs.Losing.{AreDoubted, HaveGoneDown, IsTallied, IsTidiedAt, LoseCells, TakesSteps};
-ghost use Rattle.shelf.specs.Settling.{doubted, first_at, is_outdone, joined_to, most_settling, moved_by_name, moved_by_zone, settled_version, unmoved};
-ghost use Rattle.shelf.specs.Settling.{with_left, with_room, without_outdone, AreMovedBy, AreMovedFrom, HasGrown, HasShrunk, IsOneLonger, IsReaching};
+ghost use Rattle.shelf.specs.Settling.{doubted, first_at, is_outdone, joined_to, moved_by_name, moved_by_zone, settled_version, unmoved};
+ghost use Rattle.shelf.specs.Settling.{with_left, without_outdone, AreMovedBy, AreMovedFrom, HasGrown, HasShrunk, IsOneLonger, IsReaching};
 
 use crate::ends::{Ends, doubt_all, drop_at, end_mixed, put, settle_doubt};
 use crate::shelf::Shelf;
@@ -18,9 +18,6 @@ use std::alloc::Global;
 
 /// The names that a permanent flush reaches at one call, so that no call is long.
 pub(crate) const REACHED_AT_ONCE: usize = 256;
-
-/// The most entries of the list of permanent flushes: each lookup reads it.
-pub(crate) const MOST_SETTLING: usize = 256;
 
 /// A permanent flush of every type at or below a name. One of number 0 changes no version: after a flush has gone, it ends the names whose
 /// moments that left in doubt, a few at a time.
@@ -192,32 +189,6 @@ pub(crate) fn reach_some(
     step_first(settlings, left);
 }
 
-// If there are as many permanent flushes as there may be, lets the oldest reach each name that it has left, so that it leaves the list. It
-// takes no memory.
-pub(crate) fn make_room(
-    owners: &mut Owners,
-    ends: &mut Ends,
-    stored: &mut u64,
-    settlings: &mut Vec<Settling>,
-)
-    requires tallied { IsTallied owners.old stored.old ends.old }
-    ensures moved { AreMovedBy unmoved settlings.old.items settlings.new.items owners.old owners.new }
-    ensures lost { LoseCells owners.old stored.old ends.old owners.new stored.new ends.new }
-    ensures items { (settlings.new.items ≡ with_room settlings.old.items)
-        × (length settlings.old.items < most_settling → owners.new ≡ owners.old) }
-    ensures room { HasShrunk settlings.old settlings.new }
-    ensures less { length settlings.old.items ≤ most_settling → length settlings.new.items < most_settling }
-{
-    if settlings.len() < MOST_SETTLING {
-        return;
-    }
-    let own = &settlings[0];
-    let left = reach(
-        owners, ends, stored, &own.zone, own.number, own.left, own.left,
-    );
-    step_first(settlings, left);
-}
-
 // Whether a flush of every type at or below a name covers all that another flush covers, and is not older.
 fn is_outdone(zone: &Name, number: u64, own: &Settling) -> bool
     ensures { result ≡ is_outdone zone.now number own.now }
@@ -251,8 +222,8 @@ pub(crate) fn settle_zone(owners: &Owners, settlings: &mut Vec<Settling>, zone: 
     });
 }
 
-// A flush that was undone has gone: the names whose moments may be wrong are ended a few at a time. If there are as many permanent flushes
-// as there may be, they are ended at once. It takes no memory.
+// A flush that was undone has gone: the names whose moments may be wrong are ended a few at a time. If the list has no room, they are ended
+// at once. It takes no memory.
 pub(crate) fn doubt_later(
     alloc: Global,
     owners: &Owners,
@@ -267,7 +238,7 @@ pub(crate) fn doubt_later(
     ensures items { length settlings.old.items < vec_capacity settlings.old →
         settlings.new.items ≡ doubted (length owners.now.entries) settlings.old.items }
 {
-    if settlings.len() >= MOST_SETTLING || settlings.len() >= settlings.capacity() {
+    if settlings.len() >= settlings.capacity() {
         end_mixed(ends);
         return;
     }

@@ -16,7 +16,7 @@ ghost use Rattle.cell_store.specs.Store.{StayBut};
 ghost use Rattle.shelf.specs.declared.shelf.KeptFlush.{KeptFlush};
 ghost use Rattle.shelf.specs.Kept.{with_shown};
 ghost use Rattle.shelf.specs.Room.{fate_of, kind_fate, is_taken, is_wanted, room_for, HasRoomFor};
-ghost use Rattle.shelf.specs.Settling.{cleared_by, reached_at_once, settled_by, steps_left, HasEachLeft, HaveStepped};
+ghost use Rattle.shelf.specs.Settling.{cleared_by, reached_at_once, settled_by, steps_left, HaveStepped};
 ghost use Rattle.shelf.specs.Sweep.{EndNear};
 ghost use Rattle.shelf.specs.Told.{without};
 ghost use Rattle.ranked.specs.declared.find.Scope.{Scope};
@@ -446,8 +446,7 @@ impl Shelf {
     fn settle_kept(&mut self, number: u64)
         requires whole { IsShelf self.old }
         ensures gone { LetsGo number self.old self.new }
-        ensures settlings { (names : ℕ) × (HasEachLeft self.old.settlings.items self.old.owners names
-            × (self.new.settlings.items ≡ settled_by number names self.old)) }
+        ensures settlings { self.new.settlings.items ≡ settled_by number self.old }
     {
         if stands_first(&self.kept, number) {
             self.settle_oldest();

@@ -1,18 +1,13 @@
--- What a turn of a sweep takes from what is left to do, how many flushes it has to follow, and what is left at two moments.
+-- What a turn of a sweep takes from what is left to do, and what is left at two moments.
 use Rattle.std.proofs.Common.{◌≤◌, ℕ, arith}
 use Rattle.std.proofs.lemmas.Bool.Decides.{nat_tests}
 use Rattle.std.proofs.lemmas.List.Sums.{sum_by-le-sum_by}
-use Rattle.shelf.specs.Settling.{most_settling}
 use Rattle.shelf.specs.Sweep.{asked_at, count_ended, one_ended, turn_at_most}
 use Rattle.store.specs.World.{Shelved, unswept_in}
 
 -- the most that a turn takes
 abbrev pub turn_of_sweep : ℕ
 turn_of_sweep = turn_at_most
-
--- the most permanent flushes of zones that have names left to reach
-abbrev pub most_reaching : ℕ
-most_reaching = most_settling
 
 ended_later : (a b end : ℕ) → a ≤ b → one_ended a end ≤ one_ended b end
 ended_later a b end le = grind (arith, nat_tests)

@@ -4,7 +4,6 @@ ghost use Rattle.std.specs.Prelude.{◌≡◌, ◌≤◌, ◌+◌, ◌^◌, ◌�
 ghost use Rattle.history.specs.Event.{AreSettings, lagging_of};
 ghost use Rattle.history.specs.Fresh.{FreshBook};
 ghost use Rattle.store.specs.Calls.{FitsJournal, FitsVersions};
-ghost use Rattle.store.specs.Sweep.{most_reaching};
 ghost use Rattle.store.specs.ShelfBook.{cells_of, commands_of, names_of, reaching_of, seed_of, versions_of};
 
 use crate::store::{Store, StoreChange};
@@ -89,8 +88,7 @@ impl ShelfBook {
     /// How many entries its cache's list of permanent flushes has: the flushes of zones that have names left to reach, and at most one
     /// more. After a flush has gone, that one ends the names whose moments are in doubt, a few at a time. Each lookup reads the list.
     pub fn reaching(&self) -> usize
-        ensures reaching { result ≡ reaching_of self.now }
-        ensures few { reaching_of self.now ≤ most_reaching }
+        ensures { result ≡ reaching_of self.now }
     {
         self.book.world().cells.reaching()
     }

@@ -67,7 +67,6 @@ impl ShelfWorld {
     ghost use Rattle.world_book.specs.Book.{IsUntouched};
     ghost use Rattle.store.specs.Kept.{kept_in};
     ghost use Rattle.store.specs.Shown.{ShowsOver, StoresEachAlive, StoresOnlyCounted, shown_of};
-    ghost use Rattle.store.specs.Sweep.{most_reaching};
 
     /// An empty cache that may store so many cells. It keeps no flushes, and its index hashes with the fixed seed.
     pub fn new(alloc: Global, limit: u64) -> ShelfWorld
@@ -166,8 +165,7 @@ impl ShelfWorld {
     /// How many entries the list of permanent flushes has: the flushes of zones that have names left to reach, and at most one more.
     /// After a flush has gone, that one ends the names whose moments are in doubt, a few at a time. Each lookup reads the list.
     pub fn reaching(&self) -> usize
-        ensures reaching { result ≡ length self.now.settlings }
-        ensures few { result ≤ most_reaching }
+        ensures { result ≡ length self.now.settlings }
     {
         self.shelf.reaching()
     }

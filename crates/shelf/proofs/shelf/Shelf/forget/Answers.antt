@@ -73,7 +73,6 @@ returns-clause-loses c =
         space = whole.space;
         named = each_forgot c.args.owner.now self.owners.entries c.forget_place-place.new.owners.entries self.ends.moments whole.ends.size c.forget_place-place.ensures.gone.1 whole.named;
         useful = whole.useful;
-        short = whole.short;
         doubt = omega (arith, c.drop_end.ensures.left, whole.doubt);
       };
       flushes = (refl, refl, refl);

@@ -104,7 +104,6 @@ reach_names-requires c =
         space = c.requires.whole.space;
         named = c.admit_at-result.ensures.named c.requires.whole.named;
         useful = c.requires.whole.useful;
-        short = c.requires.whole.short;
         doubt = omega (arith, c.in_ok-touch.ensures.ok.left, c.fit.ensures.ends.left, c.requires.whole.doubt);
       };
     }
@@ -170,7 +169,6 @@ returns-in_err-result-clause-whole c =
       space = c.requires.whole.space;
       named = c.admit_at-result.ensures.named c.requires.whole.named;
       useful = c.requires.whole.useful;
-      short = c.requires.whole.short;
       doubt = omega (arith, c.in_ok-touch.ensures.ok.left, c.fit.ensures.ends.left, c.requires.whole.doubt);
     }
 
@@ -193,7 +191,6 @@ returns-in_err-touch-clause-whole c =
       space = whole.space;
       named = whole.named;
       useful = whole.useful;
-      short = whole.short;
       doubt = omega (arith, c.in_err-touch.ensures.err.left, whole.doubt);
     }
 

@@ -66,7 +66,6 @@ returns-clause-whole c =
       space = omega (arith, c.in_ok-reserve_settlings.ensures.room, c.in_ok-push.ensures.len, c.len-2.ensures);
       named = c.open_flush.ensures.opens.named c.requires.whole.named;
       useful = subst (λ (l : List Settling). AreUseful l) (sym c.reserve_settlings.ensures.items) c.requires.whole.useful;
-      short = omega (arith, ap length c.reserve_settlings.ensures.items, c.requires.whole.short);
       doubt = omega (arith, c.reset.ensures.left, ap most_left c.reserve_settlings.ensures.items, c.requires.whole.doubt);
     }
 
@@ -92,7 +91,6 @@ returns-in_err-push-clause-whole c =
       space = omega (arith, ap length items, ap length c.reserve_settlings.ensures.items, c.reserve_settlings.ensures.more, whole.space);
       named = c.open_flush.ensures.opens.named whole.named;
       useful = subst (λ (l : List Settling). AreUseful l) (sym c.reserve_settlings.ensures.items) whole.useful;
-      short = omega (arith, ap length c.reserve_settlings.ensures.items, whole.short);
       doubt = omega (arith, c.reset.ensures.left, ap most_left c.reserve_settlings.ensures.items, whole.doubt);
     }
 
@@ -116,7 +114,6 @@ returns-in_err-open_flush-clause-whole c =
       space = omega (arith, ap length c.reserve_settlings.ensures.items, c.reserve_settlings.ensures.more, whole.space);
       named = c.open_flush.ensures.opens.named whole.named;
       useful = subst (λ (l : List Settling). AreUseful l) (sym c.reserve_settlings.ensures.items) whole.useful;
-      short = omega (arith, ap length c.reserve_settlings.ensures.items, whole.short);
       doubt = omega (arith, c.reset.ensures.left, ap most_left c.reserve_settlings.ensures.items, whole.doubt);
     }
 
@@ -139,7 +136,6 @@ returns-in_err-reserve_settlings-clause-whole c =
       space = omega (arith, ap length c.reserve_settlings.ensures.items, c.reserve_settlings.ensures.more, whole.space);
       named = whole.named;
       useful = subst (λ (l : List Settling). AreUseful l) (sym c.reserve_settlings.ensures.items) whole.useful;
-      short = omega (arith, ap length c.reserve_settlings.ensures.items, whole.short);
       doubt = omega (arith, ap most_left c.reserve_settlings.ensures.items, whole.doubt);
     }
 

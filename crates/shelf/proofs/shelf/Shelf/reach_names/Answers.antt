@@ -37,7 +37,6 @@ returns-clause-loses c =
         space = omega (arith, c.reach_some.ensures.room.size, c.reach_some.ensures.room.capacity, whole.space);
         named = lost.places.named whole.named;
         useful = c.reach_some.ensures.room.useful whole.useful;
-        short = omega (arith, c.reach_some.ensures.room.size, whole.short);
         doubt = c.reach_some.ensures.left.doubt whole.doubt;
       };
       flushes = (refl, refl, refl);

@@ -40,7 +40,6 @@ returns-clause-empty c =
         space = omega (arith, ap length none, ap length c.new-3.ensures.items);
         named = subst (λ (l : List (Labels × OwnerCells)). EachCounts l) (sym empty) (λ i. tt);
         useful = subst (λ (l : List Settling). AreUseful l) (sym c.new-3.ensures.items) tt;
-        short = omega (arith, ap length c.new-3.ensures.items);
         doubt = omega (arith, c.no_ends.ensures.left);
       };
       kept = none;

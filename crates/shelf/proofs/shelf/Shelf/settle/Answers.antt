@@ -26,5 +26,4 @@ returns-clause-gone c =
 
 pub returns-clause-left : goal.returns-clause-left
 returns-clause-left c =
-    let settled = c.settle_kept.ensures.settlings in
-    (settled.0, (settled.1.0, subst (λ (l : List Settling). HaveStepped reached_at_once l c.reach_names.new.self.settlings.items) settled.1.1 c.reach_names.ensures.left))
+    subst (λ (l : List Settling). HaveStepped reached_at_once l c.reach_names.new.self.settlings.items) c.settle_kept.ensures.settlings c.reach_names.ensures.left

@@ -37,7 +37,6 @@ returns-then-len-before-clause-whole c = λ is.
       space = omega (arith, fewer, c.doubt_later.ensures.room.more.0, c.doubt_later.ensures.room.more.1, is.space);
       named = is.named;
       useful = c.doubt_later.ensures.room.useful is.useful;
-      short = c.doubt_later.ensures.room.short is.short;
       doubt = c.doubt_later.ensures.doubt.left;
     }
 
@@ -80,6 +79,5 @@ returns-else-len-before-clause-whole c = λ is.
       space = omega (arith, ap length same, is.space);
       named = is.named;
       useful = is.useful;
-      short = is.short;
       doubt = is.doubt;
     }

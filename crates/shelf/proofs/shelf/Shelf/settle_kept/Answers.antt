@@ -1,8 +1,7 @@
-use Rattle.std.proofs.Common.{◌≡◌, ◌∙◌, ℕ, ◌<◌, Bool, true, false, length, refl, arith}
+use Rattle.std.proofs.Common.{◌≡◌, ◌∙◌, ℕ, Bool, true, false, length, arith}
 use Rattle.std.proofs.lemmas.Grind.{common_steps}
 use Rattle.dns_text.specs.declared.record.Question.{Question}
 use Rattle.shelf.specs.Kept.{stands_first}
-use Rattle.shelf.specs.Settling.{most_settling}
 use Rattle.shelf.specs.Told.{face_of}
 use Rattle.shelf.proofs.KeptLaws.{cleared_settled, oldest_kept, oldest_same, oldest_settled}
 use Rattle.shelf.proofs.ByRoomLaws.{owners_pairs}
@@ -42,11 +41,10 @@ pub returns-then-stands_first-clause-settlings : goal.returns-then-stands_first-
 returns-then-stands_first-clause-settlings c =
     let self = c.args.self.now in
     let first : stands_first c.args.number self.kept.items ≡ true = grind (arith, common_steps) in
-    oldest_settled (λ names. length self.settlings.items < most_settling → names ≡ length self.owners.entries) c.args.number self.kept.items self.settlings.items c.settle_oldest.new.self.settlings.items first c.settle_oldest.ensures.settlings
+    oldest_settled c.args.number (length self.owners.entries) self.kept.items self.settlings.items c.settle_oldest.new.self.settlings.items first c.settle_oldest.ensures.settlings
 
 pub returns-clause-settlings : goal.returns-clause-settlings
 returns-clause-settlings c =
     let self = c.args.self.now in
     let first : stands_first c.args.number self.kept.items ≡ false = grind (arith, common_steps) in
-    let names = length self.owners.entries in
-    (names, ((λ few. refl), c.settle_cleared.ensures.settlings c.requires.whole ∙ cleared_settled c.args.number names self.kept.items self.settlings.items first))
+    c.settle_cleared.ensures.settlings c.requires.whole ∙ cleared_settled c.args.number (length self.owners.entries) self.kept.items self.settlings.items first

@@ -1,4 +1,4 @@
-use Rattle.std.proofs.Common.{◌≤◌, refl, ap, ◌∙◌, arith}
+use Rattle.std.proofs.Common.{◌≤◌, length, refl, ap, ◌∙◌, arith}
 use Rattle.shelf.specs.declared.shelf.KeptFlush.{KeptFlush}
 use Rattle.shelf.specs.Settling.{joined_by, settled_cell}
 use Rattle.shelf.specs.Told.{cell_at, CanSettleFlush}
@@ -46,22 +46,15 @@ returns-clause-whole c =
       space = omega (arith, c.settle_flush.ensures.space.more.0, c.settle_flush.ensures.space.more.1, c.remove-own.ensures.len, whole.space);
       named = c.settle_flush.ensures.lost.named whole.named;
       useful = c.settle_flush.ensures.space.useful whole.useful;
-      short = c.settle_flush.ensures.space.short whole.short;
       doubt = c.settle_flush.ensures.doubt.left;
     }
 
 pub returns-clause-settlings : goal.returns-clause-settlings
 returns-clause-settlings c = λ own later is.
     let self = c.args.self.now in
-    let items = c.settle_flush.ensures.items in (
-      items.0,
-      (
-        items.1.0,
-        items.1.1
-            ∙ ap (λ (k : KeptFlush). joined_by k.flush.reach k.flush.name k.number items.0 self.settlings.items)
-            (read_first self.kept.items own c.remove-own.result later c.remove-own.ensures.value is),
-      ),
-    )
+    c.settle_flush.ensures.items
+    ∙ ap (λ (k : KeptFlush). joined_by k.flush.reach k.flush.name k.number (length self.owners.entries) self.settlings.items)
+    (read_first self.kept.items own c.remove-own.result later c.remove-own.ensures.value is)
 
 pub returns-clause-bounds : goal.returns-clause-bounds
 returns-clause-bounds c = (refl, refl, c.settle_flush.ensures.lost.fewer)
