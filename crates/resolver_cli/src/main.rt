@@ -14,6 +14,8 @@ mod gauges;
 mod worker;
 // The reply to `what_undo`, with how much a flush hides.
 mod what_undo;
+// An operator's pace: the cache keeps up with the flushes that commands make permanent.
+mod keeping_up;
 // The lines of an operator: which the service answers by itself, and which its book.
 mod operator_lines;
 // The control socket of a service.

@@ -5,6 +5,7 @@ ghost use Rattle.streams.specs.Text.{octets_in};
 ghost use Rattle.command_text.specs.Control.{DoesAt};
 ghost use Rattle.resolver_cli.specs.OperatorLines.{AnswersLine, IsOwn};
 
+use crate::keeping_up::Pace;
 use crate::what_undo::what_undo;
 use crate::worker::Lent;
 use clock::Clock;
@@ -44,12 +45,13 @@ fn text_of(made: Result<String, AllocError>) -> Text {
     }
 }
 
-/// A service as the lines of its operators need it: its runtime, its parts and its clock.
+/// A service as the lines of its operators need it: its runtime, its parts, its clock and their pace.
 #[derive(Drop)]
 pub(crate) struct Served<'a, 'l, C, L: CallLedger, R> {
     rt: &'a R,
     lent: &'a Lent<'l, L>,
     clock: C,
+    pace: Pace,
 }
 
 impl<'a, 'l, C, L: CallLedger, R> Served<'a, 'l, C, L, R> {
@@ -57,7 +59,12 @@ impl<'a, 'l, C, L: CallLedger, R> Served<'a, 'l, C, L, R> {
     pub fn new(rt: &'a R, lent: &'a Lent<'l, L>, clock: C) -> Served<'a, 'l, C, L, R>
         ensures { result.clock ≡ clock }
     {
-        Served { rt, lent, clock }
+        Served {
+            rt,
+            lent,
+            clock,
+            pace: Pace::new(),
+        }
     }
 
     /// Counts a line that was read, unless it is empty or a comment.
@@ -69,6 +76,13 @@ impl<'a, 'l, C, L: CallLedger, R> Served<'a, 'l, C, L, R> {
 }
 
 impl<'a, 'l, C: Clock, L: CallLedger, R: Wait + std::rt::Clock> Served<'a, 'l, C, L, R> {
+    /// Counts a line that was read as a command, if it is one, and lets the cache keep up.
+    fn keep_up(&self, said: &Result<Line, LineFault>) {
+        if matches!(said, Ok(Line::Request(Request::Do(_)))) {
+            self.pace.count(self.rt, self.lent);
+        }
+    }
+
     /// The reply to a line of the service's own.
     fn reply_to<D: Desk>(&mut self, alloc: Global, desk: &mut D, own: OwnLine) -> Text {
         let moment = self.clock.now();
@@ -116,6 +130,7 @@ impl<'a, 'l, C: Clock, D: Desk, L: CallLedger, R: Wait + std::rt::Clock> Obeyer<
     ) -> LineReply {
         let said = read_control(alloc, line);
         served.count(&said);
+        served.keep_up(&said);
         served.answer(alloc, desk, said)
     }
 }

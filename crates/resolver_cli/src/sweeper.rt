@@ -69,7 +69,7 @@ fn sweep_by_turns<L: CallLedger, R: Wait + std::rt::Clock>(rt: &R, lent: &Lent<'
 
 /// The pause after a turn that began and ended then: as long as the turn. So workers have the lock for half of the time at least, and a
 /// question that takes it often waits for few turns. `stop` waits for a pause as for a look at its flag.
-fn pause_after(began: Option<Duration>, ended: Option<Duration>) -> Duration {
+pub(crate) fn pause_after(began: Option<Duration>, ended: Option<Duration>) -> Duration {
     let least = Duration::from_micros(LEAST_BETWEEN_TURNS);
     let most = Duration::from_millis(GLANCE_MILLISECONDS);
     match (began, ended) {
