@@ -1,5 +1,5 @@
 -- Permanent flushes of zones that have not reached the cells of each name yet.
-use Rattle.std.specs.Prelude.{◌≡◌, ◌≤◌, ◌+◌, ◌++◌, ◌&&◌, ◌==◌, ◌∷◌, [], ℕ, Bool, false, length, nat_le, not, max, min, fold, vec_capacity, List, Option, Vec, if◌then◌else◌}
+use Rattle.std.specs.Prelude.{◌≡◌, ◌≤◌, ◌+◌, ◌++◌, ◌&&◌, ◌==◌, ◌∷◌, [], ℕ, Bool, false, length, nat_le, not, max, min, true, fold, vec_capacity, List, Option, Vec, if◌then◌else◌}
 use Rattle.std.specs.List.{AllByRecursion, filter, list_any}
 use Rattle.indexmap.specs.IndexMap.{IndexMap}
 use Rattle.dns_name.specs.Labels.{Labels}
@@ -189,3 +189,12 @@ first_steps (own ∷ later) = steps_of own
 -- A call has taken so many steps of the first flush, or all that it had; at most one more, with which it goes.
 abbrev pub HaveStepped : ℕ → List Settling → List Settling → Type 0
 HaveStepped most was now = (steps_left now + min most (first_steps was) ≤ steps_left was) × (steps_left was ≤ steps_left now + most + 1)
+
+-- whether the first flush only ends names in doubt
+abbrev pub ends_first : List Settling → Bool
+ends_first [] = false
+ends_first (own ∷ later) = own.number == 0
+
+-- If the first flush only ends names in doubt, a call has taken some of its steps. Else the flushes are as they were.
+abbrev pub HaveEnded : List Settling → List Settling → Type 0
+HaveEnded was now = (ends_first was ≡ true → HaveStepped reached_at_once was now) × (ends_first was ≡ false → now ≡ was)

@@ -1,5 +1,5 @@
 -- The replay of a shelf: its admissions and flushes in order, and the cells that they give.
-use Rattle.std.specs.Prelude.{ℕ, Bool, true, ◌++◌, ◌+◌, ◌==◌, ◌&&◌, ◌≡◌, ◌≤◌, ◌<◌, ◌^◌, length, map, vec_capacity, List, [], ◌∷◌, Option, None, fold, if◌then◌else◌}
+use Rattle.std.specs.Prelude.{ℕ, Bool, true, false, ◌++◌, ◌+◌, ◌==◌, ◌&&◌, ◌≡◌, ◌≤◌, ◌<◌, ◌^◌, length, map, vec_capacity, List, [], ◌∷◌, Option, None, fold, if◌then◌else◌}
 use Rattle.std.specs.List.{AllByRecursion}
 use Rattle.dns_name.specs.Labels.{Labels}
 use Rattle.dns_text.specs.declared.record.Question.{Question}
@@ -21,7 +21,7 @@ use Rattle.shelf.specs.declared.shelf.Shelf.{Shelf}
 pub use Rattle.shelf.specs.Kept.{is_kept, is_version}
 use Rattle.shelf.specs.Kept.{stands_first, turned_over, with_shown}
 use Rattle.shelf.specs.Clean.{AreEnds}
-use Rattle.shelf.specs.Settling.{most_left, reached_at_once, settled_by, settled_cell, AreUseful, HasJoined, HaveStepped, IsSettling}
+use Rattle.shelf.specs.Settling.{most_left, reached_at_once, settled_by, settled_cell, AreUseful, HasJoined, HaveEnded, HaveStepped, IsSettling}
 use Rattle.ranked.specs.Flush.{covers, flushed_types}
 
 -- an admission of a find at a moment, or a flush with its number
@@ -165,9 +165,14 @@ pub record LetsGo (number : ℕ) (old new : Shelf) : Type 0 where
   pub stored : new.stored ≤ old.stored
   pub pairs : KeepPairs old.owners new.owners
 
--- The kept flush of a number has gone, and the first permanent flush has taken some steps since.
+-- The kept flush of a number, the oldest and in force, is permanent, and the first permanent flush has taken some steps since.
 abbrev pub HasSteppedSince : ℕ → Shelf → Shelf → Type 0
-HasSteppedSince number old new = HaveStepped reached_at_once (settled_by number old) new.settlings.items
+HasSteppedSince number old new =
+    stands_first number old.kept.items ≡ true → HaveStepped reached_at_once (settled_by number old) new.settlings.items
+
+-- The kept flush of a number, younger or undone, was dropped, and no permanent flush has reached a name since: the first one has taken some steps if it only ends names in doubt.
+abbrev pub HasEndedSince : ℕ → Shelf → Shelf → Type 0
+HasEndedSince number old new = stands_first number old.kept.items ≡ false → HaveEnded (settled_by number old) new.settlings.items
 
 -- The oldest kept flush is permanent: with it in force, each cell shows what it did, whatever choice of the others is.
 abbrev pub ShowsOldest : Shelf → Shelf → Type 0

@@ -7,7 +7,7 @@ ghost use Rattle.cell_store.specs.Owner.{after_settle};
 ghost use Rattle.cell_store.specs.Store.{AreUpTo, CanSettleAt, HaveTop};
 ghost use Rattle.shelf.specs.Clean.{HaveEnds};
 ghost use Rattle.shelf.specs.Losing.{AreDoubted, HaveGoneDown, IsTallied, IsTidiedAt, LoseCells, TakesSteps};
-ghost use Rattle.shelf.specs.Settling.{doubted, first_at, is_outdone, joined_to, moved_by_name, moved_by_zone, settled_version, unmoved};
+ghost use Rattle.shelf.specs.Settling.{doubted, ends_first, first_at, is_outdone, joined_to, moved_by_name, moved_by_zone, settled_version, unmoved};
 ghost use Rattle.shelf.specs.Settling.{with_left, without_outdone, AreMovedBy, AreMovedFrom, HasGrown, HasShrunk, IsOneLonger, IsReaching};
 
 use crate::ends::{Ends, doubt_all, drop_at, end_mixed, put, settle_doubt};
@@ -45,6 +45,16 @@ pub(crate) fn none_left(settlings: &[Settling]) -> bool
     ensures { result ≡ true → settlings.now ≡ [] }
 {
     settlings.is_empty()
+}
+
+// Whether the first permanent flush only ends names in doubt.
+pub(crate) fn ends_first(settlings: &[Settling]) -> bool
+    ensures { result ≡ ends_first settlings.now }
+{
+    match settlings.first() {
+        Some(own) => own.number == 0,
+        None => false,
+    }
 }
 
 // The version whose content a version of a name has.

@@ -16,7 +16,7 @@ ghost use Rattle.cell_store.specs.Store.{StayBut};
 ghost use Rattle.shelf.specs.declared.shelf.KeptFlush.{KeptFlush};
 ghost use Rattle.shelf.specs.Kept.{with_shown};
 ghost use Rattle.shelf.specs.Room.{fate_of, kind_fate, is_taken, is_wanted, room_for, HasRoomFor};
-ghost use Rattle.shelf.specs.Settling.{cleared_by, reached_at_once, settled_by, steps_left, HaveStepped};
+ghost use Rattle.shelf.specs.Settling.{cleared_by, reached_at_once, steps_left, HaveEnded, HaveStepped};
 ghost use Rattle.shelf.specs.Sweep.{EndNear};
 ghost use Rattle.shelf.specs.Told.{without};
 ghost use Rattle.ranked.specs.declared.find.Scope.{Scope};
@@ -25,7 +25,9 @@ use crate::ends::{Ends, drop_end, fit, no_ends, reset, touch};
 use crate::fault::StoreFault;
 use crate::flushing::{open_flush, remove_number, reserve, settle_flush, stands_first};
 use crate::room::Room;
-use crate::settling::{REACHED_AT_ONCE, Settling, doubt_later, reach_some, reserve_settlings};
+use crate::settling::{
+    REACHED_AT_ONCE, Settling, doubt_later, ends_first, reach_some, reserve_settlings,
+};
 use cell_store::{
     NameSeed, OwnerCells, Owners, admit_at, at, cells_at, forget_place, has_place_in, held_in,
 };
@@ -88,7 +90,7 @@ fn set_shown(kept: &mut Vec<KeptFlush>, number: u64, shown: bool)
 
 impl Shelf {
     ghost use Rattle.shelf.specs.Told.{Told, cell_at, shown_version, face_of, HasAdmitted, HasFlushed, IsEmptyShelf, IsReplayed, IsSame, IsShelf, IsShown, JoinsOldest};
-    ghost use Rattle.shelf.specs.Told.{HasSteppedSince, KeepsFlushes, LetsGo, LosesOnly, ShowsOldest, TurnsFlush};
+    ghost use Rattle.shelf.specs.Told.{HasEndedSince, HasSteppedSince, KeepsFlushes, LetsGo, LosesOnly, ShowsOldest, TurnsFlush};
     ghost use Rattle.shelf.specs.Stored.{count_pairs, pairs_in, CountsReplayed, HasAdmittedEach, IsAliveInFace};
     ghost use Rattle.shelf.specs.Admission.{IsAdmission};
     ghost use Rattle.shelf.specs.Oldest.{IsEnding};
@@ -432,27 +434,33 @@ impl Shelf {
 
     /// Makes a flush permanent if it is the oldest and in force. Else drops it for good. It takes no memory. A flush of a zone is permanent
     /// at once, and reaches the names a few at a time: here, at later admissions, and the rest at a sweep. The oldest such flush comes
-    /// first, however many there are.
+    /// first, however many there are. If a flush is dropped, none reaches a name, since a command may drop as many as the journal keeps.
+    /// Then only some names in doubt are ended, if these come first.
     pub fn settle(&mut self, number: u64)
         requires whole { IsShelf self.old }
         ensures gone { LetsGo number self.old self.new }
         ensures left { HasSteppedSince number self.old self.new }
-    {
-        self.settle_kept(number);
-        self.reach_names();
-    }
-
-    // Does that, and lets no flush reach a name.
-    fn settle_kept(&mut self, number: u64)
-        requires whole { IsShelf self.old }
-        ensures gone { LetsGo number self.old self.new }
-        ensures settlings { self.new.settlings.items ≡ settled_by number self.old }
+        ensures dropped { HasEndedSince number self.old self.new }
     {
         if stands_first(&self.kept, number) {
             self.settle_oldest();
+            self.reach_names();
             return;
         }
         self.settle_cleared(number);
+        self.end_doubt();
+    }
+
+    // Ends some names in doubt, if these come before all permanent flushes of zones. It takes no memory.
+    fn end_doubt(&mut self)
+        requires whole { IsShelf self.old }
+        ensures loses { LosesOnly self.old self.new }
+        ensures cells { (q : Question) (v : ℕ) → cell_at self.new q v ≡ cell_at self.old q v }
+        ensures ended { HaveEnded self.old.settlings.items self.new.settlings.items }
+    {
+        if ends_first(&self.settlings) {
+            self.reach_names();
+        }
     }
 
     // Lets the oldest permanent flush reach some names more. It takes no memory.
