@@ -75,7 +75,7 @@ fn a_find_is_cached_in_both_versions(checks: &mut Checks, alloc: Global) -> anyh
     cached_in_both(
         checks,
         alloc,
-        &mut Shelf::seeded(alloc, 1, NameSeed::new(7)),
+        &mut Shelf::seeded(alloc, 1, 1, NameSeed::new(7)),
     )
 }
 

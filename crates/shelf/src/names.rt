@@ -1,8 +1,24 @@
 //! The names of the index.
 
-ghost use Rattle.std.specs.Prelude.{◌≡◌, ◌≤◌, length};
+ghost use Rattle.std.specs.Prelude.{◌≡◌, ◌≤◌, [], length};
+ghost use Rattle.indexmap.specs.IndexMap.{hasher_of};
 
 use crate::shelf::Shelf;
+use cell_store::{NameSeed, Owners};
+use indexmap::IndexMap;
+use std::alloc::Global;
+
+// An index of no names. If there is memory, it has room for twice so many from the start. Else it grows as names come, and a call in which
+// it does enters the hashes of all of them anew. Twice, since a name that goes does not always leave its room to another: once enough names
+// were replaced, the index of a full cache would still grow.
+pub(crate) fn no_names(alloc: Global, room: usize, seed: NameSeed) -> Owners
+    ensures empty { result.entries ≡ [] }
+    ensures seed { hasher_of result ≡ seed }
+{
+    let mut owners: Owners = IndexMap::with_hasher(alloc, seed);
+    let _ = owners.reserve(room.saturating_mul(2));
+    owners
+}
 
 impl Shelf {
     ghost use Rattle.shelf.specs.Stored.{columns_in};

@@ -24,6 +24,7 @@ ghost use Rattle.ranked.specs.declared.find.Scope.{Scope};
 use crate::ends::{Ends, drop_end, fit, no_ends, reset, touch};
 use crate::fault::StoreFault;
 use crate::flushing::{open_flush, remove_number, reserve, settle_flush, stands_first};
+use crate::names::no_names;
 use crate::room::Room;
 use crate::settling::{
     REACHED_AT_ONCE, Settling, doubt_later, ends_first, reach_some, reserve_settlings,
@@ -32,7 +33,6 @@ use cell_store::{
     NameSeed, OwnerCells, Owners, admit_at, at, cells_at, forget_place, has_place_in, held_in,
 };
 use dns_name::{Name, NoMemory};
-use indexmap::IndexMap;
 use ranked::{Fate, Find, Flush, Held, Scope, SharedFind};
 use std::alloc::Global;
 
@@ -100,18 +100,19 @@ impl Shelf {
         requires { limit ≤ 2 ^ 62 }
         ensures { IsEmptyShelf limit result }
     {
-        Shelf::seeded(alloc, limit, NameSeed::fixed())
+        Shelf::seeded(alloc, limit, 0, NameSeed::fixed())
     }
 
-    /// An empty cache whose index hashes with a seed that the program drew, since strangers choose the names.
-    pub fn seeded(alloc: Global, limit: u64, seed: NameSeed) -> Shelf
+    /// An empty cache whose index hashes with a seed that the program drew, since strangers choose the names. If there is memory, the
+    /// index has room for so many names from the start, and for as many more: a name that goes does not always leave its room to another.
+    pub fn seeded(alloc: Global, limit: u64, room: usize, seed: NameSeed) -> Shelf
         requires { limit ≤ 2 ^ 62 }
         ensures empty { IsEmptyShelf limit result }
         ensures seed { hasher_of result.owners ≡ seed }
     {
         Shelf {
             alloc,
-            owners: IndexMap::with_hasher(alloc, seed),
+            owners: no_names(alloc, room, seed),
             kept: Vec::new(alloc),
             top: 0,
             stored: 0,

@@ -26,25 +26,24 @@ pub struct ShelfBook {
 }
 
 impl ShelfBook {
-    /// A book of no events, whose cache hashes names with the fixed seed. It is for scripts and tests.
+    /// A book of no events, whose cache hashes names with the fixed seed. Its index grows as names come. It is for scripts and tests.
     pub fn new(alloc: Global, settings: Settings) -> Result<ShelfBook, MakeFault>
         ensures fresh { IfOk result (FreshBook ⟦<ShelfBook as Book>⟧.stands_for ⟦<ShelfBook as Book>⟧.settings settings) }
         ensures refused { IsErrOf result MakeFault.BadSettings ↔ ¬ (AreSettings settings) }
     {
-        let book = ShelfBook::seeded(alloc, settings, NameSeed::fixed())?;
+        let book = ShelfBook::with_room(alloc, settings, 0, NameSeed::fixed())?;
         Ok(book)
     }
 
-    /// The same, but its cache hashes names with a seed that the program drew, since strangers choose the names.
+    /// The same, but its cache hashes names with a seed that the program drew, since strangers choose the names. If there is memory, its
+    /// index has room for a name in each cell from the start: callers would wait for the one at whose call it grows.
     pub fn seeded(alloc: Global, settings: Settings, seed: NameSeed) -> Result<ShelfBook, MakeFault>
         ensures fresh { IfOk result (FreshBook ⟦<ShelfBook as Book>⟧.stands_for ⟦<ShelfBook as Book>⟧.settings settings) }
         ensures refused { IsErrOf result MakeFault.BadSettings ↔ ¬ (AreSettings settings) }
         ensures seed { IfOk result (λ b. seed_of b ≡ seed) }
     {
-        if !are_settings(&settings) {
-            return Err(MakeFault::BadSettings);
-        }
-        let book = ShelfBook::with_settings(alloc, settings, seed)?;
+        let room = settings.cells;
+        let book = ShelfBook::with_room(alloc, settings, room, seed)?;
         Ok(book)
     }
 
@@ -53,11 +52,12 @@ impl ShelfBook {
         ensures fresh { IfOk result (FreshBook ⟦<ShelfBook as Book>⟧.stands_for ⟦<ShelfBook as Book>⟧.settings (lagging_of settings.now)) }
         ensures refused { IsErrOf result MakeFault.BadSettings ↔ ¬ (AreSettings settings.now) }
     {
-        let book = ShelfBook::lagging_seeded(alloc, settings, NameSeed::fixed())?;
+        let book = ShelfBook::lagging_with_room(alloc, settings, 0, NameSeed::fixed())?;
         Ok(book)
     }
 
-    /// The same, but its cache hashes names with a seed that the program drew.
+    /// The same, but its cache hashes names with a seed that the program drew. If there is memory, its index has room for a name in each
+    /// cell of the other book from the start: its own limit is 2^62 cells.
     pub fn lagging_seeded(
         alloc: Global,
         settings: &Settings,
@@ -67,13 +67,7 @@ impl ShelfBook {
         ensures refused { IsErrOf result MakeFault.BadSettings ↔ ¬ (AreSettings settings.now) }
         ensures seed { IfOk result (λ b. seed_of b ≡ seed) }
     {
-        if !are_settings(settings) {
-            return Err(MakeFault::BadSettings);
-        }
-        let Ok(lagging) = settings.lagging(alloc) else {
-            return Err(MakeFault::NoMemory);
-        };
-        let book = ShelfBook::with_settings(alloc, lagging, seed)?;
+        let book = ShelfBook::lagging_with_room(alloc, settings, settings.cells, seed)?;
         Ok(book)
     }
 
@@ -120,9 +114,50 @@ impl ShelfBook {
         self.book.world().cells.kept(question)
     }
 
+    // A book with these settings, if they are in range.
+    fn with_room(
+        alloc: Global,
+        settings: Settings,
+        room: usize,
+        seed: NameSeed,
+    ) -> Result<ShelfBook, MakeFault>
+        ensures fresh { IfOk result (FreshBook ⟦<ShelfBook as Book>⟧.stands_for ⟦<ShelfBook as Book>⟧.settings settings) }
+        ensures refused { IsErrOf result MakeFault.BadSettings ↔ ¬ (AreSettings settings) }
+        ensures seed { IfOk result (λ b. seed_of b ≡ seed) }
+    {
+        if !are_settings(&settings) {
+            return Err(MakeFault::BadSettings);
+        }
+        let book = ShelfBook::with_settings(alloc, settings, room, seed)?;
+        Ok(book)
+    }
+
+    // A book to lag behind one with these settings, if they are in range.
+    fn lagging_with_room(
+        alloc: Global,
+        settings: &Settings,
+        room: usize,
+        seed: NameSeed,
+    ) -> Result<ShelfBook, MakeFault>
+        ensures fresh { IfOk result (FreshBook ⟦<ShelfBook as Book>⟧.stands_for ⟦<ShelfBook as Book>⟧.settings (lagging_of settings.now)) }
+        ensures refused { IsErrOf result MakeFault.BadSettings ↔ ¬ (AreSettings settings.now) }
+        ensures seed { IfOk result (λ b. seed_of b ≡ seed) }
+    {
+        if !are_settings(settings) {
+            return Err(MakeFault::BadSettings);
+        }
+        let Ok(lagging) = settings.lagging(alloc) else {
+            return Err(MakeFault::NoMemory);
+        };
+        let book = ShelfBook::with_settings(alloc, lagging, room, seed)?;
+        Ok(book)
+    }
+
+    // A book with these settings. If there is memory, the index of its cache has room for so many names from the start.
     fn with_settings(
         alloc: Global,
         settings: Settings,
+        room: usize,
         seed: NameSeed,
     ) -> Result<ShelfBook, MakeFault>
         requires journal { 1 ≤ settings.journal }
@@ -131,7 +166,7 @@ impl ShelfBook {
         ensures no_memory { IsErr result → IsErrOf result MakeFault.NoMemory }
         ensures seed { IfOk result (λ b. seed_of b ≡ seed) }
     {
-        let store = Store::new(alloc, settings.cells as u64, seed);
+        let store = Store::new(alloc, settings.cells as u64, room, seed);
         match WorldBook::new(alloc, settings, store) {
             Ok(book) => Ok(ShelfBook { book }),
             Err(_) => Err(MakeFault::NoMemory),

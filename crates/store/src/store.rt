@@ -51,15 +51,16 @@ impl Store {
     ghost use Rattle.world_book.specs.Book.{IsUntouched};
     ghost use Rattle.world_book.specs.Deeds.{empty_face};
 
-    /// Empty tables and an empty cache that may store so many cells. The cache's index hashes with this seed.
-    pub fn new(alloc: Global, limit: u64, seed: NameSeed) -> Store
+    /// Empty tables and an empty cache that may store so many cells. The cache's index hashes with this seed. If there is memory, it has
+    /// room for so many names from the start.
+    pub fn new(alloc: Global, limit: u64, room: usize, seed: NameSeed) -> Store
         requires { limit ≤ 2 ^ 62 }
         ensures untouched { IsUntouched ⟦<Store as World>⟧ empty_face limit result }
         ensures seed { result.cells.seed ≡ seed }
     {
         Store {
             tables: TableWorld::new(alloc),
-            cells: ShelfWorld::seeded(alloc, limit, seed),
+            cells: ShelfWorld::seeded(alloc, limit, room, seed),
         }
     }
 

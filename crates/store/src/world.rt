@@ -73,16 +73,17 @@ impl ShelfWorld {
         requires { limit ≤ 2 ^ 62 }
         ensures { IsUntouched ⟦<ShelfWorld as World>⟧ empty_cells limit result }
     {
-        ShelfWorld::seeded(alloc, limit, NameSeed::fixed())
+        ShelfWorld::seeded(alloc, limit, 0, NameSeed::fixed())
     }
 
-    /// The same, but its index hashes with a seed that the program drew, since strangers choose the names.
-    pub fn seeded(alloc: Global, limit: u64, seed: NameSeed) -> ShelfWorld
+    /// The same, but its index hashes with a seed that the program drew, since strangers choose the names. If there is memory, it has room
+    /// for so many names from the start.
+    pub fn seeded(alloc: Global, limit: u64, room: usize, seed: NameSeed) -> ShelfWorld
         requires { limit ≤ 2 ^ 62 }
         ensures untouched { IsUntouched ⟦<ShelfWorld as World>⟧ empty_cells limit result }
         ensures seed { result.seed ≡ seed }
     {
-        let shelf = Shelf::seeded(alloc, limit, seed);
+        let shelf = Shelf::seeded(alloc, limit, room, seed);
         // It is called for its clause `none`: no place counts yet.
         admitted_law();
         ShelfWorld { shelf }

@@ -18,9 +18,9 @@ use Rattle.shelf.proofs.shelf.Shelf.seeded.Goals as goal
 
 pub returns-clause-empty : goal.returns-clause-empty
 returns-clause-empty c =
-    let owners = c.with_hasher.result in
+    let owners = c.no_names.result in
     let kept = c.new.result.items in
-    let empty : c.with_hasher.result.entries ≡ [] = c.with_hasher.ensures.empty in
+    let empty : c.no_names.result.entries ≡ [] = c.no_names.ensures.empty in
     let none : c.new.result.items ≡ [] = c.new.ensures.items in
     record {
       cells = λ q v there.
