@@ -1,6 +1,6 @@
 -- The moment before which a sweep finds nothing to remove of a name is not after the end of its last find.
 use Rattle.std.proofs.Common.{◌≡◌, ℕ, zero, suc, ◌+◌, ◌<◌, ◌≤◌, Bool, true, false, cond, Option, Some, None, List, [], ◌∷◌, length, get_or, map, refl, sym, ap, ◌∙◌, subst, arith, inl, inr}
-use Rattle.std.specs.Prelude.{◌==◌, is_some, nat_eq, nat_lt, not, slice_get, IfSome}
+use Rattle.std.specs.Prelude.{◌==◌, is_some, nat_eq, nat_lt, slice_get, IfSome}
 use Rattle.std.specs.List.{AllByRecursion, IsDistinct}
 use Rattle.std.specs.Option.{option_map_or}
 use Rattle.std.proofs.lemmas.Bool.{cases_Bool, eq-eqb, eqb-true, false≢true}
