@@ -9,6 +9,10 @@ use Rattle.outside.specs.Pauses.{Loses, NotesHeard}
 use Rattle.outside.specs.Refusals.{NotesAnswer}
 use Rattle.front_workers.specs.declared.worker_sockets.WorkerSockets.{WorkerSockets}
 
+-- These sockets note nothing of any server, and ask for no permit.
+abbrev pub NotesNothing : {L R B : Type 0} → WorkerSockets L R B → WorkerSockets L R B → Type 0
+NotesNothing old new = (new.pauses ≡ old.pauses) × (new.refusals ≡ old.refusals) × (new.permits.asked ≡ old.permits.asked)
+
 -- This was heard of a query about this zone: these sockets remember a refusal of the zone, and ask for no permit.
 abbrev pub NotesAnswerTo : {L R B : Type 0} → Listened → Sent → Option Labels → WorkerSockets L R B → WorkerSockets L R B → Type 0
 NotesAnswerTo heard asked zone old new =

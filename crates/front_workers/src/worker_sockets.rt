@@ -299,6 +299,7 @@ impl<'a, L: Log, R, S: ServiceSocket> WorkerSockets<'a, L, R, Outbox<S>> {
 }
 
 impl<'a, L: Log, R: ReadyNet, B: Drop> WorkerSockets<'a, L, R, B> {
+    ghost use Rattle.front_workers.specs.Noting.{NotesNothing};
     ghost use Rattle.front_workers.specs.Sockets.{sockets_of};
 
     /// Begins an exchange, for its permit and under the key of that. Returns `None` if it could not begin.
@@ -321,8 +322,7 @@ impl<'a, L: Log, R: ReadyNet, B: Drop> WorkerSockets<'a, L, R, B> {
         ensures failed { IfNone result (IsNotToBeHad R.failed R.Datagrams.opened R.Datagrams.is_at R.Datagrams.failed
             R.Connection.connected R.Connection.is_at R.Connection.failed self.old.place server.now over query) }
         // Nothing is noted of the server, and no further permit is asked for.
-        ensures unnoted { (self.new.pauses ≡ self.old.pauses) × (self.new.refusals ≡ self.old.refusals)
-            × (self.new.permits.asked ≡ self.old.permits.asked) }
+        ensures unnoted { NotesNothing self.old self.new }
     {
         let key = permit.key();
         self.tally.ask(over);
@@ -356,8 +356,7 @@ impl<'a, L: Log, R: ReadyNet, B: Drop> WorkerSockets<'a, L, R, B> {
     fn tell_heard(&mut self, heard: &Listened, line: &SocketLine<R>)
         ensures counts { self.new.counts ≡ self.old.counts }
         ensures keeps { Keeps (λ sockets. sockets.server_port) sockets_of self.old self.new }
-        ensures unnoted { (self.new.pauses ≡ self.old.pauses) × (self.new.refusals ≡ self.old.refusals)
-            × (self.new.permits.asked ≡ self.old.permits.asked) }
+        ensures unnoted { NotesNothing self.old self.new }
         ensures moment { self.new.moment ≡ self.old.moment }
     {
         match heard {
@@ -380,7 +379,7 @@ impl<'a, D: Numbered, C: Clock, L: Log + Wait, R: ReadyNet, K: Client, B: ReplyS
     K,
 > for WorkerSockets<'a, L, R, B> {
     ghost use Rattle.front_workers.specs.Asking.{PostsBy, SocketsState};
-    ghost use Rattle.front_workers.specs.Noting.{LosesReplyTo, NotesAnswerTo, NotesHeardOf};
+    ghost use Rattle.front_workers.specs.Noting.{LosesReplyTo, NotesAnswerTo, NotesHeardOf, NotesNothing};
     ghost use Rattle.front_workers.specs.Sockets.{sockets_of};
 
     ghost server_port = { λ sockets. sockets.server_port };
@@ -552,8 +551,7 @@ impl<'a, D: Numbered, C: Clock, L: Log + Wait, R: ReadyNet, K: Client, B: ReplyS
         // As for any `Sockets`. Also, nothing is noted of the server, and no permit is asked for.
         ensures abandoned { CountsAbandoned self.old.counts self.new.counts }
         ensures keeps { Keeps (λ sockets. sockets.server_port) sockets_of self.old self.new }
-        ensures unnoted { (self.new.pauses ≡ self.old.pauses) × (self.new.refusals ≡ self.old.refusals)
-            × (self.new.permits.asked ≡ self.old.permits.asked) }
+        ensures unnoted { NotesNothing self.old self.new }
     {
         self.permits.end(line.key());
         self.counts.abandon();
