@@ -27,9 +27,9 @@ IsShown network now asking latest asker exchanges limit cause =
     × (cause.why ≡ TooLarge → KeepsTooMuch (kept_in asking.task.steps.items) exchanges)
 
 -- If room was made for a question, it may begin an exchange at such a moment.
-abbrev pub MayBeginIfOk : {A E G K : Type 0} → Result A E → (K → ℕ) → ℕ → Asking G K → ℕ → Asker → List (Option UnderWay) → ℕ → Type 0
-MayBeginIfOk result network now asking latest asker exchanges limit = OnOk result (MayBeginNow network now asking latest asker exchanges limit)
+abbrev pub BeginsIfItMay : {A E G K : Type 0} → Result A E → (K → ℕ) → ℕ → Asking G K → ℕ → Asker → List (Option UnderWay) → ℕ → Type 0
+BeginsIfItMay result network now asking latest asker exchanges limit = OnOk result (MayBeginNow network now asking latest asker exchanges limit)
 
 -- If a question was refused, the cause was shown to be so.
-abbrev pub IsShownIfErr : {A G K : Type 0} → Result A Cause → (K → ℕ) → ℕ → Asking G K → ℕ → Asker → List (Option UnderWay) → ℕ → Type 0
-IsShownIfErr result network now asking latest asker exchanges limit = IfErr result (IsShown network now asking latest asker exchanges limit)
+abbrev pub RefusesForCause : {A G K : Type 0} → Result A Cause → (K → ℕ) → ℕ → Asking G K → ℕ → Asker → List (Option UnderWay) → ℕ → Type 0
+RefusesForCause result network now asking latest asker exchanges limit = IfErr result (IsShown network now asking latest asker exchanges limit)

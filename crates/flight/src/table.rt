@@ -5,7 +5,7 @@ ghost use Rattle.std.specs.Prelude.{IfOk, IfSome, IsTrue, OnOk, OnSome};
 ghost use Rattle.slab.specs.Slab.{HasRoomFor, Updates, get, slab_len};
 ghost use Rattle.std.specs.VecDeque.{deque_capacity, deque_len};
 ghost use Rattle.flight.specs.Asking.{WantsSend};
-ghost use Rattle.flight.specs.Beginning.{HasPlaceNow, IsShownIfErr, MayBeginIfOk};
+ghost use Rattle.flight.specs.Beginning.{BeginsIfItMay, HasPlaceNow, RefusesForCause};
 ghost use Rattle.flight.specs.Bounds.{EachIsSmall, IsWithin, KeepsMost, KeepsTooMuch, MayKeep, kept_by, kept_of};
 ghost use Rattle.flight.specs.Kept.{kept_in};
 ghost use Rattle.flight.specs.Queue.{IsFirstDue, IsQueue, is_queued};
@@ -182,9 +182,9 @@ impl<D: Numbered, L: InFlight, C: Clock, G: Rng, K: Client> Table<D, L, C, G, K>
         requires { WantsSend D.calls D.seen L.hears C.ticks K.since asking.now }
         ensures room { OnOk result (HasRoomFor self.new.jobs 1) }
         ensures queue_room { OnOk result (deque_len self.new.waits < deque_capacity self.new.waits) }
-        ensures may_begin { MayBeginIfOk result K.network now asking.now self.old.latest self.new.asker
+        ensures may_begin { BeginsIfItMay result K.network now asking.now self.old.latest self.new.asker
             self.old.jobs.slots self.old.limit }
-        ensures refused { IsShownIfErr result K.network now asking.now self.old.latest self.new.asker
+        ensures refused { RefusesForCause result K.network now asking.now self.old.latest self.new.asker
             self.old.jobs.slots self.old.limit }
         ensures takes { IfOk result (λ room. (room.octets ≡ octets.now) × (room.kept ≡ kept_in asking.now.task.steps.items)) }
         ensures jobs { self.new.jobs.slots ≡ self.old.jobs.slots }
