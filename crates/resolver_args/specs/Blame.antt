@@ -1,14 +1,15 @@
 -- The argument that is bad, and why.
-use Rattle.std.specs.Prelude.{◌≡◌, ◌≢◌, ◌<◌, ◌≤◌, ◌+◌, ◌==◌, ◌∷◌, ℕ, [], None, if◌then◌else◌}
+use Rattle.std.specs.Prelude.{◌≡◌, ◌≢◌, ◌⊎◌, ◌<◌, ◌≤◌, ◌+◌, ◌==◌, ◌∷◌, ℕ, [], None, if◌then◌else◌}
 use Rattle.clap.specs.Walk.{Text}
 use Rattle.dns_text.specs.Addr.{addr_in}
 use Rattle.history.specs.declared.limits.TheConstants.{MOST_HINTS}
 use Rattle.resolver_args.specs.declared.fault.ArgsFault.{ArgsFault}
-use Rattle.resolver_args.specs.declared.fault.ArgsFault.TheVariants.{BadArguments}
+use Rattle.resolver_args.specs.declared.fault.ArgsFault.TheVariants.{BadArguments, NotLoopback}
 use Rattle.resolver_args.specs.declared.fault.BadArgument.{BadArgument}
 use Rattle.resolver_args.specs.declared.fault.BadArgument.TheVariants.{NotIp, NotPort, NotRange, NoHint, ManyHints, ManyWorkers, Unfit}
 use Rattle.resolver_args.specs.declared.mode.Service.{Service}
 use Rattle.resolver_args.specs.declared.mode.TheConstants.{MOST_WORKERS}
+use Rattle.resolver_args.specs.Mode.{HasCounts, IsLoopback}
 
 -- The part of a word before its first `@`.
 abbrev pub ip_part : Text → Text
@@ -53,3 +54,7 @@ BlamesCount service _ = ⊥
 abbrev pub BlamesService : Service → ArgsFault → Type 0
 BlamesService service (BadArguments why) = BlamesCount service why
 BlamesService service _ = ⊥
+
+-- Why a service cannot run: a number of it does not fit, or all fit, but other machines could give it commands.
+abbrev pub CannotRun : Service → ArgsFault → Type 0
+CannotRun service fault = (BlamesService service fault × ¬ HasCounts service) ⊎ ((fault ≡ NotLoopback) × (HasCounts service × ¬ IsLoopback service.control.ip))

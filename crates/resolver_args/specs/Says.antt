@@ -1,8 +1,9 @@
 -- Command lines and the modes that they give.
-use Rattle.std.specs.Prelude.{◌≡◌, ◌⊎◌, ◌<◌, ◌^◌, List, [], Option, Some, String, codes, option_map}
+use Rattle.std.specs.Prelude.{◌≡◌, ◌⊎◌, ◌<◌, ◌^◌, ℕ, List, [], ◌∷◌, Option, Some, String, codes, map, option_map}
 use Rattle.clap.specs.Faults.{fault_of}
 use Rattle.clap.specs.Simple.{subcommand_of}
 use Rattle.clap.specs.Walk.{Row, Text}
+use Rattle.dns_text.specs.Addr.{addr_in}
 use Rattle.history.specs.Event.{AreSettings}
 use Rattle.history.specs.declared.event.Settings.{Settings}
 use Rattle.resolver_args.specs.CommandLine.{resolver_app}
@@ -107,3 +108,9 @@ RefusesService rows fault = RefusedFor (LacksService rows) fault ⊎ ((fault ≡
 abbrev pub RefusesMode : Text → List Row → ArgsFault → Type 0
 RefusesMode name rows fault = RefusedFor (LacksMode name rows) fault
     ⊎ ((fault ≡ NotLoopback) × ((name ≡ codes "serve") × GivesUnguarded rows))
+
+-- `resolver script --journal COUNT HINT` sets the journal to the number that the count spells, and gives this one hint.
+abbrev pub SetsJournalAndHint : Text → ℕ → Text → Type 0
+SetsJournalAndHint count n hint =
+    (settings : Settings) → Says (codes "resolver" ∷ codes "script" ∷ codes "--journal" ∷ count ∷ hint ∷ []) (Script settings) →
+    (settings.journal ≡ n) × (map Some settings.hints ≡ addr_in hint ∷ [])

@@ -1,10 +1,9 @@
 //! Modes of the program, with their settings.
 
-ghost use Rattle.std.specs.Prelude.{◌≡◌, ◌↔◌, ◌⊎◌, ◌<◌, ◌^◌, IsTrue, IsSome, IfOk, IfErr, IfSome};
+ghost use Rattle.std.specs.Prelude.{◌≡◌, ◌↔◌, ◌<◌, ◌^◌, IsTrue, IsSome, IfOk, IfErr, IfSome};
 ghost use Rattle.history.specs.Event.{AreSettings};
-ghost use Rattle.resolver_args.specs.declared.fault.ArgsFault.TheVariants.{NotLoopback};
-ghost use Rattle.resolver_args.specs.Blame.{BlamesHints, BlamesCount, BlamesService};
-ghost use Rattle.resolver_args.specs.Mode.{IsLoopback, HasCounts, IsService};
+ghost use Rattle.resolver_args.specs.Blame.{BlamesHints, BlamesCount, CannotRun};
+ghost use Rattle.resolver_args.specs.Mode.{IsLoopback, HasCounts, IsService, settings_with};
 
 use crate::fault::{ArgsFault, BadArgument};
 use dns_text::{Addr, Ip, Items};
@@ -65,10 +64,8 @@ pub(crate) fn settings_of(
     hints: Items<Addr>,
     server_port: u32,
 ) -> Option<Settings>
-    ensures some { IsSome result ↔ (AreSettings (record { journal = journal; cells = cells; hints = hints; server_port = server_port })
-        × (server_port < 2 ^ 16)) }
-    ensures value { IfSome result (λ settings. settings
-        ≡ record { journal = journal; cells = cells; hints = hints; server_port = server_port }) }
+    ensures some { IsSome result ↔ (AreSettings (settings_with journal cells hints server_port) × (server_port < 2 ^ 16)) }
+    ensures value { IfSome result (λ settings. settings ≡ settings_with journal cells hints server_port) }
 {
     let settings = Settings {
         journal: journal as usize,
@@ -138,8 +135,7 @@ impl Service {
         requires { AreSettings self.settings }
         ensures same { IfOk result (λ service. service ≡ self) }
         ensures fit { IfOk result IsService }
-        ensures fault { IfErr result (λ fault. (BlamesService self fault × ¬ HasCounts self)
-            ⊎ ((fault ≡ NotLoopback) × (HasCounts self × ¬ IsLoopback self.control.ip))) }
+        ensures fault { IfErr result (CannotRun self) }
     {
         if !self.has_counts() {
             return Err(ArgsFault::BadArguments(self.misfit()));
