@@ -54,3 +54,7 @@ CountsRead _ left old new = new ≡ old
 abbrev pub CountsWrite : {A : Type 0} → Result A StreamFault → ℕ → ℕ → Type 0
 CountsWrite (Err Write) old new = new ≡ old + 1
 CountsWrite _ old new = new ≡ old
+
+-- A whole message was taken out of the octets that had come, and none of them are left.
+abbrev pub TakesMessage : List ℕ → List ℕ → List ℕ → Type 0
+TakesMessage came left message = (came ≡ framed message) × HasLength message × (left ≡ [])

@@ -1,11 +1,11 @@
 -- The reply of an answer, as octets (RFC 1035, section 4.1).
-use Rattle.std.specs.Prelude.{◌≡◌, ◌<◌, ◌≤◌, ℕ, Bool, true, false, Option, Some, None, List, length}
+use Rattle.std.specs.Prelude.{◌≡◌, ◌<◌, ◌≤◌, ℕ, Bool, true, false, Option, Some, None, List, Vec, length}
 use Rattle.dns_query.specs.declared.over.Over.{Over}
 use Rattle.dns_query.specs.declared.over.Over.TheVariants.{Udp, Tcp}
 use Rattle.dns_wire.specs.declared.message.Head.{Head}
 use Rattle.dns_wire.specs.declared.message.Message.{Message}
 use Rattle.dns_wire.specs.declared.server.query.Query.{Query}
-use Rattle.dns_wire.specs.Lent.{lent_reply}
+use Rattle.dns_wire.specs.Lent.{lent_reply, Parts}
 use Rattle.dns_wire.specs.Read.Header.{head_in}
 use Rattle.dns_wire.specs.Server.Replying.{fault_head, cut_to}
 use Rattle.dns_wire.specs.Write.Header.{header_octets}
@@ -43,6 +43,10 @@ IsSent Udp query octets out = (length octets ≤ MOST_UDP_REPLY → out ≡ octe
 pub data Written (over : Over) (m : List ℕ) (query : Query) (reply : Message) (out : List ℕ) : Type 0 where
   whole : ¬ (IsTooLong reply) → IsSent over query (octets_with query.octets reply) out → Written over m query reply out
   too_long : IsTooLong reply → out ≡ fault_octets m 2 → Written over m query reply out
+
+-- These octets go out for the reply to a query with this head and these sections.
+abbrev pub WritesReply : {A : Type 0} → Over → List ℕ → Query → Head → Parts → Parts → Vec ℕ A → Type 0
+WritesReply over m query head answer authority out = Written over m query (lent_reply head query.question answer authority) out.items
 
 -- The reply that an answer gives to a query: these octets, or none if the answer is silence.
 abbrev pub Tells : Over → List ℕ → Query → Answer → Option (List ℕ) → Type 0

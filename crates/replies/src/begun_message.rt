@@ -2,7 +2,7 @@
 
 ghost use Rattle.std.specs.Prelude.{◌≡◌, ◌↔◌, ◌<◌, ◌≤◌, ◌++◌, [], None, length, vec_capacity, IfSome, IsNone, OnErr, OnOk};
 ghost use Rattle.replies.specs.declared.limits.TheConstants.{MOST_MESSAGE};
-ghost use Rattle.replies.specs.Framing.{framed, HasLength};
+ghost use Rattle.replies.specs.Framing.{framed, TakesMessage};
 ghost use Rattle.replies.specs.Wanting.{framed_size, octets_wanting, IsWholeFrame};
 
 use crate::framing::{octets_wanting, size_of};
@@ -113,7 +113,7 @@ impl BegunMessage {
 
     /// Takes the message, if it has come whole. Then nothing of the next one has come.
     pub fn take(&mut self, alloc: Global) -> Option<WholeMessage>
-        ensures whole { IfSome result (λ message. (self.old.octets.items ≡ framed message) × HasLength message × (self.new.octets.items ≡ [])) }
+        ensures whole { IfSome result (TakesMessage self.old.octets.items self.new.octets.items) }
         ensures kept { result ≡ None → self.new ≡ self.old }
         ensures part { length self.new.octets.items < framed_size self.new.octets.items }
     {

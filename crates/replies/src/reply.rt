@@ -4,14 +4,13 @@ ghost use Rattle.std.specs.Prelude.{◌≡◌, true, false, ◌<◌, ◌≤◌, 
 ghost use Rattle.std.specs.List.{AllByRecursion};
 ghost use Rattle.dns_query.specs.declared.over.Over.TheVariants.{Udp};
 ghost use Rattle.dns_wire.specs.declared.server.query.Asked.TheVariants.{Good};
-ghost use Rattle.dns_wire.specs.Lent.{lent_reply};
 ghost use Rattle.dns_wire.specs.Server.Asking.{AsksFor};
 ghost use Rattle.dns_wire.specs.WellFormed.{HasItsForm, IsHead};
 ghost use Rattle.iterate.specs.Told.{IsFit};
 ghost use Rattle.replies.specs.declared.limits.TheConstants.{MOST_MESSAGE};
 ghost use Rattle.replies.specs.Lending.{answer_parts, authority_parts};
 ghost use Rattle.replies.specs.Sizing.{IsCutReply, MustBeCut};
-ghost use Rattle.replies.specs.Reply.{fault_octets, head_told, most_octets, IsSent, Tells, Written};
+ghost use Rattle.replies.specs.Reply.{fault_octets, head_told, most_octets, IsSent, Tells, WritesReply};
 
 use crate::lending::{AnswerSection, AuthoritySection};
 use crate::sizing::must_be_cut;
@@ -126,8 +125,7 @@ fn write_reply<A: Section, B: Section>(
     requires answer { AllByRecursion (AllByRecursion HasItsForm) (A.parts answer.now) }
     requires authority { AllByRecursion (AllByRecursion HasItsForm) (B.parts authority.now) }
     ensures short { IfOk result (λ out. length out.items ≤ most_octets over) }
-    ensures written { IfOk result (λ out.
-        Written over octets.now query.now (lent_reply head.now query.now.question (A.parts answer.now) (B.parts authority.now)) out.items) }
+    ensures written { IfOk result (WritesReply over octets.now query.now head.now (A.parts answer.now) (B.parts authority.now)) }
 {
     match encode_lent(buffer, query, head, answer, authority) {
         Ok(out) => Ok(cut(over, query, out)),
