@@ -51,7 +51,12 @@ def check_unit(checks):
     checks.equal("the systemd unit", (done.returncode, done.stdout, done.stderr), (0, b"", b""))
 
 
-def check_commands(checks, name, starting, stopping, waiting=None):
+def environment_of(word, text):
+    """The environment that lines which begin with a word set."""
+    return dict(re.findall(rf"^{word}(\w+)=(.*)$", text, re.MULTILINE))
+
+
+def check_commands(checks, name, environment, starting, stopping, waiting=None):
     """Runs the command line that starts the service and the one that stops it, at free ports. A third waits until it is ready."""
     ports = {":53": free_port(), ":8953": free_port()}
 
@@ -63,7 +68,7 @@ def check_commands(checks, name, starting, stopping, waiting=None):
     if waiter:
         time.sleep(0.5)
         checks.equal(f"{name}: before it starts it is not ready", waiter.poll(), None)
-    with subprocess.Popen(here(starting), stdout=subprocess.PIPE, stderr=subprocess.PIPE, env={}) as service:
+    with subprocess.Popen(here(starting), stdout=subprocess.PIPE, stderr=subprocess.PIPE, env=environment) as service:
         try:
             checks.equal(f"{name}: it starts", service.stdout.readline(), b"ready\n")
             if waiter:
@@ -84,11 +89,13 @@ def main():
     check_unit(checks)
     unit = dict(re.findall(r"^(ExecStart|ExecStartPost|ExecStop)=(.*)$", packaged("resolver.service"), re.MULTILINE))
     words = [shlex.split(unit[name]) for name in ("ExecStart", "ExecStop", "ExecStartPost")]
-    check_commands(checks, "the systemd unit", *words)
     image = packaged("Containerfile")
+    set_by_unit, set_by_image = environment_of("Environment=", packaged("resolver.service")), environment_of("ENV ", image)
+    checks.equal("the environment of the unit and the image", set_by_unit, set_by_image)
+    check_commands(checks, "the systemd unit", set_by_unit, *words)
     starting = [json.loads(re.search(rf"^{word} (.*)$", image, re.MULTILINE)[1]) for word in ("ENTRYPOINT", "CMD")]
     stopping = re.search(r"exec resolver resolver (control .* stop)$", image, re.MULTILINE)[1].split()
-    check_commands(checks, "the image", sum(starting, []), [PROGRAM, *stopping])
+    check_commands(checks, "the image", set_by_image, sum(starting, []), [PROGRAM, *stopping])
     checks.end()
 
 
