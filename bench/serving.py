@@ -22,6 +22,9 @@ from unbound import configured
 # The descriptors that unbound needs for its questions in flight. Each program gets as many, or as many as it may have.
 DESCRIPTORS = min(8_192, resource.getrlimit(resource.RLIMIT_NOFILE)[1])
 
+# What a program of ours gets of the environment: the settings of the C library's heap, which packages set.
+SETTINGS = {name: value for name, value in os.environ.items() if name == "GLIBC_TUNABLES"}
+
 # The builds of the resolver: the one that is measured, and an earlier one.
 OURS = ("ours", "before")
 
@@ -165,6 +168,7 @@ class Programs:
         if who in OURS:
             hint = f"{HOST}@{late}"
             given = ["--udp", str(workers), *options]
+            environment = {**SETTINGS, **(environment or {})}
             with Service([hint], *given, environment=environment, most_descriptors=DESCRIPTORS, program=self.builds[who]) as service:
                 yield service.port, [service.process.pid], service.control_port
             return
