@@ -11,6 +11,7 @@ use Rattle.history.specs.declared.event.Reply.{Reply}
 use Rattle.history.specs.Answers.{Answers, Follows, history_after}
 use Rattle.history.specs.History.{past_of}
 use Rattle.world_book.specs.Book.{IsByLimit}
+use Rattle.world_book.specs.Step.{SweepsAll}
 use Rattle.world_book.specs.Versions.{count_pairs, pairs_left, AreAliveAfter, ForgetsOldest}
 use Rattle.store.specs.Sweep.{turn_of_sweep}
 
@@ -36,10 +37,11 @@ IsByLimitAt by book event fault = IsByLimit (by.stands_for book) (by.stored book
 abbrev pub IsUntimelyIfFree : {B A : Type 0} → Ghosts B → B → Event → Result A StepFault → Type 0
 IsUntimelyIfFree by book event answer = by.is_free book event → IfErr answer (λ fault. (fault ≡ BadMoment) ⊎ (fault ≡ CountEnded))
 
--- If the event forgets the name to forget first, the book stores fewer cells after it.
-abbrev pub ForgetsForRoom : {B : Type 0} → Ghosts B → B → Event → B → Type 0
-ForgetsForRoom by book event book' =
-    (h : List Event) → by.stands_for book h → ForgetsOldest (past_of (by.settings book).journal h) event → by.stored book' < by.stored book
+-- If the event forgets the name to forget first, the book stores fewer cells after it. If it is a sweep, nothing is left to sweep.
+abbrev pub MakesRoomAt : {B : Type 0} → Ghosts B → B → Event → B → Type 0
+MakesRoomAt by book event book' =
+    ((h : List Event) → by.stands_for book h → ForgetsOldest (past_of (by.settings book).journal h) event → by.stored book' < by.stored book)
+    × SweepsAll event (by.unswept book')
 
 -- ---- what two books have in common
 

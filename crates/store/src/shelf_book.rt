@@ -4,7 +4,7 @@ ghost use Rattle.std.specs.Prelude.{◌≡◌, ◌≤◌, ◌+◌, ◌^◌, ◌�
 ghost use Rattle.history.specs.Event.{AreSettings, lagging_of};
 ghost use Rattle.history.specs.Fresh.{FreshBook};
 ghost use Rattle.store.specs.Calls.{FitsJournal, FitsVersions};
-ghost use Rattle.store.specs.ShelfBook.{cells_of, commands_of, names_of, reaching_of, seed_of, versions_of};
+ghost use Rattle.store.specs.ShelfBook.{CountsOnlyNeeded, cells_of, commands_of, names_of, reaching_of, seed_of, versions_of};
 
 use crate::store::{Store, StoreChange};
 use cell_store::NameSeed;
@@ -177,7 +177,7 @@ impl ShelfBook {
 impl Book for ShelfBook {
     ghost use Rattle.std.proofs.Common.{◌≡◌, ◌≤◌, sym, ◌∙◌};
     ghost use Rattle.std.specs.Prelude.{ℕ, true, false, OnOk, OnErr, IfErr, IsErrOf};
-    ghost use Rattle.store.specs.Calls.{AnswersEach, FollowsEach, StandsAfter, IsByLimitAt, IsUntimelyIfFree, ForgetsForRoom};
+    ghost use Rattle.store.specs.Calls.{AnswersEach, FollowsEach, StandsAfter, IsByLimitAt, IsUntimelyIfFree, MakesRoomAt};
     ghost use Rattle.store.specs.Calls.{StandsStill, StoresAsMany, HasSettingsOf};
     ghost use Rattle.store.specs.Calls.{HasLessToSweep, SweepsOneTurn, IsShortSweep};
     ghost use Rattle.store.specs.Calls.{FitsLimit, FitsAdmitted, CoversAlive};
@@ -213,8 +213,8 @@ impl Book for ShelfBook {
         // pair is alive in some version need no memory.
         ensures free { IsUntimelyIfFree ⟦<WorldBook<StoreChange> as Book>⟧ self.old.book event result }
 
-        // A forget of the name to forget first at its moment makes room: fewer cells are stored after it.
-        ensures room { OnOk result (ForgetsForRoom ⟦<WorldBook<StoreChange> as Book>⟧ self.old.book event self.new.book) }
+        // A forget of the name to forget first at its moment makes room: fewer cells are stored after it. A sweep leaves nothing to sweep.
+        ensures room { OnOk result (MakesRoomAt ⟦<WorldBook<StoreChange> as Book>⟧ self.old.book event self.new.book) }
     {
         match self.book.step(event) {
             Ok(reply) => Ok(reply),
@@ -255,6 +255,9 @@ impl Book for ShelfBook {
 
         // It is one turn, so it is short, however much has expired.
         ensures short { SweepsOneTurn ⟦<WorldBook<StoreChange> as Book>⟧ self.old.book self.new.book }
+
+        // If nothing is left, each cell that counts is needed: a find about it is alive by some choice of the kept commands.
+        ensures needed { result ≡ false → CountsOnlyNeeded self.new }
     {
         self.book.sweep_some()
     }

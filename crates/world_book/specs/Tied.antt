@@ -19,7 +19,7 @@ use Rattle.history.specs.Oldest.{IsOldest}
 use Rattle.history.specs.Reply.{reply_of}
 use Rattle.world_book.specs.Deeds.{deeds_of, given_in, given_tickets, empty_face}
 use Rattle.world_book.specs.Removals.{IsRemoval}
-use Rattle.world_book.specs.Step.{ForgetsPairs}
+use Rattle.world_book.specs.Step.{ForgetsPairs, SweepsAll}
 use Rattle.world_book.specs.Versions.{table_of, IsFreeWhere}
 
 -- The kept changes are commands of the past, each with its ticket.
@@ -108,6 +108,7 @@ MakesRoom by (Forget moment owner) world changes world' =
     (bound : ℕ) (past : Past) → IsTied by world changes bound past → IsOldest past (max past.now moment) (Some owner) → by.stored world' < by.stored world
 MakesRoom by event world changes world' = Unit {0}
 
--- After a forget, no pair of its owner counts, and fewer cells are stored if it forgot the name to forget first.
-abbrev pub ForgetsName : {W S : Type 0} → Ghosts W Tables S Command → Event → W → Changes S → W → Type 0
-ForgetsName by event world changes world' = ForgetsPairs by event world' × MakesRoom by event world changes world'
+-- After a forget, no pair of its owner counts, and fewer cells are stored if it forgot the name to forget first. After a sweep, nothing is left to sweep at the clock.
+abbrev pub Discards : {W S : Type 0} → Ghosts W Tables S Command → ℕ → Event → W → Changes S → W → Type 0
+Discards by clock event world changes world' =
+    ForgetsPairs by event world' × MakesRoom by event world changes world' × SweepsAll event (by.unswept world' clock)

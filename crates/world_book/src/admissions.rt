@@ -70,6 +70,7 @@ pub(crate) fn sweep<C: BookChange>(journal: &Journal<C>, world: &mut C::World, c
     requires { IsSound C.World.World world.old journal.now }
     ensures tied { TakesInAt C.World.World clock Sweep world.old journal.now world.new journal.now }
     ensures sound { IsSoundAfter C.World.World 0 [] world.old journal.now world.new journal.now }
+    ensures none { C.World.unswept world.new clock ≡ 0 }
 {
     let _ = journal;
     world.sweep(clock);

@@ -124,7 +124,7 @@ impl<C: BookChange> Book for WorldBook<C> {
     ghost use Rattle.change_law.specs.Pairs.{count_pairs, AreNeeded};
     ghost use Rattle.history.specs.declared.event.Event.{Event};
     ghost use Rattle.history.specs.Answers.{Answers, Follows};
-    ghost use Rattle.world_book.specs.Book.{CoversAlive, ForgetsForRoom, IsBookOf, IsByLimitAt, IsFreeAt, IsUntimely, StandsAfter};
+    ghost use Rattle.world_book.specs.Book.{CoversAlive, IsBookOf, IsByLimitAt, IsFreeAt, IsUntimely, MakesRoomAt, StandsAfter};
     ghost use Rattle.world_book.specs.Versions.{pairs_left};
 
     ghost stands_for = { IsBookOf C.World.World };
@@ -159,8 +159,8 @@ impl<C: BookChange> Book for WorldBook<C> {
         // An event that needs no memory is refused only by the clock and the count of events.
         ensures free { IsFreeAt C.World.World self.old event → IfErr result IsUntimely }
 
-        // A forget of the name to forget first at its moment makes room: fewer cells are stored after it.
-        ensures room { OnOk result (ForgetsForRoom C.World.World self.old event self.new) }
+        // A forget of the name to forget first at its moment makes room: fewer cells are stored after it. A sweep leaves nothing to sweep.
+        ensures room { OnOk result (MakesRoomAt C.World.World self.old event self.new) }
     {
         if event.moment() >= MOMENT_END {
             return Err(StepFault::BadMoment);

@@ -2,7 +2,7 @@
 
 ghost use Rattle.std.specs.Prelude.{◌<◌, ◌^◌, IfOk, IfErr, OnOk, OnErr};
 ghost use Rattle.world_book.specs.Step.{IsSound, IsSoundAfterEvent, IsFaultOf};
-ghost use Rattle.world_book.specs.Tied.{ForgetsName, GainsNeeds, IsHistoryReply, IsTakenIfFree, TakesIn, TakesNothingIn};
+ghost use Rattle.world_book.specs.Tied.{Discards, GainsNeeds, IsHistoryReply, IsTakenIfFree, TakesIn, TakesNothingIn};
 
 use crate::admissions::{admit, forget, sweep};
 use crate::obey_command::give;
@@ -29,7 +29,7 @@ pub(crate) fn obey<C: BookChange>(
     ensures faults { IfErr result (λ fault. IsFaultOf C.World.World world.old event fault) }
     ensures free { IsTakenIfFree C.World.World clock event world.old journal.old result }
     ensures sound { IsSoundAfterEvent C.World.World event world.old journal.old world.new journal.new }
-    ensures forgotten { OnOk result (ForgetsName C.World.World event world.old journal.old world.new) }
+    ensures gone { OnOk result (Discards C.World.World clock event world.old journal.old world.new) }
     ensures needs { OnOk result (GainsNeeds C.World.World event world.old journal.old journal.new) }
 {
     // It is called for its clause `sound`: the kept commands are in order, and those that are undone are marked.

@@ -6,9 +6,9 @@ use Rattle.history.specs.Event.{moment_of}
 use Rattle.history.specs.Reply.{reply_of}
 use Rattle.change_law.specs.Pairs.{pair_of}
 use Rattle.history.specs.declared.event.Event.TheVariants.{Undo, Redo, UndoOf, RedoOf}
-use Rattle.world_book.specs.Step.{ForgetsPairs, IsFaultOf}
+use Rattle.world_book.specs.Step.{IsFaultOf}
 use Rattle.world_book.specs.Versions.{IsAliveInVersion}
-use Rattle.world_book.specs.Tied.{GainsNeeds, IsFreeBy, IsHistoryReply, MakesRoom, TakesIn}
+use Rattle.world_book.specs.Tied.{Discards, GainsNeeds, IsFreeBy, IsHistoryReply, TakesIn}
 use Rattle.world_book.proofs.NeedLaws.{keeps_needs}
 use Rattle.world_book.proofs.TiedLaws.{tied_look}
 use Rattle.world_book.proofs.VersionLaws.{alive_in_face, no_memory, redo_free, undo_free, undo_needs_none}
@@ -39,10 +39,10 @@ pub returns-in-Forget-clause-tied : goal.returns-in-Forget-clause-tied
 returns-in-Forget-clause-tied g c =
     subst (λ (e : Event). TakesIn g.C.World.World c.args.clock e c.args.world.now c.args.journal.now c.forget.new.world c.args.journal.now) (sym c.in-Forget.is) (c.forget.ensures.tied c.args.clock c.in-Forget.moment)
 
-pub returns-in-Forget-clause-forgotten : goal.returns-in-Forget-clause-forgotten
-returns-in-Forget-clause-forgotten g c =
-    subst (λ (e : Event). ForgetsPairs g.C.World.World e c.forget.new.world × MakesRoom g.C.World.World e c.args.world.now c.args.journal.now c.forget.new.world) (sym c.in-Forget.is)
-    (c.forget.ensures.gone, c.forget.ensures.room c.in-Forget.moment)
+pub returns-in-Forget-clause-gone : goal.returns-in-Forget-clause-gone
+returns-in-Forget-clause-gone g c =
+    subst (λ (e : Event). Discards g.C.World.World c.args.clock e c.args.world.now c.args.journal.now c.forget.new.world) (sym c.in-Forget.is)
+    (c.forget.ensures.gone, c.forget.ensures.room c.in-Forget.moment, tt)
 
 pub returns-in_ok-give-in-Do-clause-told : goal.returns-in_ok-give-in-Do-clause-told
 returns-in_ok-give-in-Do-clause-told g c =

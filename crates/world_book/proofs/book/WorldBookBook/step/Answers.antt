@@ -20,13 +20,13 @@ returns-in-Ok-clause-stands g c =
     let j = c.self.inside in
     let book : BookState g.row.C-World.Denot g.row.C-World-Saved.Denot = record { world = j.world; changes = j.journal; settings = j.settings; moment = j.moment; count = j.count } in
     let is : c.max-clock.result ≡ max j.moment (moment_of c.args.event) = c.max-clock.ensures ∙ ap (λ (m : ℕ). max j.moment m) c.moment-2.ensures in
-    rw (← c.self.view_is) (goes_on g.C.World.World book c.obey.new.world c.obey.new.journal c.max-clock.result c.args.event is c.in-Ok.ensures.tied c.in-Ok.ensures.sound.stored c.in-Ok.ensures.sound.limit c.in-Ok.ensures.sound.pairs c.in-Ok.ensures.forgotten.0 c.in-Ok.ensures.needs)
+    rw (← c.self.view_is) (goes_on g.C.World.World book c.obey.new.world c.obey.new.journal c.max-clock.result c.args.event is c.in-Ok.ensures.tied c.in-Ok.ensures.sound.stored c.in-Ok.ensures.sound.limit c.in-Ok.ensures.sound.pairs c.in-Ok.ensures.gone.0 c.in-Ok.ensures.needs)
 
 pub returns-in-Ok-clause-room : goal.returns-in-Ok-clause-room
 returns-in-Ok-clause-room g c =
     let j = c.self.inside in
     let book : BookState g.row.C-World.Denot g.row.C-World-Saved.Denot = record { world = j.world; changes = j.journal; settings = j.settings; moment = j.moment; count = j.count } in
-    rw (← c.self.view_is) (room_made g.C.World.World book c.obey.new.world c.args.event c.in-Ok.ensures.forgotten.1)
+    rw (← c.self.view_is) (room_made g.C.World.World book c.obey.new.world c.args.event c.in-Ok.ensures.gone.1, c.in-Ok.ensures.gone.2)
 
 pub returns-in-Err-clause-stands : goal.returns-in-Err-clause-stands
 returns-in-Err-clause-stands g c =
