@@ -3,7 +3,7 @@ use Rattle.std.proofs.Common.{◌≡◌, ◌≢◌, ◌∙◌, ◌≤◌, ◌+�
 use Rattle.std.specs.Prelude.{◌-◌}
 use Rattle.std.proofs.lemmas.Bool.{cases_eq}
 use Rattle.std.proofs.lemmas.List.{get_or_past}
-use Rattle.flight.specs.Bounds.{AllGoOn, IsWithin, KeepsMost, MayKeep, kept_by, kept_of}
+use Rattle.flight.specs.Bounds.{AllGoOn, EachKeepsAtMost, IsWithin, KeepsMost, MayKeep, kept_by, kept_of}
 use Rattle.flight.specs.Waiting.{FlightState, UnderWay, exchange_at}
 use Rattle.flight.proofs.Summing.{one_summed, part_of_sum, zero_summed}
 
@@ -37,6 +37,13 @@ module _ (old new : List (Option UnderWay)) (key : ℕ) (exchange : UnderWay) (o
       | inr differs ↦ omega (arith, within.each at, ap kept_of (others at differs))
     ];
   }
+
+  -- If it kept most, none that is left keeps more.
+  pub most_without : KeepsMost old key → get_or old key None ≡ Some exchange → get_or new key None ≡ None → EachKeepsAtMost exchange.kept new
+  most_without most was ended = λ at. elim (cases_eq at key) [
+    | inl same ↦ omega (arith, ap kept_of (ap (λ (k : ℕ). get_or new k None) same ∙ ended))
+    | inr differs ↦ omega (arith, most at, ap kept_of was, ap kept_of (others at differs))
+  ]
 
 -- One keeps no more than all.
 pub no_more_than_all : (exchanges : List (Option UnderWay)) (key kept : ℕ) (exchange : UnderWay) → IsWithin exchanges kept → get_or exchanges key None ≡ Some exchange → exchange.kept ≤ kept

@@ -1,9 +1,11 @@
 -- Whether a question may begin an exchange, for contracts inside the crate.
-use Rattle.std.specs.Prelude.{◌≡◌, ◌<◌, ◌+◌, ℕ, max, Option, List, Result, IfErr, OnOk}
+use Rattle.std.specs.Prelude.{◌<◌, ◌+◌, ℕ, max, Option, List, Result, IfErr, OnOk}
 use Rattle.flight.specs.declared.asking.Asking.{Asking}
-use Rattle.flight.specs.declared.cause.Cause.{Cause}
-use Rattle.flight.specs.declared.cause.Unserved.TheVariants.{TooLarge, TooLong, TooMany}
+use Rattle.flight.specs.declared.cause.Unserved.{Unserved}
+use Rattle.flight.specs.declared.cause.Unserved.TheVariants as told
 use Rattle.flight.specs.declared.table.Asker.{Asker}
+use Rattle.flight.specs.declared.table.Denied.{Denied}
+use Rattle.flight.specs.declared.table.Denied.TheVariants.{NoMemory, TooLarge, TooLong, TooMany}
 use Rattle.flight.specs.declared.table.TheConstants.{LAST_BEGINNING}
 use Rattle.flight.specs.Asking.{origin_in}
 use Rattle.flight.specs.Bounds.{KeepsTooMuch}
@@ -19,17 +21,24 @@ HasPlaceNow network now asking latest asker exchanges limit = HasPlace (max now 
 abbrev pub MayBeginNow : {G K : Type 0} → (K → ℕ) → ℕ → Asking G K → ℕ → Asker → List (Option UnderWay) → ℕ → Type 0
 MayBeginNow network now asking latest asker exchanges limit = MayBegin (max now latest) (origin_in network asking) asker (kept_in asking.task.steps.items) exchanges limit
 
--- The cause for which it may not was shown to be so: there is no place, its time is up, or it keeps too much.
-abbrev pub IsShown : {G K : Type 0} → (K → ℕ) → ℕ → Asking G K → ℕ → Asker → List (Option UnderWay) → ℕ → Cause → Type 0
-IsShown network now asking latest asker exchanges limit cause =
-    (cause.why ≡ TooMany → ¬ (HasPlaceNow network now asking latest asker exchanges limit))
-    × (cause.why ≡ TooLong → asking.began + LAST_BEGINNING < max now latest)
-    × (cause.why ≡ TooLarge → KeepsTooMuch (kept_in asking.task.steps.items) exchanges)
+-- The reason for which it may not was shown to be so: its time is up, there is no place, or it keeps too much. A call alone can say that there is no memory.
+abbrev pub IsShown : {G K : Type 0} → (K → ℕ) → ℕ → Asking G K → ℕ → Asker → List (Option UnderWay) → ℕ → Denied → Type 0
+IsShown network now asking latest asker exchanges limit TooLong = asking.began + LAST_BEGINNING < max now latest
+IsShown network now asking latest asker exchanges limit TooMany = ¬ (HasPlaceNow network now asking latest asker exchanges limit)
+IsShown network now asking latest asker exchanges limit TooLarge = KeepsTooMuch (kept_in asking.task.steps.items) exchanges
+IsShown network now asking latest asker exchanges limit (NoMemory refused) = Unit {0}
+
+-- the reason that its client is told
+abbrev pub why_of : Denied → Unserved
+why_of TooLong = told.TooLong
+why_of TooMany = told.TooMany
+why_of TooLarge = told.TooLarge
+why_of (NoMemory refused) = told.NoMemory
 
 -- If room was made for a question, it may begin an exchange at such a moment.
 abbrev pub BeginsIfItMay : {A E G K : Type 0} → Result A E → (K → ℕ) → ℕ → Asking G K → ℕ → Asker → List (Option UnderWay) → ℕ → Type 0
 BeginsIfItMay result network now asking latest asker exchanges limit = OnOk result (MayBeginNow network now asking latest asker exchanges limit)
 
--- If a question was refused, the cause was shown to be so.
-abbrev pub RefusesForCause : {A G K : Type 0} → Result A Cause → (K → ℕ) → ℕ → Asking G K → ℕ → Asker → List (Option UnderWay) → ℕ → Type 0
-RefusesForCause result network now asking latest asker exchanges limit = IfErr result (IsShown network now asking latest asker exchanges limit)
+-- If a question may not wait, the reason was shown to be so.
+abbrev pub DeniesForReason : {A G K : Type 0} → Result A Denied → (K → ℕ) → ℕ → Asking G K → ℕ → Asker → List (Option UnderWay) → ℕ → Type 0
+DeniesForReason result network now asking latest asker exchanges limit = IfErr result (IsShown network now asking latest asker exchanges limit)

@@ -34,6 +34,10 @@ KeepsTooMuch kept exchanges = (MOST_KEPT < kept) ⊎ (MOST_ALL_KEPT < kept_by ex
 abbrev pub EachIsSmall : List (Option UnderWay) → Type 0
 EachIsSmall exchanges = (key : ℕ) → kept_of (slice_index_or exchanges key None) ≤ MOST_KEPT
 
+-- No question keeps more than so much.
+abbrev pub EachKeepsAtMost : ℕ → List (Option UnderWay) → Type 0
+EachKeepsAtMost most exchanges = (key : ℕ) → kept_of (slice_index_or exchanges key None) ≤ most
+
 -- Together they keep just so much, which is no more than all may. Each keeps no more than one may.
 pub record IsWithin (exchanges : List (Option UnderWay)) (kept : ℕ) : Type 0 where
   pub sum : kept ≡ kept_by exchanges

@@ -87,8 +87,8 @@ impl<D: Numbered, L: InFlight, C: Clock, G: Rng, K: Client> Flight<D, L, C, G, K
         ensures heeds { HeedsLook D.calls O.outbox query.question desk.old self.old sockets.old desk.new self.new sockets.new }
     {
         if desk.seen() < client.since() {
-            let cause = Cause::behind(desk, &client);
-            sockets.fail(client, octets, cause);
+            let cause = Cause::behind(desk, client);
+            sockets.fail(cause, octets);
             drop(query);
             return;
         }
@@ -96,7 +96,7 @@ impl<D: Numbered, L: InFlight, C: Clock, G: Rng, K: Client> Flight<D, L, C, G, K
         let look = match first_look(&query.question, moment) {
             Ok(look) => look,
             Err(refused) => {
-                sockets.fail(client, octets, Cause::no_memory(refused));
+                sockets.fail(Cause::no_memory(refused, client), octets);
                 drop(query);
                 return;
             }
@@ -152,7 +152,7 @@ impl<D: Numbered, L: InFlight, C: Clock, G: Rng, K: Client> Flight<D, L, C, G, K
                 );
             }
             Err(refused) => {
-                sockets.fail(client, octets, Cause::no_memory(refused));
+                sockets.fail(Cause::no_memory(refused, client), octets);
                 drop(came);
                 drop(query);
             }
@@ -187,7 +187,7 @@ impl<D: Numbered, L: InFlight, C: Clock, G: Rng, K: Client> Flight<D, L, C, G, K
         let task = match WorkerTask::begun(self.alloc, &query.question, port, moment) {
             Ok(task) => task,
             Err(refused) => {
-                sockets.fail(client, octets, Cause::no_memory(refused));
+                sockets.fail(Cause::no_memory(refused, client), octets);
                 return;
             }
         };

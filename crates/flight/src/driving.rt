@@ -61,6 +61,7 @@ impl<D: Numbered, L: InFlight, C: Clock, G: Rng, K: Client> Flight<D, L, C, G, K
 
     /// Goes on with a question whose exchange ended, by what was heard of it (nothing if its time was up). The desk and the
     /// port must be those with which the question began: a caller that passes others gets SERVFAIL for its client.
+    #[tactic(auto, using(crate::proofs::Answering::is_good))]
     pub(crate) fn go_on<O: Sockets<D, L, C, K>>(
         &mut self,
         desk: &mut D,
@@ -93,8 +94,7 @@ impl<D: Numbered, L: InFlight, C: Clock, G: Rng, K: Client> Flight<D, L, C, G, K
             HeardOrRefused::Nothing => Input::Failed,
             HeardOrRefused::Broken => Input::Failed,
             HeardOrRefused::NoMemory(refused) => {
-                let cause = Cause::no_memory(refused);
-                refuse::<D, L, C, G, K, O>(sockets, asking, octets.as_slice(), cause);
+                refuse::<D, L, C, G, K, O>(sockets, asking, octets.as_slice(), refused);
                 return;
             }
             HeardOrRefused::Anew => {
@@ -103,8 +103,8 @@ impl<D: Numbered, L: InFlight, C: Clock, G: Rng, K: Client> Flight<D, L, C, G, K
             }
         };
         if desk.seen() < asking.seen || sockets.server_port() != asking.port {
-            let cause = Cause::elsewhere::<D, L, C, G, K, O>(desk, sockets, &asking);
-            refuse::<D, L, C, G, K, O>(sockets, asking, octets.as_slice(), cause);
+            let cause = Cause::elsewhere::<D, L, C, G, O>(desk, sockets, asking);
+            sockets.fail(cause, octets.as_slice());
             return;
         }
         self.drive(desk, sockets, now, asking, octets.as_slice(), input);
@@ -135,8 +135,7 @@ impl<D: Numbered, L: InFlight, C: Clock, G: Rng, K: Client> Flight<D, L, C, G, K
             let want = match asking.task.step(moment, &mut self.ids, input) {
                 Ok(want) => want,
                 Err(refused) => {
-                    let cause = Cause::no_memory(refused);
-                    refuse::<D, L, C, G, K, O>(sockets, asking, octets, cause);
+                    refuse::<D, L, C, G, K, O>(sockets, asking, octets, refused);
                     return;
                 }
             };
@@ -189,8 +188,9 @@ impl<D: Numbered, L: InFlight, C: Clock, G: Rng, K: Client> Flight<D, L, C, G, K
     {
         let room = match self.table.make_room(now, &asking, octets) {
             Ok(room) => room,
-            Err(cause) => {
-                refuse::<D, L, C, G, K, O>(sockets, asking, octets, cause);
+            Err(denied) => {
+                let cause = Cause::denied(&self.table, now, asking, denied);
+                sockets.fail(cause, octets);
                 return None;
             }
         };

@@ -107,7 +107,7 @@ impl<D: Numbered, L: InFlight, C: Clock, G: Rng, K: Client> Flight<D, L, C, G, K
         let asked = match read_question(self.alloc, octets) {
             Ok(asked) => asked,
             Err(refused) => {
-                sockets.fail(client, octets, Cause::no_memory(refused));
+                sockets.fail(Cause::no_memory(refused, client), octets);
                 return;
             }
         };
@@ -216,10 +216,9 @@ impl<D: Numbered, L: InFlight, C: Clock, G: Rng, K: Client> Flight<D, L, C, G, K
         ensures unexpired { (O.counts sockets.new).expired ≡ (O.counts sockets.old).expired }
     {
         let key = self.table.largest();
-        let cause = Cause::keeps_most(&self.table, key);
         let Some(job) = self.table.take(key) else {
             unreachable!()
         };
-        give_up::<D, L, C, G, K, O>(sockets, job, cause);
+        give_up::<D, L, C, G, K, O>(&self.table, sockets, job);
     }
 }

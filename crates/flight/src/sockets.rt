@@ -150,11 +150,12 @@ pub trait Sockets<D: Numbered, L: InFlight, C: Clock, K: Client> {
         requires short { length (octets_of reply) ≤ most_octets (K.over client) }
         ensures { Settles server_port counts outbox posts client (Some (octets_of reply)) self.old self.new };
 
-    /// Sends a client SERVFAIL (RFC 1035, section 4.1.1, RCODE 2), by the header alone. Octets with a fault of their own never get it.
-    fn fail(&mut self, client: K, octets: &[u8], cause: Cause)
-        requires own { K.sent client octets.now }
+    /// Sends the client of a cause SERVFAIL (RFC 1035, section 4.1.1, RCODE 2), by the header alone. Octets with a fault of their own
+    /// never get it.
+    fn fail(&mut self, cause: Cause<K>, octets: &[u8])
+        requires own { K.sent cause.client octets.now }
         requires good { IsGood octets.now }
-        ensures { Settles server_port counts outbox posts client (Some (fault_octets octets.now 2)) self.old self.new };
+        ensures { Settles server_port counts outbox posts cause.client (Some (fault_octets octets.now 2)) self.old self.new };
 
     /// Drops a client that is owed no reply.
     fn pass_over(&mut self, client: K, octets: &[u8])

@@ -4,8 +4,7 @@ ghost use Rattle.std.specs.Prelude.{◌≡◌, ◌<◌, ◌≤◌, ◌+◌, ◌�
 ghost use Rattle.std.specs.Prelude.{IfOk, IfSome, IsTrue, OnOk, OnSome};
 ghost use Rattle.slab.specs.Slab.{HasRoomFor, Updates, get, slab_len};
 ghost use Rattle.std.specs.VecDeque.{deque_capacity, deque_len};
-ghost use Rattle.flight.specs.Asking.{WantsSend};
-ghost use Rattle.flight.specs.Beginning.{BeginsIfItMay, HasPlaceNow, RefusesForCause};
+ghost use Rattle.flight.specs.Beginning.{BeginsIfItMay, DeniesForReason, HasPlaceNow};
 ghost use Rattle.flight.specs.Bounds.{EachIsSmall, IsWithin, KeepsMost, KeepsTooMuch, MayKeep, kept_by, kept_of};
 ghost use Rattle.flight.specs.Kept.{kept_in};
 ghost use Rattle.flight.specs.Queue.{IsFirstDue, IsQueue, is_queued};
@@ -14,12 +13,11 @@ ghost use Rattle.flight.specs.Table.{AreInTime, AreTimely, CountsOneMore, FreesK
 ghost use Rattle.flight.specs.Waiting.{since_in, time_left};
 
 use crate::asking::Asking;
-use crate::cause::Cause;
 use crate::in_flight::InFlight;
 use crate::job::Job;
 use crate::kept::{MOST_ALL_KEPT, MOST_KEPT, kept_in};
 use crate::numbered::Numbered;
-use crate::refused::reserve;
+use crate::refused::{Refused, reserve};
 use crate::sockets::Client;
 use clock::{Clock, PATIENCE_SECONDS};
 use dns_text::Octets;
@@ -68,6 +66,19 @@ pub(crate) struct MadeRoom {
     pub(crate) octets: Octets,
     /// The octets that its steps keep.
     pub(crate) kept: usize,
+}
+
+/// The reason for which a question may not wait.
+#[derive(Drop)]
+pub(crate) enum Denied {
+    /// It began too long ago to begin an exchange now.
+    TooLong,
+    /// The table has no place for its exchange.
+    TooMany,
+    /// It keeps too much to wait beside those in the table.
+    TooLarge,
+    /// There is no memory.
+    NoMemory(Refused),
 }
 
 /// The questions that wait. All exchanges have the same patience, so the queue is in the order in which they began. It may
@@ -178,14 +189,13 @@ impl<D: Numbered, L: InFlight, C: Clock, G: Rng, K: Client> Table<D, L, C, G, K>
         now: u64,
         asking: &Asking<G, K>,
         octets: &[u8],
-    ) -> Result<MadeRoom, Cause>
-        requires { WantsSend D.calls D.seen L.hears C.ticks K.since asking.now }
+    ) -> Result<MadeRoom, Denied>
         ensures room { OnOk result (HasRoomFor self.new.jobs 1) }
         ensures queue_room { OnOk result (deque_len self.new.waits < deque_capacity self.new.waits) }
         ensures may_begin { BeginsIfItMay result K.network now asking.now self.old.latest self.new.asker
             self.old.jobs.slots self.old.limit }
-        ensures refused { RefusesForCause result K.network now asking.now self.old.latest self.new.asker
-            self.old.jobs.slots self.old.limit }
+        ensures denied { DeniesForReason result K.network now asking.now self.new.latest self.new.asker
+            self.new.jobs.slots self.new.limit }
         ensures takes { IfOk result (λ room. (room.octets ≡ octets.now) × (room.kept ≡ kept_in asking.now.task.steps.items)) }
         ensures jobs { self.new.jobs.slots ≡ self.old.jobs.slots }
         ensures waits { self.new.waits.items ≡ self.old.waits.items }
@@ -194,18 +204,18 @@ impl<D: Numbered, L: InFlight, C: Clock, G: Rng, K: Client> Table<D, L, C, G, K>
     {
         self.note(now, asking);
         if self.since(now).saturating_sub(asking.began) > LAST_BEGINNING {
-            return Err(Cause::too_long(self, now, asking));
+            return Err(Denied::TooLong);
         }
         if !self.has_place(now, asking) {
-            return Err(Cause::too_many(self, now, asking));
+            return Err(Denied::TooMany);
         }
         let kept = kept_in(asking.task.steps());
         if !self.may_keep(kept) {
-            return Err(Cause::too_large(self, asking));
+            return Err(Denied::TooLarge);
         }
         match reserve(self.alloc, octets, &mut self.waits, &mut self.jobs) {
             Ok(octets) => Ok(MadeRoom { octets, kept }),
-            Err(refused) => Err(Cause::no_memory(refused)),
+            Err(refused) => Err(Denied::NoMemory(refused)),
         }
     }
 

@@ -1,12 +1,13 @@
 //! The reply to a client.
 
-ghost use Rattle.std.specs.Prelude.{◌≡◌, ◌≢◌, Some, length};
+ghost use Rattle.std.specs.Prelude.{◌≡◌, ◌≢◌, ◌<◌, ◌+◌, Some, length};
 ghost use Rattle.dns_wire.specs.declared.server.query.Asked.TheVariants.{Fault, Good};
 ghost use Rattle.dns_wire.specs.Server.Asking.{AsksFor};
 ghost use Rattle.replies.specs.Reply.{fault_octets};
 ghost use Rattle.iterate.specs.declared.answer.Answer.TheVariants.{Silent};
 ghost use Rattle.iterate.specs.Told.{IsFit};
 ghost use Rattle.flight.specs.Asking.{AnswersAsking, IsAskedBy, LandsFor};
+ghost use Rattle.flight.specs.Bounds.{EachKeepsAtMost, kept_by};
 ghost use Rattle.flight.specs.Clients.{Settles, SettlesBy};
 ghost use Rattle.flight.specs.Flight.{Lands};
 ghost use Rattle.flight.specs.Leaving.{Ends};
@@ -16,10 +17,12 @@ use crate::asking::Asking;
 use crate::cause::Cause;
 use crate::in_flight::InFlight;
 use crate::job::Job;
+use crate::kept::MOST_AT_REST;
 use crate::numbered::Numbered;
-use crate::refused::write_answer;
+use crate::refused::{Refused, write_answer};
 use crate::reply::ReplyOctets;
 use crate::sockets::{Client, Sockets};
+use crate::table::Table;
 use clock::Clock;
 use dns_wire::{Query, Rcode, fault_reply};
 use iterate::Answer;
@@ -35,20 +38,21 @@ pub(crate) fn fault_of(octets: &[u8], rcode: Rcode) -> [u8; 12]
     fault_reply(octets, rcode).unwrap()
 }
 
-/// Sends a client SERVFAIL for a cause.
+/// Sends the client of a question SERVFAIL because there is no memory.
 pub(crate) fn refuse<D: Numbered, L: InFlight, C: Clock, G: Rng, K: Client, O: Sockets<D, L, C, K>>(
     sockets: &mut O,
     asking: Asking<G, K>,
     octets: &[u8],
-    cause: Cause,
+    refused: Refused,
 )
     requires asked { IsAskedBy K.sent asking.port octets.now asking.client asking.query asking.task }
     ensures { Settles O.server_port O.counts O.outbox O.posts asking.client (Some (fault_octets octets.now 2)) sockets.old sockets.new }
 {
-    sockets.fail(asking.client, octets, cause);
+    sockets.fail(Cause::no_memory(refused, asking.client), octets);
 }
 
-/// Ends a question that waits, because it keeps too much in memory: its exchange ends, and its client gets SERVFAIL.
+/// Ends a question that was taken out of the table, because it keeps most in memory while all that wait keep too much: its exchange
+/// ends, and its client gets SERVFAIL.
 pub(crate) fn give_up<
     D: Numbered,
     L: InFlight,
@@ -56,7 +60,9 @@ pub(crate) fn give_up<
     G: Rng,
     K: Client,
     O: Sockets<D, L, C, K>,
->(sockets: &mut O, job: Job<D, L, C, G, K>, cause: Cause)
+>(table: &Table<D, L, C, G, K>, sockets: &mut O, job: Job<D, L, C, G, K>)
+    requires much { MOST_AT_REST < kept_by table.now.jobs.slots + job.kept }
+    requires most { EachKeepsAtMost job.kept table.now.jobs.slots }
     ensures port { O.server_port sockets.new ≡ O.server_port sockets.old }
     ensures ends { Ends K.sent O.posts 0 1 (O.outbox sockets.old) 0 (O.outbox sockets.new) }
     ensures accounted { IsAccounted 0 1 (O.counts sockets.old) 0 (O.counts sockets.new) }
@@ -69,8 +75,9 @@ pub(crate) fn give_up<
         line,
         ..
     } = job;
+    let cause = Cause::keeps_most(table, asking);
     sockets.abandon(line);
-    sockets.fail(asking.client, octets.as_slice(), cause);
+    sockets.fail(cause, octets.as_slice());
 }
 
 /// Sends a client the answer to its question, which is no silence, or SERVFAIL if there is no memory to write it.
@@ -95,7 +102,7 @@ fn tell_reply<D: Numbered, L: InFlight, C: Clock, K: Client, O: Sockets<D, L, C,
     match write_answer(alloc, buffer, over, octets, query, answer) {
         Ok(Some(reply)) => sockets.give(client, octets, ReplyOctets::Message(reply)),
         Ok(None) => sockets.pass_over(client, octets),
-        Err(refused) => sockets.fail(client, octets, Cause::no_memory(refused)),
+        Err(refused) => sockets.fail(Cause::no_memory(refused, client), octets),
     }
 }
 

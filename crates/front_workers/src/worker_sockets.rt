@@ -378,6 +378,9 @@ impl<'a, D: Numbered, C: Clock, L: Log + Wait, R: ReadyNet, K: Client, B: ReplyS
     C,
     K,
 > for WorkerSockets<'a, L, R, B> {
+    ghost use Rattle.std.specs.Prelude.{Some};
+    ghost use Rattle.flight.specs.Clients.{Settles};
+    ghost use Rattle.dns_wire.specs.Server.Asking.{IsGood};
     ghost use Rattle.front_workers.specs.Asking.{PostsBy, SocketsState};
     ghost use Rattle.front_workers.specs.Noting.{LosesReplyTo, NotesAnswerTo, NotesHeardOf, NotesNothing};
     ghost use Rattle.front_workers.specs.Sockets.{sockets_of};
@@ -568,8 +571,14 @@ impl<'a, D: Numbered, C: Clock, L: Log + Wait, R: ReadyNet, K: Client, B: ReplyS
         self.counts.settle();
     }
 
-    fn fail(&mut self, client: K, octets: &[u8], cause: Cause) {
+    fn fail(&mut self, cause: Cause<K>, octets: &[u8])
+        requires own { K.sent cause.client octets.now }
+        requires good { IsGood octets.now }
+        ensures { Settles (λ sockets. sockets.server_port) (λ sockets. sockets.counts) sockets_of (PostsBy B.posts)
+            cause.client (Some (fault_octets octets.now 2)) self.old self.new }
+    {
         self.log(cause.why());
+        let client = cause.into_client();
         self.send_to(client, report_of(octets, Rcode::SERVER_FAILURE));
         self.counts.settle();
     }

@@ -2,6 +2,7 @@
 
 ghost use Rattle.std.specs.Prelude.{◌≡◌};
 ghost use Rattle.dns_query.specs.declared.over.Over.TheVariants.{Udp};
+ghost use Rattle.flight.specs.Counted.{CountsSettled};
 ghost use Rattle.flight.specs.Flight.{query_to};
 
 use crate::digest::Digest;
@@ -219,7 +220,10 @@ impl<D: Numbered> Sockets<D, Wire, SetClock, Asker> for Network {
         }
     }
 
-    fn fail(&mut self, client: Asker, _: &[u8], cause: Cause) {
+    fn fail(&mut self, cause: Cause<Asker>, _octets: &[u8])
+        ensures port { self.new.port ≡ self.old.port }
+        ensures settled { CountsSettled self.old.counts self.new.counts }
+    {
         let why = match cause.why() {
             Unserved::NoMemory => 1,
             Unserved::TooMany => 2,
@@ -227,6 +231,7 @@ impl<D: Numbered> Sockets<D, Wire, SetClock, Asker> for Network {
             Unserved::TooLong => 5,
             Unserved::TooLarge => 6,
         };
+        let client = cause.into_client();
         self.note(client.number, b"", why);
         self.counts.settle();
     }

@@ -245,7 +245,10 @@ impl<D: Numbered> Sockets<D, Wire, LineClock, Peer> for PlayedSockets {
         self.settle(b"reply ", client.number, reply.as_slice(), b"");
     }
 
-    fn fail(&mut self, client: Peer, _: &[u8], cause: Cause) {
+    fn fail(&mut self, cause: Cause<Peer>, _octets: &[u8])
+        ensures port { self.new.port ≡ self.old.port }
+        ensures settled { CountsSettled self.old.counts self.new.counts }
+    {
         let why = match cause.why() {
             Unserved::NoMemory => b"no_memory".as_slice(),
             Unserved::TooMany => b"too_many".as_slice(),
@@ -253,6 +256,7 @@ impl<D: Numbered> Sockets<D, Wire, LineClock, Peer> for PlayedSockets {
             Unserved::TooLarge => b"too_large".as_slice(),
             Unserved::Elsewhere => b"elsewhere".as_slice(),
         };
+        let client = cause.into_client();
         self.settle(b"failed ", client.number, b"", why);
     }
 

@@ -26,4 +26,4 @@ returns-in-Ok-None g c =
 
 pub returns-in-Err : goal.returns-in-Err
 returns-in-Err g c =
-    settles_behind (IsGiven (g.K.Client.over c.args.client) c.args.octets.now c.args.query.now c.args.answer.now) (inr (c.requires.loud, refl)) c.buffer-buffer.ensures.keeps c.buffer-buffer.ensures.counts c.fail.ensures
+    settles_behind (IsGiven (g.K.Client.over c.args.client) c.args.octets.now c.args.query.now c.args.answer.now) (inr (c.requires.loud, refl)) c.buffer-buffer.ensures.keeps c.buffer-buffer.ensures.counts (rw c.no_memory.ensures.client at c.fail.ensures)

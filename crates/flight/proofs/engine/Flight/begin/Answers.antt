@@ -16,7 +16,7 @@ pub give-requires-clause-short : goal.give-requires-clause-short
 give-requires-clause-short g c = rw c.fault_of.ensures.short (header_fits (g.K.Client.over c.args.client))
 
 pub returns-in-Err-clause-settles : goal.returns-in-Err-clause-settles
-returns-in-Err-clause-settles g c = settled_now _ _ _ _ _ _ c.requires.own refl c.fail.ensures
+returns-in-Err-clause-settles g c = settled_now _ _ _ _ _ _ c.requires.own refl (rw c.no_memory.ensures.client at c.fail.ensures)
 
 pub returns-in-Drop-clause-settles : goal.returns-in-Drop-clause-settles
 returns-in-Drop-clause-settles g c = settled_now _ _ _ _ _ _ c.requires.own refl c.pass_over.ensures

@@ -35,7 +35,7 @@ pub returns-in-Ok-Some-clause-settles : goal.returns-in-Ok-Some-clause-settles
 returns-in-Ok-Some-clause-settles g c = settled_now _ _ _ _ _ _ c.requires.own refl c.tell.ensures.2
 
 pub returns-in-Err-clause-settles : goal.returns-in-Err-clause-settles
-returns-in-Err-clause-settles g c = settled_now _ _ _ _ _ _ c.requires.own refl c.fail.ensures
+returns-in-Err-clause-settles g c = settled_now _ _ _ _ _ _ c.requires.own refl (rw c.no_memory.ensures.client at c.fail.ensures)
 
 pub returns-in-Ok-None-clause-settles : goal.returns-in-Ok-None-clause-settles
 returns-in-Ok-None-clause-settles g c = c.begin_task.ensures

@@ -9,10 +9,10 @@ pub begin_looked-requires-clause-looked : goal.begin_looked-requires-clause-look
 begin_looked-requires-clause-looked g c = looked_by _ _ c.in-Ok.ensures c.now-moment.ensures (rw c.since-seen.ensures at c.ask-came.ensures.answered)
 
 pub returns-then-seen-since-clause-settles : goal.returns-then-seen-since-clause-settles
-returns-then-seen-since-clause-settles g c = settled_now _ _ _ _ _ _ c.requires.own refl c.fail.ensures
+returns-then-seen-since-clause-settles g c = settled_now _ _ _ _ _ _ c.requires.own refl (rw c.behind-cause.ensures.client at c.fail.ensures)
 
 pub returns-in-Err-clause-settles : goal.returns-in-Err-clause-settles
-returns-in-Err-clause-settles g c = settled_now _ _ _ _ _ _ c.requires.own c.self.view_is c.fail-in-Err.ensures
+returns-in-Err-clause-settles g c = settled_now _ _ _ _ _ _ c.requires.own c.self.view_is (rw c.no_memory.ensures.client at c.fail-in-Err.ensures)
 
 pub returns-clause-settles : goal.returns-clause-settles
 returns-clause-settles g c = rw (← c.self.view_is) c.begin_looked.ensures.settles

@@ -1,7 +1,7 @@
 use Rattle.std.proofs.Common.{◌≢◌, ◌∙◌, ℕ, ap, map, refl, subst, sym, arith, inl}
 use Rattle.flight.specs.Bounds.{KeepsMost, kept_all}
 use Rattle.flight.specs.Waiting.{FlightState, exchange_at, outstanding, waiting_for}
-use Rattle.flight.proofs.Bounds.{none_kept}
+use Rattle.flight.proofs.Bounds.{most_without, none_kept}
 use Rattle.flight.proofs.Flights.{origins_then, taken_out}
 use Rattle.flight.proofs.Places.{joins_none_then}
 use Rattle.flight.proofs.Relieving.{accounted_by, ends_by}
@@ -13,11 +13,13 @@ unreachable-requires g c =
     let none = none_kept table.jobs.slots c.largest-key.result c.largest-key.ensures (sym c.in_default.ensures.job) in
     omega (arith, c.requires, none, ap kept_all c.self.view_is)
 
-pub keeps_most-cause-requires-clause-much : goal.keeps_most-cause-requires-clause-much
-keeps_most-cause-requires-clause-much g c = omega (arith, c.requires, ap kept_all c.self.view_is)
+pub give_up-requires-clause-much : goal.give_up-requires-clause-much
+give_up-requires-clause-much g c = omega (arith, c.requires, c.in-Some.ensures.frees.kept, ap kept_all c.self.view_is)
 
-pub keeps_most-cause-requires-clause-most : goal.keeps_most-cause-requires-clause-most
-keeps_most-cause-requires-clause-most g c = c.largest-key.ensures
+pub give_up-requires-clause-most : goal.give_up-requires-clause-most
+give_up-requires-clause-most g c =
+    let updates = c.in-Some.ensures.updates in
+    most_without c.self.inside.table.jobs.slots c.take.new.self.jobs.slots c.largest-key.result c.in-Some.job updates.others c.largest-key.ensures (sym c.in-Some.ensures.job) updates.changed
 
 pub returns : goal.returns
 returns g c =

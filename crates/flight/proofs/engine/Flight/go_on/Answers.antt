@@ -20,7 +20,7 @@ pub returns-in-NoMemory-clause-settles : goal.returns-in-NoMemory-clause-settles
 returns-in-NoMemory-clause-settles g c = settled_now _ _ _ _ _ _ c.requires.asked.own refl c.refuse.ensures
 
 pub returns-then-seen-asking-clause-settles : goal.returns-then-seen-asking-clause-settles
-returns-then-seen-asking-clause-settles g c = settled_now _ _ _ _ _ _ c.requires.asked.own refl c.refuse-then-seen-asking.ensures
+returns-then-seen-asking-clause-settles g c = settled_now _ _ _ _ _ _ c.requires.asked.own refl (rw c.elsewhere-cause.ensures.client at c.fail.ensures)
 
 pub returns-in-NoMemory-clause-anew : goal.returns-in-NoMemory-clause-anew
 returns-in-NoMemory-clause-anew g c = λ anew. absurd (cc (rw c.in-NoMemory.is at anew))

@@ -7,14 +7,21 @@ use Rattle.flight.specs.Kept.{kept_in}
 use Rattle.flight.specs.Origin.{Origin}
 use Rattle.flight.specs.Places.{HasPlace}
 use Rattle.flight.specs.Waiting.{FlightState, UnderWay, count_for, is_for}
+use Rattle.flight.proofs.Answering.{is_good}
 use Rattle.flight.proofs.Flights.{begins, begun_behind}
 use Rattle.flight.proofs.Flying.{awaits_at}
 use Rattle.flight.proofs.Places.{kept_begun}
 use Rattle.flight.proofs.Settling.{same_state, settled_now}
 use Rattle.flight.proofs.engine.Flight.send.Goals as goal
 
-pub make_room-requires : goal.make_room-requires
-make_room-requires g c = (query_to c.args.server.now c.args.over c.args.bytes, c.requires.awaits)
+pub denied-cause-requires-clause-sends : goal.denied-cause-requires-clause-sends
+denied-cause-requires-clause-sends g c = (query_to c.args.server.now c.args.over c.args.bytes, c.requires.awaits)
+
+pub fail-requires-clause-own : goal.fail-requires-clause-own
+fail-requires-clause-own g c = rw c.denied-cause.ensures.client c.requires.asked.own
+
+pub fail-requires-clause-good : goal.fail-requires-clause-good
+fail-requires-clause-good g c = is_good c.requires.asked.good
 
 pub keep-requires-clause-in_time : goal.keep-requires-clause-in_time
 keep-requires-clause-in_time g c = omega (arith, c.since-since.ensures, c.make_room.ensures.latest, c.in-Ok.ensures.may_begin.in_time)
@@ -36,7 +43,7 @@ returns-in-Err-clause-settles g c =
     let room = c.make_room.ensures in
     settled_now _ _ _ _ _ _ c.requires.asked.own
     (same_state _ _ (room.jobs ∙ ap (λ (state : FlightState). state.exchanges) was) (ap (map (λ wait. wait.since)) room.waits ∙ ap (λ (state : FlightState). state.begun) was)
-    (room.latest ∙ ap (λ (state : FlightState). state.latest) was) (room.limit ∙ ap (λ (state : FlightState). state.limit) was)) c.refuse.ensures
+    (room.latest ∙ ap (λ (state : FlightState). state.latest) was) (room.limit ∙ ap (λ (state : FlightState). state.limit) was)) (rw c.denied-cause.ensures.client at c.fail.ensures)
 
 -- The table has noted only who asked for a place.
 pub returns-in_default-clause-same : goal.returns-in_default-clause-same
