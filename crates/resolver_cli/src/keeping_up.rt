@@ -1,4 +1,4 @@
-//! An operator's pace: the cache keeps up with the flushes that commands make permanent.
+//! An operator's pace: the cache keeps up with the flushes of zones that become permanent.
 
 use crate::sweeper::pause_after;
 use crate::worker::Lent;
@@ -10,8 +10,8 @@ use std::sync::Wait;
 use std::thread;
 use std::time::Duration;
 
-/// So many commands are obeyed at once. Each may make one flush permanent, and each lookup reads the list of those that have names left to
-/// reach.
+/// So many flushes of zones are obeyed at once. Each may become permanent, and each lookup reads the list of those that have names left to
+/// reach. No other command makes that list longer than the journal.
 const MOST_BEHIND: u64 = 128;
 
 /// The names that a permanent flush reaches in a turn of a sweep.
@@ -20,22 +20,22 @@ const REACHED_AT_ONCE: u64 = 256;
 /// How long turns take before a pause, in microseconds. Many turns take a few.
 const TURNS_MICROSECONDS: u64 = 200;
 
-/// The commands since a sweep last left nothing.
+/// The flushes of zones since a sweep last left nothing.
 #[derive(Drop)]
 pub(crate) struct Pace {
     behind: Cell<u64>,
 }
 
 impl Pace {
-    /// No command has come.
+    /// None has come.
     pub fn new() -> Pace {
         Pace {
             behind: Cell::new(0),
         }
     }
 
-    /// Counts a command that is to be obeyed. If too many came since a sweep last left nothing, the oldest permanent flush first reaches
-    /// its names. So their list stays short, however many zones an operator flushes.
+    /// Counts a flush of a zone that is to be obeyed. If too many came since a sweep last left nothing, the oldest permanent flush first
+    /// reaches its names. So their list stays short, however many zones an operator flushes.
     pub fn count<L: CallLedger, R: Wait + Clock>(&self, rt: &R, lent: &Lent<'_, L>) {
         let behind = self.behind.get().saturating_add(1);
         self.behind.set(behind);

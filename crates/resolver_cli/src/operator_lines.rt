@@ -10,7 +10,7 @@ use crate::what_undo::what_undo;
 use crate::worker::Lent;
 use clock::Clock;
 use command_text::{Line, LineFault, Request, obey_said, read_control};
-use history::{Ask, Desk};
+use history::{Ask, Command, Desk};
 use shared_book::CallLedger;
 use std::alloc::{AllocError, Global};
 use std::sync::Wait;
@@ -76,9 +76,12 @@ impl<'a, 'l, C, L: CallLedger, R> Served<'a, 'l, C, L, R> {
 }
 
 impl<'a, 'l, C: Clock, L: CallLedger, R: Wait + std::rt::Clock> Served<'a, 'l, C, L, R> {
-    /// Counts a line that was read as a command, if it is one, and lets the cache keep up.
+    /// Counts a line that was read as the flush of a zone, if it is one, and lets the cache keep up.
     fn keep_up(&self, said: &Result<Line, LineFault>) {
-        if matches!(said, Ok(Line::Request(Request::Do(_)))) {
+        if matches!(
+            said,
+            Ok(Line::Request(Request::Do(Command::FlushZone { .. })))
+        ) {
             self.pace.count(self.rt, self.lent);
         }
     }
