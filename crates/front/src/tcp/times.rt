@@ -3,16 +3,13 @@
 ghost use Rattle.std.specs.Prelude.{◌≡◌};
 
 use clock::PATIENCE_SECONDS;
-use replies::MOST_MESSAGE;
+use replies::MOST_FRAMED;
 
 /// The milliseconds that a connection may be idle: a few seconds are enough for a client that asks again soon (RFC 7766, section 6.2.3).
 pub const MOST_IDLE: u64 = 10_000;
 
 /// The milliseconds that a message may take to come whole, and that a reply may stay unread. One exchange with a server has as long.
 pub const MOST_STUCK: u64 = 1_000 * PATIENCE_SECONDS;
-
-/// The octets of the longest reply, with its length. A client that reads so many gains as long again.
-const MOST_FRAMED: usize = MOST_MESSAGE + 2;
 
 /// The times of a connection, in milliseconds.
 #[derive(Clone, Copy)]
@@ -76,7 +73,7 @@ impl Times {
         }
     }
 
-    /// Notes that octets left.
+    /// Notes that octets left. Each time that they add up to the longest reply with its length, the client gains as long again.
     pub fn leave(&mut self, now: u64, count: usize) {
         self.quiet = now;
         self.passed = self.passed.saturating_add(count);
