@@ -15,12 +15,12 @@ use system::{MOST_CALLS, would_wait};
 pub const MOST_QUERY: usize = 512;
 
 /// The most octets of a query and its length.
-const MOST_FRAMED: usize = 514;
+const MOST_FRAMED_QUERY: usize = 514;
 
 /// A query preceded by its length, and the count of octets that have left. It takes no memory of its own.
 #[derive(Drop)]
 pub(crate) struct FramedQuery {
-    octets: ArrayVec<u8, MOST_FRAMED>,
+    octets: ArrayVec<u8, MOST_FRAMED_QUERY>,
     /// The count of octets that have left.
     left: usize,
     ghost front: { left ≤ array_vec_len octets },
