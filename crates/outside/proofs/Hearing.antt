@@ -8,13 +8,13 @@ use Rattle.dns_query.specs.declared.over.Over.{Over}
 use Rattle.dns_query.specs.declared.over.Over.TheVariants.{Udp as OverUdp, Tcp as OverTcp}
 use Rattle.outside.specs.Asked.{ByStream, IsAskedAt}
 use Rattle.replies.specs.Framing.{framed}
-use Rattle.outside.specs.Line.{LineState}
+use Rattle.outside.specs.Line.{LineState, WentOn}
 use Rattle.flight.specs.declared.sockets.Listened.{Listened}
 use Rattle.flight.specs.declared.sockets.Listened.TheVariants.{Anew, Nothing, Came, Broken, NoMemory}
 use Rattle.flight.specs.Told.{IsHeard}
 use Rattle.outside.specs.declared.transport.Transport.{Transport}
 use Rattle.outside.specs.declared.transport.Transport.TheVariants.{Udp, Tcp, Waiting, Closed}
-use Rattle.outside.specs.Exchanges.{ExchangeState, AsksOn, HasMisfit, HasNoneYet, IsBroken, IsCutOff, IsDearReply, IsQuiet, IsStruck, IsUnderWay, OnUnbroken, WentOn}
+use Rattle.outside.specs.Exchanges.{ExchangeState, AsksOn, HasMisfit, HasNoneYet, IsBroken, IsCutOff, IsDearReply, IsQuiet, IsStruck, IsUnderWay, OnUnbroken}
 use Rattle.outside.specs.Exchanges.IsBroken.{cut_off, had_ended, too_dear}
 use Rattle.outside.specs.Replies.{IfCame, IsReply, IsWholeReply, MayCome}
 

@@ -49,10 +49,6 @@ pub record AsksOn {C : Type 0} (connected : C → SocketAddr → Type 0) (report
   pub asks : line.asks ≡ framed exchange.asked.query
   pub went : WentFrom contents remaining fresh line
 
--- A connection went on: whatever it came from, it still comes from.
-abbrev pub WentOn : {C : Type 0} → (C → Option (List ℕ)) → (C → Option (List ℕ)) → LineState C → LineState C → Type 0
-WentOn {C} contents remaining old new = (fresh : C) → WentFrom contents remaining fresh old → WentFrom contents remaining fresh new
-
 -- The state of an exchange, by its transport. One that has no transport yet waits. Nothing is said of one that has ended.
 abbrev pub IsUnderWay : {S C : Type 0} → (S → SocketAddr → Type 0) → (S → Token → Type 0) → (S → List ℕ → Type 0) → (C → SocketAddr → Type 0) → (C → Token → Type 0) → (C → Option (List ℕ)) → (C → Option (List ℕ))
     → ExchangeState → Transport S C → Type 0

@@ -4,7 +4,8 @@ ghost use Rattle.std.specs.Prelude.{◌≡◌, ◌≢◌, ◌<◌, ◌⊎◌, le
 ghost use Rattle.replies.specs.declared.limits.TheConstants.{MOST_MESSAGE};
 ghost use Rattle.flight.specs.declared.sockets.Listened.TheVariants.{Anew, Broken, Nothing};
 ghost use Rattle.flight.specs.Told.{IsHeard};
-ghost use Rattle.outside.specs.Exchanges.{ExchangeState, HasMisfit, HasNoneYet, IsCutOff, IsUnderWay, OnUnbroken, WentOn, is_ended};
+ghost use Rattle.outside.specs.Exchanges.{ExchangeState, HasMisfit, HasNoneYet, IsCutOff, IsUnderWay, OnUnbroken, is_ended};
+ghost use Rattle.outside.specs.Line.{WentOn};
 ghost use Rattle.outside.specs.Replies.{IfCame, IsWholeReply, MayCome};
 
 use crate::fitting::fits;
