@@ -17,10 +17,10 @@ abbrev pub IsStruckOut : {S : Type 0} → UdpState S → Type 0
 IsStruckOut line = MOST_MISFITS ≤ line.misfits + 1
 
 -- A datagram that does not fit is counted, and the poll reports once more what came after it. Or it is one too many.
-abbrev pub IsStruck : {S : Type 0} → (S → Token → Type 0) → Token → UdpHeard → UdpState S → UdpState S → Type 0
-IsStruck reported_again token Nothing old new = (new.misfits ≡ old.misfits + 1) × reported_again old.socket token
-IsStruck reported_again token (Reply count) old new = ⊥
-IsStruck reported_again token Misfits old new = IsStruckOut old
+abbrev pub CountsMisfit : {S : Type 0} → (S → Token → Type 0) → Token → UdpHeard → UdpState S → UdpState S → Type 0
+CountsMisfit reported_again token Nothing old new = (new.misfits ≡ old.misfits + 1) × reported_again old.socket token
+CountsMisfit reported_again token (Reply count) old new = ⊥
+CountsMisfit reported_again token Misfits old new = IsStruckOut old
 
 -- A socket stays what it was: it is connected to the same place and reported under the same token, and the same query left by it.
 pub record StaysAs {S : Type 0} (opened : S → SocketAddr → Type 0) (reported : S → Token → Type 0) (sent : S → List ℕ → Type 0) (old new : S) : Type 0 where

@@ -6,7 +6,7 @@ ghost use Rattle.replies.specs.declared.limits.TheConstants.{MOST_MESSAGE};
 ghost use Rattle.outside.specs.Fits.{Fits};
 ghost use Rattle.outside.specs.Heard.{IfReply};
 ghost use Rattle.outside.specs.declared.heard.UdpHeard.TheVariants.{Misfits, Nothing};
-ghost use Rattle.outside.specs.Datagrams.{EndsByMisfit, HearsNothing, IsStruck, StaysAs};
+ghost use Rattle.outside.specs.Datagrams.{CountsMisfit, EndsByMisfit, HearsNothing, StaysAs};
 ghost use Rattle.outside.specs.Own.{IsNoLine, MayAsk};
 
 use crate::fitting::{MOST_MISFITS, fits};
@@ -76,7 +76,7 @@ impl<S: ReadySocket> UdpLine<S> {
     fn strike(&mut self, registry: &Registry, token: Token) -> io::Result<UdpHeard>
         ensures kept { self.new.socket ≡ self.old.socket }
         ensures counted { self.old.misfits ≤ self.new.misfits }
-        ensures heard { IfOk result (λ heard. IsStruck S.reported_again token heard self.old self.new) }
+        ensures heard { IfOk result (λ heard. CountsMisfit S.reported_again token heard self.old self.new) }
         ensures failed { OnErr result (S.failed self.old.socket) }
     {
         if self.misfits + 1 >= MOST_MISFITS {
