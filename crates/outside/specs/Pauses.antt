@@ -21,7 +21,7 @@ use Rattle.outside.specs.declared.server.Server.{Server}
 use Rattle.outside.specs.declared.servers.TheConstants.{MOST_SERVERS}
 use Rattle.outside.specs.declared.silence.Silence.{Silence}
 use Rattle.outside.specs.Kept.{Changes, Remembers}
-use Rattle.outside.specs.Servers.{IsAskedAt}
+use Rattle.outside.specs.Servers.{IsQuestionAt}
 use Rattle.outside.specs.Silences.{no_pause, pause_after, pause_struck, trial_at, unknown, answered_at, closed_at, matters_until, tried_at, IsAnswering, Misses}
 
 -- whether `==` calls two servers equal
@@ -94,12 +94,12 @@ abbrev pub IsPassedOver : Addr → List Addr → Over → List ℕ → ℕ → P
 IsPassedOver addr others over query now pauses =
     IsServerPaused (server_at addr over) now pauses.servers
     ⊎ (GivesWay (server_at addr over) others now pauses.servers
-    ⊎ ((question : QuestionAt) × IsAskedAt (server_at addr over) query question × IsQuestionPaused question now pauses.questions))
+    ⊎ ((question : QuestionAt) × IsQuestionAt (server_at addr over) query question × IsQuestionPaused question now pauses.questions))
 
 -- A query is sent: neither its server nor its question is passed over, nor does the server give way. If a pause of either is over, the query is the trial after it. A question is not looked up if there is no memory to read it.
 pub record LetsThrough (addr : Addr) (others : List Addr) (over : Over) (query : List ℕ) (now : ℕ) (old new : Pauses) : Type 0 where
   pub question : Option QuestionAt
-  pub asked : IfSome question (IsAskedAt (server_at addr over) query)
+  pub asked : IfSome question (IsQuestionAt (server_at addr over) query)
   pub server_free : ¬ (IsServerPaused (server_at addr over) now old.servers)
   pub goes_first : ¬ (GivesWay (server_at addr over) others now old.servers)
   pub question_free : IfSome question (λ question. ¬ (IsQuestionPaused question now old.questions))
@@ -109,7 +109,7 @@ pub record LetsThrough (addr : Addr) (others : List Addr) (over : Over) (query :
 -- A server answered a query. That ends its pause, and the pause of the question.
 pub record Answers (addr : Addr) (over : Over) (query : List ℕ) (now : ℕ) (old new : Pauses) : Type 0 where
   pub question : Option QuestionAt
-  pub asked : IfSome question (IsAskedAt (server_at addr over) query)
+  pub asked : IfSome question (IsQuestionAt (server_at addr over) query)
   pub server : RemembersServer now (server_at addr over) (answered_at now) old.servers new.servers
   pub ended : MatchOption question (IsUnchanged old.questions new.questions) (λ question. Updates question_at_eq old.questions new.questions question None)
 
@@ -121,7 +121,7 @@ pub record LosesQuestion (now : ℕ) (old new : Pauses) (question : QuestionAt) 
 -- A server left a query unanswered. If there is no memory to read its question, that is not remembered.
 pub record Loses (addr : Addr) (over : Over) (query : List ℕ) (now : ℕ) (old new : Pauses) : Type 0 where
   pub question : Option QuestionAt
-  pub asked : IfSome question (IsAskedAt (server_at addr over) query)
+  pub asked : IfSome question (IsQuestionAt (server_at addr over) query)
   pub loses : MatchOption question (new ≡ old) (LosesQuestion now old new)
 
 -- The port of a server is closed: the server is passed over for a second, for every question.
@@ -144,7 +144,7 @@ NotesBroken Tcp addr now old new = new ≡ old
 -- Datagrams came that cannot be the reply. The server is passed over for the question from now on, and is not blamed. If there is no memory to read the question, that is not remembered.
 pub record Mistrusts (addr : Addr) (over : Over) (query : List ℕ) (now : ℕ) (old new : Pauses) : Type 0 where
   pub question : Option QuestionAt
-  pub asked : IfSome question (IsAskedAt (server_at addr over) query)
+  pub asked : IfSome question (IsQuestionAt (server_at addr over) query)
   pub servers : IsUnchanged old.servers new.servers
   pub paused : MatchOption question (IsUnchanged old.questions new.questions)
       (λ question. RemembersQuestion now question (pause_struck (known_pause old.questions question) now) old.questions new.questions)

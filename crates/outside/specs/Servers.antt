@@ -27,7 +27,7 @@ pub server_hash_same : (x y : Server) → addr_eq x.addr y.addr ≡ true → ser
 server_hash_same x y same = ap (λ (addr : Addr). ip_octets addr.ip ∷ fed.u16 addr.port) (addr_eq_exact x.addr y.addr same)
 
 -- A query to a server has this question: a name and a type.
-pub record IsAskedAt (at : Server) (query : List ℕ) (question : QuestionAt) : Type 0 where
+pub record IsQuestionAt (at : Server) (query : List ℕ) (question : QuestionAt) : Type 0 where
   pub asked : Query
   pub good : AsksFor query (Good asked)
   pub owner : question.owner ≡ asked.question.owner
