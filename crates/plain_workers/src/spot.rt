@@ -1,4 +1,5 @@
 //! The place of an octet of a connection, whose messages are each preceded by a length in two octets (RFC 1035, section 4.2.2).
+//! A `BegunMessage` would take memory for the octets. A spot keeps nothing of them but their place.
 
 ghost use Rattle.std.specs.Prelude.{◌≡◌, ◌<◌, ◌≤◌, ◌⊎◌, length, take};
 ghost use Rattle.plain_workers.specs.declared.spot.Spot.TheVariants.{Beginning};

@@ -71,6 +71,8 @@ fn take_body<S: Source>(
 }
 
 /// The next message, or None at the end of the input. `left` counts the reads that remain, and falls with each.
+// A `BegunMessage` would take memory as octets come. This has all of it before it reads the message's first octet, so `NoMemory` leaves
+// the reader right behind the length.
 pub fn take_message<S: Source>(
     alloc: Global,
     reader: &mut S,

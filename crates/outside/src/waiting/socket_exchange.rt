@@ -155,6 +155,7 @@ fn send_framed<W: Write>(alloc: Global, stream: &mut W, message: &[u8]) -> io::R
 }
 
 /// Reads a message preceded by its length: the number of octets at the front of the room that it fills.
+// A `BegunMessage` would take memory as octets come. This fills the room that the client has from its start.
 fn read_framed<S: Read>(stream: &mut S, room: &mut [u8]) -> io::Result<usize>
     requires { length room.old ≡ MOST_FRAMED }
     ensures few { IfOk result (λ count. count ≤ MOST_MESSAGE) }
