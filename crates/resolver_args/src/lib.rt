@@ -13,11 +13,11 @@ mod address;
 mod range;
 // The mode that the arguments give.
 mod args;
-// Laws of two command lines.
+// Laws of two command lines, and the numbers of the options.
 mod laws;
 
 pub use args::read_args;
 pub use fault::{ArgsFault, BadArgument};
-pub use laws::{defaults_law, given_law};
+pub use laws::{defaults_law, given_law, limits_law};
 pub use mode::{MOST_WORKERS, Mode, Service};
 pub use options::VERSION;
