@@ -1,7 +1,8 @@
 #!/usr/bin/env python3
 """Prints definitions of specs/: of the words that are named, or else a line for each word that a public contract uses.
 
-`docs/definitions.py WORD..` prints each definition of a word, with its crate and file and the comment above it.
+`docs/definitions.py WORD..` prints each definition of a word, with its crate and file and the comment above it. If there is none, it
+prints all definitions of the files and folders of specs/ that have this name.
 `docs/definitions.py` prints the comment of each word that the contract of a public function, a trait or a type cites, by crate and file.
 """
 
@@ -106,13 +107,18 @@ def listed(crate, found):
                 yield f"- with no comment: {', '.join(plain)}\n"
 
 
-def defined(names, wanted):
-    """The definitions of a word."""
+def defined(names, is_wanted):
+    """The definitions of which this is so, by their file and their word."""
     for crate in names:
         for file, path in specs(crate):
             for word, text, lines in words_of(path)[1]:
-                if word == wanted:
+                if is_wanted(file, word):
                     yield "\n".join([f"{word} (crates/{crate}/specs/{file}.antt)" + (f": {text}" if text else ""), "", *(f"    {line}" for line in lines)])
+
+
+def told_by(names, wanted):
+    """The definitions of a word, or else those of the files and folders of that name."""
+    return list(defined(names, lambda file, word: word == wanted)) or list(defined(names, lambda file, word: wanted in file.split("/")))
 
 
 def main():
@@ -121,7 +127,7 @@ def main():
     names = [name for name in uses if name in product]
     words = sys.argv[1:]
     if words:
-        texts = [(word, list(defined(names, word))) for word in words]
+        texts = [(word, told_by(names, word)) for word in words]
         unknown = [word for word, found in texts if not found]
         if unknown:
             sys.exit(f"docs/definitions.py: no file of specs/ defines {', '.join(unknown)}")
