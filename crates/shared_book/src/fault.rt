@@ -1,4 +1,4 @@
-//! The faults of calls, splits and closings. After each, nothing has changed.
+//! The faults of calls, splits and closings. After one, the book, its total and the pass are as they were.
 
 ghost use Rattle.std.specs.Prelude.{◌≡◌, ◌⊎◌, ◌≤◌, ◌^◌};
 
