@@ -45,7 +45,7 @@ fn obey_line<C: Clock, D: Desk>(alloc: Global, clock: &mut C, desk: &mut D, line
         Line::At { .. } | Line::Admit(_) | Line::Deny(_) => {
             going_on(line_fault_text(LineFault::Unknown))
         }
-        // A service answers these two before they come here.
+        // On a control socket a service answers these two before they come here.
         Line::Status | Line::Stats => going_on(line_fault_text(LineFault::Unknown)),
     }
 }

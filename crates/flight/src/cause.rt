@@ -33,7 +33,7 @@ pub enum Unserved {
 }
 
 /// A reason that was shown to be so, with the client that gets SERVFAIL for it: there is no other way to make one. What speaks of a
-/// question takes that question, and its client stays inside. So no client gets SERVFAIL for the cause of another.
+/// question takes that question, and its client stays inside. So no client gets SERVFAIL for the cause of another's question.
 #[derive(Drop)]
 pub struct Cause<K> {
     client: K,
