@@ -9,8 +9,8 @@
 //! windows have 1, 2, 4 and 1,000 calls.
 //!
 //! Then 21 pairs of a book that replays and a book that keeps no history are given 10,000 drawn events each, with journals of
-//! 1, 3 and 64 commands, and the events to which both reply the same are counted. The arguments `pairs N EVENTS` do that with N
-//! pairs for each journal and so many events, and with nothing else.
+//! 1, 3 and 64 commands, and the events to which both reply the same are counted. Every other pair is swept after each event. The
+//! arguments `pairs N EVENTS` do that with N pairs for each journal and so many events, and with nothing else.
 //!
 //! For tests/cli_memory.py: with the argument `steps` one caller makes such calls of a book that lies under no lock. With `threads
 //! plain` and `threads shelf` two callers, in threads of their own, call a book that replays or one that keeps no history, and with

@@ -53,7 +53,26 @@ fn give<A: Book, B: Book>(one: &mut A, other: &mut B, newest: u64, event: Event)
     }
 }
 
-/// To how many of so many events two books reply the same.
+/// Gives both books an event, and then a sweep at a moment, if there is one. Says whether they reply the same to both, and which
+/// ticket is the newest after them.
+fn give_and_sweep<A: Book, B: Book>(
+    one: &mut A,
+    other: &mut B,
+    newest: u64,
+    event: Event,
+    sweep: Option<u64>,
+) -> (bool, u64) {
+    let (is_alike, newest) = give(one, other, newest, event);
+    match sweep {
+        Some(moment) => {
+            let (is_swept_alike, newest) = give(one, other, newest, Event::Sweep { moment });
+            (is_alike && is_swept_alike, newest)
+        }
+        None => (is_alike, newest),
+    }
+}
+
+/// To how many of so many events two books reply the same. If the seed is odd, a sweep follows each event.
 fn alike<A: Book, B: Book>(
     alloc: Global,
     seed: u64,
@@ -66,10 +85,12 @@ fn alike<A: Book, B: Book>(
     let mut newest = 0u64;
     for number in 0..events {
         // The clock goes on, by a second in 20 events.
-        let Ok(event) = event_or_denial(&mut rng, alloc, number / 20, newest) else {
+        let moment = number / 20;
+        let Ok(event) = event_or_denial(&mut rng, alloc, moment, newest) else {
             return Err(Stop);
         };
-        let (is_alike, ticket) = give(&mut one, &mut other, newest, event);
+        let sweep = if seed % 2 == 1 { Some(moment) } else { None };
+        let (is_alike, ticket) = give_and_sweep(&mut one, &mut other, newest, event, sweep);
         newest = ticket;
         if is_alike {
             same = same.wrapping_add(1);
