@@ -6,7 +6,7 @@
 //! With no argument come next eight callers, in threads of their own, who make drawn calls of every kind on a shared book, each a drawn
 //! number of them, with passes that are split before and joined after. The events of their receipts are given to a fresh book, whose
 //! replies are counted where they are those of the receipts, and the book is closed with the receipts. That is done with 40 books, whose
-//! windows have 1, 2, 4 and 1,000 calls.
+//! windows have 1, 2, 4 and 1,000 calls. Each window moves on by its length or more.
 //!
 //! Then 21 pairs of a book that replays and a book that keeps no history are given 10,000 drawn events each, with journals of
 //! 1, 3 and 64 commands, and the events to which both reply the same are counted. Every other pair is swept after each event. The
@@ -89,7 +89,7 @@ fn one_book<B: Book + Send + Sync, L: CallLedger + Send + Sync, R: Threads + Wai
     let Ok((shared, pass)) = SharedBook::<B, L>::new(alloc, blank, book, opening, limit) else {
         return Err(Stop);
     };
-    let handed = eight(rt, alloc, &shared, pass, seed)?;
+    let handed = eight(rt, alloc, &shared, pass, limit, seed)?;
     closed(alloc, shared, handed)
 }
 
@@ -110,12 +110,16 @@ const WINDOWS: [u64; 4] = [1, 2, 4, 1_000];
 
 fn called_by_eight<R: Print + Threads + Wait + Sync>(rt: &R, alloc: Global) -> io::Result<()> {
     let mut windows = 0u64;
+    let mut moved = 0u64;
     let mut same = 0u64;
     for limit in WINDOWS {
         for seed in 0..10u64 {
             if let Ok(Some(closed)) = one_book_as(rt, alloc, limit, seed ^ limit << 8) {
                 if closed.recorded == closed.calls.min(limit as usize) {
                     windows = windows.wrapping_add(1);
+                }
+                if closed.behind >= limit {
+                    moved = moved.wrapping_add(1);
                 }
                 if closed.alike == closed.calls {
                     same = same.wrapping_add(1);
@@ -126,6 +130,10 @@ fn called_by_eight<R: Print + Threads + Wait + Sync>(rt: &R, alloc: Global) -> i
     println!(rt;
         "books closed with the last calls in their windows {}",
         windows
+    )?;
+    println!(rt;
+        "books whose windows moved on by their length or more {}",
+        moved
     )?;
     println!(rt; "books whose replies a fresh book repeats {}", same)
 }

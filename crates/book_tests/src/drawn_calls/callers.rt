@@ -12,13 +12,14 @@ use std::sync::Wait;
 use std::thread;
 use std::thread::Threads;
 
-/// The most calls that a caller makes. So eight and the four between them make 500 at most.
+/// The most calls that a caller makes beside a quarter of those that a window can have.
 const MOST_CALLS: u32 = 62;
 
-/// How many calls a caller of this seed makes.
-fn drawn_count(seed: u64) -> u32 {
+/// How many calls a caller of this seed makes, if the window can have so many. Eight callers make more than twice as many, so the window
+/// moves on by its length or more.
+fn drawn_count(window: u64, seed: u64) -> u64 {
     let mut rng = Pcg32::seed_from_u64(seed);
-    rng.next_u32() % MOST_CALLS + 1
+    (window / 4).saturating_add(u64::from(rng.next_u32() % MOST_CALLS + 1))
 }
 
 /// One drawn call, of which the receipt is kept.
@@ -46,7 +47,7 @@ fn calls<B: Book, L: CallLedger, R: Wait>(
     book: &SharedBook<B, L>,
     mut pass: Pass<L>,
     seed: u64,
-    count: u32,
+    count: u64,
 ) -> Result<Handed<L>, Stop> {
     let mut rng = Pcg32::seed_from_u64(seed);
     let mut receipts = Vec::new(alloc);
@@ -78,6 +79,7 @@ fn two<B: Book + Send + Sync, L: CallLedger + Send + Sync, R: Threads + Wait + S
     alloc: Global,
     book: &SharedBook<B, L>,
     mut pass: Pass<L>,
+    window: u64,
     seed: u64,
 ) -> Result<Handed<L>, Stop> {
     let Ok(other) = book.split(rt, &mut pass) else {
@@ -85,14 +87,14 @@ fn two<B: Book + Send + Sync, L: CallLedger + Send + Sync, R: Threads + Wait + S
     };
     let (a, b) = thread::join(
         rt,
-        || calls(rt, alloc, book, pass, seed, drawn_count(seed)),
+        || calls(rt, alloc, book, pass, seed, drawn_count(window, seed)),
         || calls(
             rt,
             alloc,
             book,
             other,
             seed ^ 1 << 32,
-            drawn_count(seed ^ 1 << 32),
+            drawn_count(window, seed ^ 1 << 32),
         ),
     );
     let Handed { pass, receipts } = joined(rt, book, a?, b?)?;
@@ -105,6 +107,7 @@ fn four<B: Book + Send + Sync, L: CallLedger + Send + Sync, R: Threads + Wait + 
     alloc: Global,
     book: &SharedBook<B, L>,
     mut pass: Pass<L>,
+    window: u64,
     seed: u64,
 ) -> Result<Handed<L>, Stop> {
     let Ok(other) = book.split(rt, &mut pass) else {
@@ -112,18 +115,19 @@ fn four<B: Book + Send + Sync, L: CallLedger + Send + Sync, R: Threads + Wait + 
     };
     let (a, b) = thread::join(
         rt,
-        || two(rt, alloc, book, pass, seed),
-        || two(rt, alloc, book, other, seed ^ 1 << 34),
+        || two(rt, alloc, book, pass, window, seed),
+        || two(rt, alloc, book, other, window, seed ^ 1 << 34),
     );
     joined(rt, book, a?, b?)
 }
 
-/// Eight callers, each in a thread of its own.
+/// Eight callers, each in a thread of its own, of a book whose window can have so many calls.
 pub fn eight<B: Book + Send + Sync, L: CallLedger + Send + Sync, R: Threads + Wait + Sync>(
     rt: &R,
     alloc: Global,
     book: &SharedBook<B, L>,
     mut pass: Pass<L>,
+    window: u64,
     seed: u64,
 ) -> Result<Handed<L>, Stop> {
     let Ok(other) = book.split(rt, &mut pass) else {
@@ -131,8 +135,8 @@ pub fn eight<B: Book + Send + Sync, L: CallLedger + Send + Sync, R: Threads + Wa
     };
     let (a, b) = thread::join(
         rt,
-        || four(rt, alloc, book, pass, seed),
-        || four(rt, alloc, book, other, seed ^ 1 << 35),
+        || four(rt, alloc, book, pass, window, seed),
+        || four(rt, alloc, book, other, window, seed ^ 1 << 35),
     );
     joined(rt, book, a?, b?)
 }

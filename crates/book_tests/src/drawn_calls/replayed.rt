@@ -4,7 +4,7 @@ use crate::handed::Handed;
 use crate::new_books::plain_book;
 use crate::stop::Stop;
 use history::{Book, Event, Reply};
-use shared_book::{CallLedger, Receipt, SharedBook};
+use shared_book::{CallLedger, Kept, Receipt, SharedBook};
 use std::alloc::Global;
 
 /// How many commands a book of random calls can undo.
@@ -59,6 +59,16 @@ pub struct Closing {
     pub alike: usize,
     /// The calls in the window.
     pub recorded: usize,
+    /// The calls that it has moved on past.
+    pub behind: u64,
+}
+
+/// How many calls a window has moved on past, by the number of its first call.
+fn calls_behind<B: Book, L: CallLedger>(kept: &Kept<B, L>) -> u64 {
+    match kept.window().front() {
+        Some(entry) => entry.number.saturating_sub(1),
+        None => 0,
+    }
 }
 
 /// Closes a book with what was handed in. None if it is not closed.
@@ -79,6 +89,7 @@ pub fn closed<B: Book, L: CallLedger>(
             calls,
             alike,
             recorded: kept.window().len(),
+            behind: calls_behind(&kept),
         })),
         Err(_) => Ok(None),
     }
