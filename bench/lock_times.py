@@ -14,6 +14,9 @@ CALLS = re.compile(r"\bLockHold::(call)\b|\bStoreWorld::(sweep_some)\b")
 ROOM = 65_536
 LINE = re.compile(r"-(\d+)\s+\[\d+\]\s+\S+\s+([\d.]+): (\w+): (.*)")
 SWITCH = re.compile(r"prev_pid=(\d+) .*next_pid=(\d+)")
+RAN = re.compile(r"pid=(\d+) runtime=(\d+)")
+# The events beside the probes: a thread gets a processor or loses it, and how long it has run, without what the host took.
+SCHEDULED = ("sched/sched_switch", "sched/sched_stat_runtime")
 
 
 def write(path, text, more=0):
@@ -54,13 +57,18 @@ class LockTimes:
 
     def read(self, lines):
         """Takes the events in order."""
-        began, on, ran = {}, {}, {}
+        began, on, ran, counted, ended = {}, {}, {}, {}, {}
         for line in lines:
             found = LINE.search(line)
             if not found:
                 continue
             thread, moment, event, rest = int(found[1]), float(found[2]), found[3], found[4]
-            if event == "sched_switch":
+            if event == "sched_stat_runtime":
+                thread, nanoseconds = map(int, RAN.search(rest).groups())
+                counted[thread] = counted.get(thread, 0) + nanoseconds
+                for name, most, lasted, before in ended.pop(thread, []):
+                    self.take(name, min(most, (counted[thread] - before) / 1e9), lasted)
+            elif event == "sched_switch":
                 before, after = map(int, SWITCH.search(rest).groups())
                 if before in began:
                     ran[before] += moment - on[before]
@@ -70,9 +78,12 @@ class LockTimes:
                 name, _, way = event.rpartition("_")
                 # A sweep that is a call has a turn in it.
                 if way == "in" and thread not in began:
-                    began[thread], on[thread], ran[thread] = (name, moment), moment, 0.0
+                    began[thread], on[thread], ran[thread] = (name, moment, counted.get(thread, 0)), moment, 0.0
                 elif way == "out" and began.get(thread, ("",))[0] == name:
-                    self.take(name.rstrip("0123456789"), ran[thread] + moment - on[thread], moment - began.pop(thread)[1])
+                    _, start, before = began.pop(thread)
+                    lasted = moment - start
+                    most = min(ran[thread] + moment - on[thread], lasted)
+                    ended.setdefault(thread, []).append((name.rstrip("0123456789"), most, lasted, before))
 
     def told(self):
         words = [f"{name} {count:,} times, at most {most:.3f} ms of a processor and {longest:.3f} of the clock"
@@ -93,7 +104,7 @@ def lock_times(program, pid):
         write(f"{here}/trace_clock", "mono")
         write(f"{here}/buffer_size_kb", str(ROOM))
         write(f"{here}/set_event_pid", "\n".join(os.listdir(f"/proc/{pid}/task")))
-        for event in (NAME, "sched/sched_switch"):
+        for event in (NAME, *SCHEDULED):
             write(f"{here}/events/{event}/enable", "1")
         yield held
         write(f"{here}/tracing_on", "0")
@@ -101,7 +112,7 @@ def lock_times(program, pid):
             held.read(file)
         held.lost = lost(here)
     finally:
-        for event in (NAME, "sched/sched_switch"):
+        for event in (NAME, *SCHEDULED):
             write(f"{here}/events/{event}/enable", "0")
         os.rmdir(os.path.join(TRACING, here))
         write("uprobe_events", "")
