@@ -5,6 +5,7 @@ import contextlib
 import os
 import re
 import subprocess
+import sys
 
 TRACING, NAME = "/sys/kernel/tracing", "lock_times"
 # What is done under the lock: a call of the book, and a turn of a sweep of one of the two books. The compiler puts the functions that hold
@@ -94,6 +95,8 @@ class LockTimes:
 @contextlib.contextmanager
 def lock_times(program, pid):
     """Counts the holds of a process of this program meanwhile."""
+    if not os.access(os.path.join(TRACING, "uprobe_events"), os.W_OK):
+        sys.exit(f"bench: no probes can be set: as root, `mount -t tracefs none {TRACING}`")
     held, here = LockTimes(), f"instances/{NAME}"
     for name, places in calls(program).items():
         for count, place in enumerate(places):
