@@ -9,7 +9,8 @@ import sys
 
 TRACING, NAME = "/sys/kernel/tracing", "lock_times"
 # What is done under the lock: a call of the book, and a turn of a sweep of one of the two books. The compiler puts the functions that hold
-# the lock for a turn into their callers. A hold has one call, one turn, or a turn of each book; or a turn and then a call.
+# the lock for a turn into their callers. A hold has one call, one turn, or a turn of each book; or a turn and then a call. Other holds have no probe:
+# those that count some names for `what_undo`, and those that split or join passes.
 CALLS = re.compile(r"\bLockHold::(call)\b|\bStoreWorld::(sweep_some)\b")
 # The room for events of each processor, in KiB.
 ROOM = 65_536
