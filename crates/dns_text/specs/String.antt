@@ -1,5 +1,6 @@
 -- Strings of TXT data as text (RFC 1035, section 5.1): the strings that a text stands for, how it is read, and how strings are written.
-use Rattle.std.specs.Prelude.{◌≡◌, ◌≢◌, ◌⊎◌, ◌↔◌, ℕ, zero, suc, ◌+◌, ◌-◌, ◌/◌, ◌%◌, ◌<◌, ◌≤◌, ◌||◌, ◌&&◌, List, [], ◌∷◌, ◌++◌, length, Option, Some, None, nat_lt, ◌==◌, if◌then◌else◌, option_map}
+use Rattle.std.specs.Prelude.{◌≡◌, ◌≢◌, ◌⊎◌, ◌↔◌, ℕ, zero, suc, ◌+◌, ◌-◌, ◌/◌, ◌%◌, ◌<◌, ◌≤◌, ◌||◌, ◌&&◌, List, [], ◌∷◌, ◌++◌, length, Option, Some, None, nat_lt, ◌==◌, if◌then◌else◌, option_map, MatchOption}
+use Rattle.std.specs.Borrow.{Bor}
 use Rattle.std.specs.Char.{IsAsciiDigit, IsAsciiGraphic}
 use Rattle.std.specs.List.{flat_map, concat, AllByRecursion}
 use Rattle.dns_name.specs.Options.{◌>>=◌}
@@ -61,6 +62,10 @@ IsNoString before text = octets_after before 0 text ≡ None
 -- Reading moved on by one octet of a string: the rest of the text gives the same string, and is shorter.
 abbrev pub ReadsOn : List ℕ → List ℕ → List ℕ → List ℕ → Type 0
 ReadsOn before text after rest = (octets_after before 0 text ≡ octets_after after 0 rest) × (length rest < length text)
+
+-- Reading moved on so, with these octets after it, or the text is not that of a string.
+abbrev pub TakesOctet : List ℕ → List ℕ → List ℕ → Option (Bor (List ℕ)) → Type 0
+TakesOctet before text after found = MatchOption found (IsNoString before text) (λ rest. ReadsOn before text after rest.now)
 
 -- the text before the quote at its end
 abbrev pub before_last_quote : List ℕ → Option (List ℕ)

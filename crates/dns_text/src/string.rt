@@ -1,12 +1,12 @@
 //! Strings of TXT data, each a word with or without quotes.
 
-ghost use Rattle.std.specs.Prelude.{◌≡◌, ◌<◌, ◌≤◌, ◌+◌, ◌++◌, [], List, ℕ, option_map, length, IfOk, IfSome, OnOk, MatchOption, None};
+ghost use Rattle.std.specs.Prelude.{◌≡◌, ◌<◌, ◌≤◌, ◌+◌, ◌++◌, [], List, ℕ, option_map, length, IfOk, IfSome, OnOk, None};
 ghost use Rattle.std.specs.List.{flat_map, AllByRecursion};
 ghost use Rattle.dns_text.specs.declared.fault.TextFault.TheVariants.{BadData};
 ghost use Rattle.dns_name.specs.Results.{or_fault, result_map};
 ghost use Rattle.dns_text.specs.Fault.{Gives};
 ghost use Rattle.dns_text.specs.Strings.{AreStrings, IsString, strings_of};
-ghost use Rattle.dns_text.specs.String.{octet_at, octets_after, IsNoString, ReadsOn, before_last_quote, inside_quotes, string_in, strings_after, strings_in, quoted_octet, quoted_text, strings_text, AreOctets};
+ghost use Rattle.dns_text.specs.String.{octet_at, octets_after, before_last_quote, inside_quotes, string_in, strings_after, strings_in, quoted_octet, quoted_text, strings_text, AreOctets, TakesOctet};
 
 use crate::fault::TextFault;
 use crate::strings::{Strings, push_string};
@@ -34,9 +34,7 @@ fn next_octet(text: &[u8]) -> Option<(u8, usize)>
 /// Reads one more octet of a string, which has 255 at most, and returns the text after it.
 fn take_octet<'a>(text: &'a [u8], octets: &mut ArrayVec<u8, MOST_STRING>) -> Option<&'a [u8]>
     requires { 0 < length text.now }
-    ensures { MatchOption result
-        (IsNoString octets.old.items text.now)
-        (λ rest. ReadsOn octets.old.items text.now octets.new.items rest.now) }
+    ensures { TakesOctet octets.old.items text.now octets.new.items result }
 {
     let (octet, taken) = next_octet(text)?;
     if octets.len() >= MOST_STRING {
