@@ -46,3 +46,7 @@ with_at place (Some thing) = With place thing
 abbrev pub name_in : {T : Type 0} → (T → Labels) → Turn T → Option Labels
 name_in named (With place thing) = Some (named thing)
 name_in named _ = None
+
+-- A step to the other side puts a thing in, and the way back takes it out.
+abbrev pub TurnsRound : {T : Type 0} → Turn T → Turn T → Type 0
+TurnsRound {T} turn back = (place : ℕ) × ((thing : T) × ((turn ≡ With place thing) × (back ≡ Without place)))

@@ -1,11 +1,10 @@
 //! The thing that is closest to a name.
 
 ghost use Rattle.std.specs.Prelude.{◌≡◌};
-ghost use Rattle.std.specs.Option.{option_map};
 ghost use Rattle.indexmap.specs.IndexMap.{values};
 ghost use Rattle.dns_name.specs.Closest.{closest_with};
-ghost use Rattle.dns_name.specs.Labels.{Labels, octets_of};
-ghost use Rattle.named_list.specs.Closest.{closest_of, found_over};
+ghost use Rattle.dns_name.specs.Labels.{octets_of};
+ghost use Rattle.named_list.specs.Closest.{closest_of, found_over, FindsOver, found_now};
 ghost use Rattle.named_list.specs.Keyed.{AreAsLong, AreKeyed};
 ghost use Rattle.named_list.specs.Named.{AreNamed};
 ghost use Rattle.named_list.specs.Turn.{other_of, LeadsOn};
@@ -26,7 +25,7 @@ pub(crate) fn closest<'a, T: Named>(
 ) -> Option<&'a Shared<T>>
     requires keyed { AreKeyed T.named (λ k. octets_of k) things.now.entries }
     requires long { AreAsLong T.named least (values things.now) }
-    ensures { option_map (λ x. x.now) result ≡ closest_of T.named (values things.now) name.now }
+    ensures { found_now result ≡ closest_of T.named (values things.now) name.now }
 {
     let mut octets = name.octets();
     // Most services have no local zone, and no stub: no name is long enough, and its labels need not be found.
@@ -55,8 +54,7 @@ fn found_over<'a, T: Named>(
     instead: Option<&'a Shared<T>>,
 ) -> Option<&'a Shared<T>>
     requires keyed { AreKeyed T.named (λ k. octets_of k) things.now.entries }
-    ensures { (name : Labels) → octets.now ≡ octets_of name → option_map (λ x. x.now) result
-        ≡ found_over T.named (values things.now) other.now (option_map (λ x. x.now) instead.entry) name }
+    ensures { FindsOver T.named (values things.now) other.now instead.entry octets.now result }
 {
     if octets == other.octets() {
         return instead;
@@ -72,8 +70,7 @@ fn closest_but<'a, T: Named>(
     instead: Option<&'a Shared<T>>,
 ) -> Option<&'a Shared<T>>
     requires keyed { AreKeyed T.named (λ k. octets_of k) things.now.entries }
-    ensures { option_map (λ x. x.now) result
-        ≡ closest_with (found_over T.named (values things.now) other.now (option_map (λ x. x.now) instead.entry)) name.now }
+    ensures { found_now result ≡ closest_with (found_over T.named (values things.now) other.now (found_now instead.entry)) name.now }
 {
     let mut octets = name.octets();
     let mut labels = name.labels();
@@ -98,7 +95,7 @@ pub(crate) fn closest_over<'a, T: Named>(
     requires long { AreAsLong T.named least (values things.now) }
     requires named { AreNamed T.named (values things.now) }
     requires leads { LeadsOn T.named turn.now (values things.now) }
-    ensures { option_map (λ x. x.now) result ≡ closest_of T.named (other_of turn.now (values things.now)) name.now }
+    ensures { found_now result ≡ closest_of T.named (other_of turn.now (values things.now)) name.now }
 {
     match turn {
         Turn::Nothing => closest(things, least, name),

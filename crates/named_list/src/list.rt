@@ -1,10 +1,9 @@
 //! The list, its questions and its changes.
 
 ghost use Rattle.std.specs.Prelude.{◌≡◌, ℕ, [], true, false, IfOk, IsOk, OnErr, OnOk, slice_get};
-ghost use Rattle.std.specs.Option.{option_map};
-ghost use Rattle.named_list.specs.Closest.{closest_of};
+ghost use Rattle.named_list.specs.Closest.{closest_of, found_now};
 ghost use Rattle.named_list.specs.Named.{AreNamed, has_named, list_with, list_without};
-ghost use Rattle.named_list.specs.Turn.{other_of, puts_in, with_at, HasPlace, IsWayBack};
+ghost use Rattle.named_list.specs.Turn.{other_of, puts_in, with_at, HasPlace, IsWayBack, TurnsRound};
 ghost use Rattle.named_list.specs.declared.turn.Turn.TheVariants as Turn;
 
 use crate::closest::{closest, closest_over};
@@ -65,7 +64,7 @@ impl<T: Named> NamedList<T> {
 
     /// The thing with the longest name at or above a name: at most one lookup for each label. It takes no memory.
     pub fn closest(&self, name: &Name) -> Option<&Shared<T>>
-        ensures { option_map (λ x. x.now) result ≡ closest_of T.named self.now name.now }
+        ensures { found_now result ≡ closest_of T.named self.now name.now }
     {
         closest(&self.things, self.least, name)
     }
@@ -74,7 +73,7 @@ impl<T: Named> NamedList<T> {
     pub fn closest_over<'a>(&'a self, turn: &'a Turn<T>, name: &Name) -> Option<&'a Shared<T>>
         requires fits { HasPlace T.named turn.now self.now }
         requires sound { AreNamed T.named (other_of turn.now self.now) }
-        ensures { option_map (λ x. x.now) result ≡ closest_of T.named (other_of turn.now self.now) name.now }
+        ensures { found_now result ≡ closest_of T.named (other_of turn.now self.now) name.now }
     {
         closest_over(&self.things, self.least, turn, name)
     }
@@ -129,8 +128,7 @@ impl<T: Named> NamedList<T> {
         ensures ok { OnOk result (self.new ≡ other_of turn.old self.old) }
         ensures again { OnOk result (IsWayBack T.named turn.new self.new self.old) }
         ensures err { OnErr result ((self.new ≡ self.old) × (turn.new ≡ turn.old)) }
-        ensures without { OnOk result ((place : ℕ) × ((thing : T) ×
-            ((turn.old ≡ Turn.With place thing) × (turn.new ≡ Turn.Without place)))) }
+        ensures without { OnOk result (TurnsRound turn.old turn.new) }
     {
         self.least = self.least.min(turn.octets_in());
         put_in(&mut self.things, turn)

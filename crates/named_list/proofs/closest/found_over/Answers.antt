@@ -12,7 +12,7 @@ abbrev items : Labels → List ℕ
 items k = octets_of k
 
 pub returns : goal.returns
-returns g c name h =
+returns g c = λ name h.
     let es = c.args.things.now.entries in
     let apart : name_eq name c.args.other.now ≡ false
     = ap (λ (o : List ℕ). pointwise nat_eq o (octets_of c.args.other.now)) (sym h) ∙ ap (pointwise nat_eq c.args.octets.now) (sym c.octets.ensures.value) ∙ sym c.eq.ensures ∙ c.if-eq.false in
