@@ -1,9 +1,10 @@
 -- The request in the octets that a server received (RFC 1035, section 4.1).
-use Rattle.std.specs.Prelude.{◌≡◌, ℕ, ◌+◌, ◌<◌, ◌≤◌, true, false, List, length, take, drop}
+use Rattle.std.specs.Prelude.{◌≡◌, ℕ, ◌+◌, ◌<◌, ◌≤◌, ◌⊎◌, true, false, List, length, take, drop}
 use Rattle.dns_name.specs.Labels.{Labels}
 use Rattle.dns_text.specs.declared.record.Question.{Question}
 use Rattle.dns_text.specs.Kind.{is_excluded}
 use Rattle.dns_wire.specs.declared.message.TheConstants.{CLASS_IN}
+use Rattle.dns_wire.specs.declared.fault.WireFault.{WireFault}
 use Rattle.dns_wire.specs.declared.limits.TheConstants.{HEADER_OCTETS}
 use Rattle.dns_wire.specs.declared.message.Classed.{Classed}
 use Rattle.dns_wire.specs.declared.message.Message.{Message}
@@ -16,13 +17,21 @@ use Rattle.dns_wire.specs.Read.Header.{head_in, question_count}
 use Rattle.dns_wire.specs.Read.Message.{SpelledMessage}
 use Rattle.dns_wire.specs.Read.Number.{u16_at}
 use Rattle.dns_wire.specs.Read.Place.{next_at}
-use Rattle.dns_wire.specs.Read.Name.{SpelledName}
+use Rattle.dns_wire.specs.Read.Name.{SpelledName, UnspelledName}
 use Rattle.dns_wire.specs.Read.Question.{QuestionAt}
 
 -- The name at a place has a pointer.
 pub data HasPointer (m : List ℕ) : ℕ → Type 0 where
   here : {at to : ℕ} → next_at m at ≡ Pointer to → HasPointer m at
   behind_label : {at n : ℕ} → next_at m at ≡ Label n → HasPointer m (at + 1 + n) → HasPointer m at
+
+-- At a place of a message is a name without a pointer, and `after` is the place after it.
+abbrev pub HasWholeName : List ℕ → ℕ → ℕ → Type 0
+HasWholeName m at after = (labels : Labels) × SpelledName m at after labels × ¬ (HasPointer m at)
+
+-- The octets from a place of a message on spell no name, or one with a pointer.
+abbrev pub LacksWholeName : List ℕ → ℕ → Type 0
+LacksWholeName m at = ((fault : WireFault) × UnspelledName m at fault) ⊎ HasPointer m at
 
 -- The octets have a whole header, which is that of a standard query and not of a response.
 pub record IsStandardQuery (m : List ℕ) : Type 0 where

@@ -5,6 +5,7 @@ use Rattle.dns_wire.specs.declared.message.Head.{Head}
 use Rattle.dns_wire.specs.declared.message.Message.{Message}
 use Rattle.dns_wire.specs.declared.server.query.Query.{Query}
 use Rattle.dns_wire.specs.Read.Header.{head_in}
+use Rattle.dns_wire.specs.Write.Message.{octets_with}
 use Rattle.dns_wire.specs.Write.Question.{in_class_in}
 
 -- the head of an error reply: the query's identifier, opcode and RD bit, and this RCODE
@@ -22,3 +23,7 @@ cut_reply head question = record { head = record head { tc = true }; questions =
 -- the truncated form of a reply to a query, from the reply's octets
 abbrev pub cut_to : Query → List ℕ → Message
 cut_to query reply = cut_reply (head_in reply) query.question
+
+-- the octets of that form, which repeat those of the query's question
+abbrev pub cut_octets : Query → List ℕ → List ℕ
+cut_octets query reply = octets_with query.octets (cut_to query reply)

@@ -2,10 +2,12 @@
 use Rattle.std.specs.Prelude.{◌≡◌, ◌≤◌, ◌⊎◌, ℕ, List, [], ◌∷◌, length, Result, Err, IfErr}
 use Rattle.dns_text.specs.declared.record.Question.{Question}
 use Rattle.dns_wire.specs.declared.limits.TheConstants.{MOST_OCTETS}
+use Rattle.dns_wire.specs.declared.message.Head.{Head}
 use Rattle.dns_wire.specs.declared.message.Message.{Message}
 use Rattle.dns_wire.specs.declared.server.query.Query.{Query}
 use Rattle.dns_wire.specs.declared.write.encoding.EncodeFault.{EncodeFault}
 use Rattle.dns_wire.specs.declared.write.encoding.EncodeFault.TheVariants.{TooLong, NoMemory}
+use Rattle.dns_wire.specs.Lent.{Parts, lent_reply}
 use Rattle.dns_wire.specs.Read.Message.{SpelledMessage}
 use Rattle.dns_wire.specs.WellFormed.{IsWellFormed}
 use Rattle.dns_wire.specs.Write.Question.{in_class_in, IsQuestionOctets}
@@ -26,6 +28,10 @@ pub record FailsFor {A : Type 0} (message : Message) (result : Result A EncodeFa
 -- The output is the octets of a reply to a query. Its question is in the upper and lower case of the query's.
 abbrev pub EncodesReply : Query → Message → List ℕ → Type 0
 EncodesReply query reply out = Encodes (octets_with query.octets reply) reply out
+
+-- The same of a reply with this head and lent sections.
+abbrev pub EncodesLent : Query → Head → Parts → Parts → List ℕ → Type 0
+EncodesLent query head answer authority out = EncodesReply query (lent_reply head query.question answer authority) out
 
 -- The octets spell this message, and no other.
 pub record SpellsOnly (octets : List ℕ) (v : Message) : Type 0 where

@@ -12,6 +12,10 @@ abbrev pub soa_octets : Labels → Labels → ℕ → ℕ → ℕ → ℕ → �
 soa_octets primary mailbox serial refresh retry expire minimum =
     name_octets primary ++ name_octets mailbox ++ u32_octets serial ++ u32_octets refresh ++ u32_octets retry ++ u32_octets expire ++ u32_octets minimum
 
+-- the same, its times as one: refresh, retry, expire and minimum
+abbrev pub soa_octets_timed : Labels → Labels → ℕ → ℕ × ℕ × ℕ × ℕ → List ℕ
+soa_octets_timed primary mailbox serial times = soa_octets primary mailbox serial times.0 times.1 times.2 times.3
+
 -- RDATA of each form
 unfoldable pub data_octets : Data → List ℕ
 data_octets (A octets) = octets

@@ -1,12 +1,12 @@
 //! Names in messages, which may point back to others.
 
-ghost use Rattle.std.specs.Prelude.{◌≡◌, ◌≤◌, ◌+◌, length, take, MatchOption, MatchResult, IfOk, IfSome};
+ghost use Rattle.std.specs.Prelude.{◌≡◌, ◌≤◌, ◌+◌, length, take, IfOk, IfSome};
 ghost use Rattle.std.specs.Option.{option_copied};
-ghost use Rattle.dns_name.specs.Labels.{Labels, IsName};
+ghost use Rattle.dns_name.specs.Labels.{IsName};
 ghost use Rattle.dns_wire.specs.declared.fault.WireFault.{WireFault};
 ghost use Rattle.dns_wire.specs.Fault.{Gives};
-ghost use Rattle.dns_wire.specs.Read.Decoding.{UnlessMemory};
-ghost use Rattle.dns_wire.specs.Read.Name.{NameAt, SpelledIn, UnspelledIn, name_read_in, name_read, name_end};
+ghost use Rattle.dns_wire.specs.Read.Decoding.{FollowsEnd, FollowsName};
+ghost use Rattle.dns_wire.specs.Read.Name.{SpelledIn, name_read_in, name_read, name_end};
 
 use crate::fault::WireFault;
 use crate::limits::HEADER_OCTETS;
@@ -27,8 +27,7 @@ fn follow_name(
 ) -> Result<(Name, usize), WireFault>
     requires within { start ≤ limit }
     requires limit { limit ≤ length message.now }
-    ensures stands { MatchResult result (λ r. NameAt message.now (take limit message.now) start start r.1 r.0)
-        (λ e. UnlessMemory e (UnspelledIn message.now (take limit message.now) ending start e)) }
+    ensures stands { FollowsName message.now limit ending start result }
     ensures name { IfOk result (λ r. IsName r.0) }
 {
     let octets = message.as_slice();
@@ -145,9 +144,7 @@ pub(crate) fn name_at(
 fn follow_end(message: &Wire<'_>, limit: usize, start: usize) -> Option<usize>
     requires within { start ≤ limit }
     requires limit { limit ≤ length message.now }
-    ensures { MatchOption result
-        ((ending : WireFault) → (fault : WireFault) × UnspelledIn message.now (take limit message.now) ending start fault)
-        (λ after. (labels : Labels) × SpelledIn message.now (take limit message.now) start after labels) }
+    ensures { FollowsEnd message.now limit start result }
 {
     let octets = message.as_slice();
     let (mut front, _) = octets.split_at(limit);

@@ -1,10 +1,8 @@
 //! The request in the octets that a server received.
 
-ghost use Rattle.std.specs.Prelude.{◌⊎◌, ◌≡◌, ◌≤◌, ◌+◌, length, IfOk, IfErr, MatchOption, IfSome};
-ghost use Rattle.dns_wire.specs.Server.Asking.{HasPointer, IsMalformed, AsksName, AsksFor, IsGood, IsQueryFrom, AskedOnce};
+ghost use Rattle.std.specs.Prelude.{◌≡◌, ◌≤◌, ◌+◌, length, IfOk, IfErr, MatchOption, IfSome};
+ghost use Rattle.dns_wire.specs.Server.Asking.{IsMalformed, AsksName, AsksFor, IsGood, IsQueryFrom, AskedOnce, HasWholeName, LacksWholeName};
 ghost use Rattle.dns_name.specs.Labels.{Labels};
-ghost use Rattle.dns_wire.specs.declared.fault.WireFault.{WireFault};
-ghost use Rattle.dns_wire.specs.Read.Name.{SpelledName, UnspelledName};
 ghost use Rattle.dns_wire.specs.Read.Number.{u16_at};
 
 use crate::limits::HEADER_OCTETS;
@@ -25,9 +23,7 @@ use std::alloc::{AllocError, Global};
 /// The place after the name at a place of a message, if the name is whole.
 fn whole_end(message: &[u8], start: usize) -> Option<usize>
     requires { start ≤ length message.now }
-    ensures stands { MatchOption result
-        (((fault : WireFault) × UnspelledName message.now start fault) ⊎ HasPointer message.now start)
-        (λ after. (labels : Labels) × SpelledName message.now start after labels × ¬ (HasPointer message.now start)) }
+    ensures stands { MatchOption result (LacksWholeName message.now start) (λ after. HasWholeName message.now start after) }
     ensures within { IfSome result (λ after. after ≤ length message.now) }
 {
     let mut used = 0;

@@ -5,7 +5,7 @@ ghost use Rattle.dns_name.specs.Labels.{IsName};
 ghost use Rattle.dns_wire.specs.Read.Header.{head_in};
 ghost use Rattle.dns_wire.specs.WellFormed.{IsHead};
 ghost use Rattle.dns_wire.specs.Read.Message.{SpelledMessage};
-ghost use Rattle.dns_wire.specs.Server.Replying.{fault_head, head_alone, cut_to};
+ghost use Rattle.dns_wire.specs.Server.Replying.{fault_head, head_alone, cut_to, cut_octets};
 ghost use Rattle.dns_wire.specs.Write.Header.{header_octets};
 ghost use Rattle.dns_wire.specs.Write.Message.{octets_with};
 
@@ -66,8 +66,7 @@ fn cut_to_question(reply: &mut Vec<u8>, query: &Query)
 pub fn cut_for_udp(reply: &mut Vec<u8>, query: &Query)
     ensures bound { length reply.new.items ≤ MOST_UDP_OCTETS }
     ensures short { length reply.old.items ≤ MOST_UDP_OCTETS → reply.new.items ≡ reply.old.items }
-    ensures cut { MOST_UDP_OCTETS < length reply.old.items →
-        reply.new.items ≡ octets_with query.now.octets (cut_to query.now reply.old.items) }
+    ensures cut { MOST_UDP_OCTETS < length reply.old.items → reply.new.items ≡ cut_octets query.now reply.old.items }
     ensures spelled { MOST_UDP_OCTETS < length reply.old.items → SpelledMessage reply.new.items (cut_to query.now reply.old.items) }
 {
     if reply.len() > MOST_UDP_OCTETS {

@@ -5,7 +5,7 @@ ghost use Rattle.std.specs.List.{AllByRecursion};
 ghost use Rattle.dns_name.specs.Labels.{IsName};
 ghost use Rattle.dns_wire.specs.declared.write.encoding.EncodeFault.{EncodeFault};
 ghost use Rattle.dns_wire.specs.declared.write.encoding.EncodeFault.TheVariants.{TooLong, NoMemory};
-ghost use Rattle.dns_wire.specs.Write.Encoding.{Encodes, EncodesReply, FailsFor, WrittenIsRead, RepliesAreRead};
+ghost use Rattle.dns_wire.specs.Write.Encoding.{Encodes, EncodesReply, FailsFor, WrittenIsRead, RepliesAreRead, EncodesLent};
 ghost use Rattle.dns_wire.specs.Read.Message.{SpelledMessage};
 ghost use Rattle.dns_wire.specs.Lent.{reply_of, lent_reply};
 ghost use Rattle.dns_wire.specs.WellFormed.{HasItsForm, HasForms, IsHead, AreFormed, AreRecords, IsWellFormed};
@@ -143,8 +143,7 @@ pub fn encode_lent<A: Section, B: Section>(
 ) -> Result<Vec<u8>, EncodeFault>
     requires answer { AllByRecursion (AllByRecursion HasItsForm) (A.parts answer.now) }
     requires authority { AllByRecursion (AllByRecursion HasItsForm) (B.parts authority.now) }
-    ensures encoded { IfOk result (λ out.
-        EncodesReply query.now (lent_reply head.now query.now.question (A.parts answer.now) (B.parts authority.now)) out.items) }
+    ensures encoded { IfOk result (λ out. EncodesLent query.now head.now (A.parts answer.now) (B.parts authority.now) out.items) }
     ensures fails { FailsFor (lent_reply head.now query.now.question (A.parts answer.now) (B.parts authority.now)) result }
 {
     let sections = Sections {

@@ -5,7 +5,7 @@ ghost use Rattle.std.specs.List.{AllByRecursion};
 ghost use Rattle.std.specs.Option.{option_copied};
 ghost use Rattle.dns_wire.specs.Lent.{in_order};
 ghost use Rattle.dns_wire.specs.WellFormed.{HasItsForm, IsRecord, AreFormed, AreRecords};
-ghost use Rattle.dns_wire.specs.Write.Record.{records_octets};
+ghost use Rattle.dns_wire.specs.Write.Record.{records_octets, section_octets};
 ghost use Rattle.dns_wire.specs.Write.Size.{records_len};
 ghost use Rattle.dns_wire.specs.Write.Message.{sections_octets};
 
@@ -23,8 +23,7 @@ fn push_section<S: Section>(
 ) -> Result<(), AllocError>
     requires forms { AllByRecursion HasItsForm (in_order (S.parts section.now)) }
     requires short { length (records_octets (option_copied first) (in_order (S.parts section.now))) ≤ MOST_OCTETS }
-    ensures octets { OnOk result
-        (out.new.items ≡ out.old.items ++ records_octets (option_copied first.entry) (in_order (S.parts section.now))) }
+    ensures octets { OnOk result (out.new.items ≡ out.old.items ++ section_octets (option_copied first.entry) (S.parts section.now)) }
     ensures fits { OnOk result (AllByRecursion IsRecord (in_order (S.parts section.now))) }
 {
     for part in 0..section.part_count() {

@@ -6,7 +6,7 @@ ghost use Rattle.dns_name.specs.Labels.{with_length};
 ghost use Rattle.dns_text.specs.Data.{IsSized};
 ghost use Rattle.dns_text.specs.String.{AreOctets};
 ghost use Rattle.dns_wire.specs.WellFormed.{IsData};
-ghost use Rattle.dns_wire.specs.Write.Rdata.{data_octets, soa_octets};
+ghost use Rattle.dns_wire.specs.Write.Rdata.{data_octets, soa_octets_timed};
 
 use crate::write::name::push_name;
 use crate::write::number::{push_u16, push_u32};
@@ -37,8 +37,7 @@ fn push_soa(
     times: (u32, u32, u32, u32),
 ) -> Result<(), AllocError>
     ensures fits { OnOk result (IsData (Data.Soa names.entry.0.now names.entry.1.now serial times.0 times.1 times.2 times.3)) }
-    ensures octets { OnOk result
-        (out.new.items ≡ out.old.items ++ soa_octets names.entry.0.now names.entry.1.now serial times.0 times.1 times.2 times.3) }
+    ensures octets { OnOk result (out.new.items ≡ out.old.items ++ soa_octets_timed names.entry.0.now names.entry.1.now serial times) }
 {
     push_name(out, names.0)?;
     push_name(out, names.1)?;

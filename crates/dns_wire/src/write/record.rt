@@ -6,9 +6,8 @@ ghost use Rattle.std.specs.Option.{option_copied};
 ghost use Rattle.dns_name.specs.Labels.{IsName};
 ghost use Rattle.dns_wire.specs.Lent.{part_at};
 ghost use Rattle.dns_wire.specs.WellFormed.{HasItsForm, IsRecord};
-ghost use Rattle.dns_wire.specs.Write.Number.{u16_octets, u32_octets};
 ghost use Rattle.dns_wire.specs.Write.Rdata.{data_octets};
-ghost use Rattle.dns_wire.specs.Write.Record.{behind_owner_octets, record_octets, records_octets};
+ghost use Rattle.dns_wire.specs.Write.Record.{behind_owner_octets, record_octets, records_octets, fields_octets, part_octets};
 
 use crate::lent::{LentRecord, Section, record_in};
 use crate::limits::MOST_OCTETS;
@@ -26,8 +25,7 @@ fn push_fields(
     ttl: u32,
     len: u16,
 ) -> Result<(), AllocError>
-    ensures octets { OnOk result
-        (out.new.items ≡ out.old.items ++ (u16_octets kind ++ u16_octets class ++ u32_octets ttl ++ u16_octets len)) }
+    ensures octets { OnOk result (out.new.items ≡ out.old.items ++ fields_octets kind class ttl len) }
     ensures range { (kind < 2 ^ 16) × (class < 2 ^ 16) × (ttl < 2 ^ 32) }
 {
     let [kind_high, kind_low] = kind.to_be_bytes();
@@ -81,8 +79,7 @@ pub(crate) fn push_part<S: Section>(
 ) -> Result<(), AllocError>
     requires forms { AllByRecursion HasItsForm (part_at (S.parts section.now) part) }
     requires short { length (records_octets (option_copied first) (part_at (S.parts section.now) part)) ≤ MOST_OCTETS }
-    ensures octets { OnOk result
-        (out.new.items ≡ out.old.items ++ records_octets (option_copied first.entry) (part_at (S.parts section.now) part)) }
+    ensures octets { OnOk result (out.new.items ≡ out.old.items ++ part_octets (option_copied first.entry) (S.parts section.now) part) }
     ensures fits { OnOk result (AllByRecursion IsRecord (part_at (S.parts section.now) part)) }
 {
     for place in 0..section.record_count(part) {
