@@ -22,9 +22,13 @@ passes s = s.ttl == 0
 abbrev pub lives : Set → Bool
 lives s = not (passes s)
 
+-- the negative answer of a message, if there is one, as a list
+abbrev pub negatives_in : Message → Question → Labels → List Said
+negatives_in message question zone = option_to_list (negative_in message question zone)
+
 -- the finds of a message: the sets that may be cached, and the negative answer, if there is one
 abbrev pub finds_in : Message → Question → Labels → List Said
-finds_in message question zone = map said_of (filter lives (sets_in message question zone)) ++ option_to_list (negative_in message question zone)
+finds_in message question zone = map said_of (filter lives (sets_in message question zone)) ++ negatives_in message question zone
 
 -- the sets of a message with a TTL of 0
 abbrev pub passing_in : Message → Question → Labels → List Set

@@ -1,12 +1,11 @@
 //! The harvest of a message.
 
 ghost use Rattle.std.specs.Prelude.{◌≡◌, ◌≤◌, ◌++◌, IfOk, OnOk, filter, map};
-ghost use Rattle.std.specs.Option.{option_to_list};
 ghost use Rattle.dns_wire.specs.WellFormed.{HasForms};
-ghost use Rattle.neg_rule.specs.Negative.{negative_in, said_by};
+ghost use Rattle.neg_rule.specs.Negative.{said_by};
 ghost use Rattle.harvest.specs.Learnt.{said_of, set_of};
 ghost use Rattle.harvest.specs.Chosen.{chosen_in};
-ghost use Rattle.harvest.specs.Harvest.{finds_in, lives, passes, passing_in};
+ghost use Rattle.harvest.specs.Harvest.{finds_in, lives, negatives_in, passes, passing_in};
 
 use crate::choosing::chosen_of;
 use crate::counted::records_of;
@@ -99,8 +98,7 @@ fn push_negative(
     zone: &Name,
     finds: &mut Vec<SharedFind>,
 ) -> Result<(), NoMemory>
-    ensures { OnOk result (map said_by finds.new.items
-        ≡ map said_by finds.old.items ++ option_to_list (negative_in message.now question.now zone.now)) }
+    ensures { OnOk result (map said_by finds.new.items ≡ map said_by finds.old.items ++ negatives_in message.now question.now zone.now) }
 {
     match negative_of(alloc, message, question, zone)? {
         None => Ok(()),
