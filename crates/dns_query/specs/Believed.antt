@@ -1,17 +1,20 @@
 -- The sets of a harvest that may be used as answers: those of rank 2 or more (RFC 2181, section 5.4.1).
-use Rattle.std.specs.Prelude.{◌≡◌, ℕ, ◌≤◌, ◌<◌, false, List, length, map, take, slice_index_or}
+use Rattle.std.specs.Prelude.{◌≡◌, ℕ, ◌≤◌, ◌<◌, false, List, length, map, take, slice_index_or, Option, MatchOption}
+use Rattle.std.specs.Borrow.{Bor}
 use Rattle.std.specs.List.{AllByRecursion, Contains}
 use Rattle.dns_name.specs.Labels.{Labels}
 use Rattle.dns_text.specs.declared.record.Question.{Question}
 use Rattle.dns_wire.specs.declared.message.Message.{Message}
 use Rattle.ranked.specs.Body.{is_negative}
 use Rattle.ranked.specs.Rank.{level_of}
+use Rattle.ranked.specs.declared.find.Find.{Find as CachedFind}
 use Rattle.ranked.specs.declared.find.Scope.TheVariants.{One}
 use Rattle.neg_rule.specs.Negative.{Said, said_by}
 use Rattle.harvest.specs.Harvest.{finds_in, passing_in}
 use Rattle.harvest.specs.Learnt.{set_of}
 use Rattle.harvest.specs.Sets.{Set}
 use Rattle.harvest.specs.declared.harvest_type.Harvest.{Harvest}
+use Rattle.harvest.specs.declared.passing.PassingSet.{PassingSet}
 use Rattle.dns_query.specs.declared.sets.Believed.{Believed}
 use Rattle.dns_query.specs.declared.sets.Believed.TheVariants.{Find, Passing}
 
@@ -53,3 +56,18 @@ pub record IsFirst {X : Type 0} (P : X → Type 0) (xs : List X) (x : X) : Type 
 abbrev pub IsBelieved : List Said → List Set → Question → Believed → Type 0
 IsBelieved finds passing question (Find find) = IsFirst (IsFoundFor question) finds (said_by find.now)
 IsBelieved finds passing question (Passing set) = AllByRecursion (λ said. ¬ (IsFoundFor question said)) finds × IsFirst (IsPassingFor question) passing (set_of set.now)
+
+-- The first of these finds that may be the answer to this question is found, if there is one.
+abbrev pub FindsFirstFind : Question → List CachedFind → Option (Bor CachedFind) → Type 0
+FindsFirstFind question finds found =
+    MatchOption found (AllByRecursion (λ said. ¬ (IsFoundFor question said)) (map said_by finds)) (λ find. IsFirst (IsFoundFor question) (map said_by finds) (said_by find.now))
+
+-- The first of these passing sets that may be the answer to this question is found, if there is one.
+abbrev pub FindsFirstPassing : Question → List PassingSet → Option (Bor PassingSet) → Type 0
+FindsFirstPassing question passing found =
+    MatchOption found (AllByRecursion (λ set. ¬ (IsPassingFor question set)) (map set_of passing)) (λ set. IsFirst (IsPassingFor question) (map set_of passing) (set_of set.now))
+
+-- The set of a harvest that is believed for this question is found, if the harvest has one.
+abbrev pub FindsBelieved : Harvest → Question → Option Believed → Type 0
+FindsBelieved harvest question found =
+    MatchOption found (¬ (HarvestHasSet harvest question)) (IsBelieved (map said_by harvest.finds) (map set_of harvest.passing) question)

@@ -1,5 +1,5 @@
 -- Referrals: responses that only name servers nearer to the question's name (RFC 1034, section 5.3.3, step 4b).
-use Rattle.std.specs.Prelude.{◌≡◌, ℕ, ◌==◌, ◌&&◌, ◌||◌, Bool, not, true, false, List, [], ◌∷◌, ◌++◌, length, filter, Option, Some, None, if◌then◌else◌}
+use Rattle.std.specs.Prelude.{◌≡◌, ℕ, ◌==◌, ◌&&◌, ◌||◌, Bool, not, true, false, List, [], ◌∷◌, ◌++◌, length, map, filter, Option, Some, None, MatchOption, if◌then◌else◌}
 use Rattle.std.specs.List.{filter_map, find, flat_map, list_any, list_all}
 use Rattle.std.specs.Option.{option_map}
 use Rattle.dns_name.specs.Labels.{Labels, IsAtOrBelow}
@@ -18,9 +18,11 @@ use Rattle.ranked.specs.Body.{data_of}
 use Rattle.ranked.specs.Find.{has_kind}
 use Rattle.ranked.specs.Set.{each_once}
 use Rattle.neg_rule.specs.Alias.{target_of}
-use Rattle.neg_rule.specs.Negative.{Said}
+use Rattle.neg_rule.specs.Negative.{Said, said_by}
 use Rattle.harvest.specs.Harvest.{finds_in, passing_in}
+use Rattle.harvest.specs.Learnt.{set_of}
 use Rattle.harvest.specs.Sets.{Set}
+use Rattle.harvest.specs.declared.harvest_type.Harvest.{Harvest}
 use Rattle.dns_query.specs.declared.verdict.Referral.{Referral}
 
 -- ---- the zone
@@ -56,6 +58,10 @@ pub record RefersTo (asked : Labels) (v : Message) (zone : Labels) : Type 0 wher
   pub below : IsAtOrBelow zone asked
   pub strictly : ¬ (zone ≡ asked)
 
+-- The response refers to no zone.
+abbrev pub RefersNowhere : Labels → Message → Type 0
+RefersNowhere asked v = (zone : Labels) → ¬ (RefersTo asked v zone)
+
 -- ---- its servers
 
 -- the server that a record names, if it is an NS record
@@ -80,10 +86,25 @@ data_found name kind said = if name_eq said.owner name && has_kind said.scope ki
 abbrev pub data_passing : Labels → ℕ → Set → List Data
 data_passing name kind set = if name_eq set.key.owner name && set.key.kind == kind then set.data_in else []
 
+-- the addresses in data of one owner: other names have none
+abbrev pub addrs_owned : ℕ → Labels → List Data → Labels → List Addr
+addrs_owned port owner data_given name = if name_eq owner name then flat_map (addr_of port) data_given else []
+
+-- the addresses of a server from the records of this type in finds
+abbrev pub addrs_found : ℕ → List Said → ℕ → Labels → List Addr
+addrs_found port finds kind name = flat_map (λ said. flat_map (addr_of port) (data_found name kind said)) finds
+
+-- the addresses of a server from the records of this type in passing sets
+abbrev pub addrs_passing : ℕ → List Set → ℕ → Labels → List Addr
+addrs_passing port passing kind name = flat_map (λ set. flat_map (addr_of port) (data_passing name kind set)) passing
+
 -- the addresses of a server from its records of this type: those of the finds, then those of the passing sets
 abbrev pub addrs_by : ℕ → List Said → List Set → ℕ → Labels → List Addr
-addrs_by port finds passing kind name =
-    flat_map (λ said. flat_map (addr_of port) (data_found name kind said)) finds ++ flat_map (λ set. flat_map (addr_of port) (data_passing name kind set)) passing
+addrs_by port finds passing kind name = addrs_found port finds kind name ++ addrs_passing port passing kind name
+
+-- the same of a harvest
+abbrev pub addrs_harvested : ℕ → Harvest → ℕ → Labels → List Addr
+addrs_harvested port harvest kind name = addrs_by port (map said_by harvest.finds) (map set_of harvest.passing) kind name
 
 -- the addresses of a server: IPv4 first, then IPv6
 abbrev pub addrs_of : ℕ → List Said → List Set → Labels → List Addr
@@ -103,3 +124,7 @@ pub record IsReferral (port : ℕ) (zone : Labels) (question : Question) (v : Me
   pub refers : RefersTo zone v referral.zone
   pub above : IsAtOrBelow question.owner referral.zone
   pub servers : AreServers port (finds_in v question zone) (passing_in v question zone) (targets_in v.authority) referral
+
+-- A referral is found if the response is one.
+abbrev pub FindsReferral : ℕ → Labels → Question → Message → Option Referral → Type 0
+FindsReferral port zone question v found = MatchOption found ((referral : Referral) → ¬ (IsReferral port zone question v referral)) (IsReferral port zone question v)

@@ -1,5 +1,5 @@
 -- The verdict on the octets that came for a query (RFC 1034, section 5.3.3, step 4; RFC 2308, section 2).
-use Rattle.std.specs.Prelude.{◌≡◌, ℕ, ◌⊎◌, true, List, map}
+use Rattle.std.specs.Prelude.{◌≡◌, ℕ, ◌⊎◌, true, List, Option, Result, IfOk, MatchOption, map}
 use Rattle.std.specs.Option.{option_map}
 use Rattle.dns_name.specs.Labels.{Labels}
 use Rattle.dns_text.specs.declared.record.Question.{Question}
@@ -18,7 +18,7 @@ use Rattle.dns_query.specs.declared.verdict.Verdict.TheVariants.{Struck, Cut, He
 use Rattle.dns_query.specs.Believed.{HasSet}
 use Rattle.dns_query.specs.Query.{alias_question}
 use Rattle.dns_query.specs.Referral.{IsReferral}
-use Rattle.dns_query.specs.Response.{IsResponse, IsWhole, IsCut}
+use Rattle.dns_query.specs.Response.{IsRead, IsResponse, IsWhole, IsCut, Meets}
 
 -- The harvest has the set that the question asks for, or a CNAME record of its name.
 abbrev pub IsAnswer : Labels → Question → Message → Type 0
@@ -70,3 +70,12 @@ abbrev pub IsVerdict : ℕ → Over → Labels → ℕ → Question → List ℕ
 IsVerdict port over zone id question octets Struck = IsUseless port over zone id question octets
 IsVerdict port over zone id question octets Cut = IsTruncated over id question octets
 IsVerdict port over zone id question octets (HeardAs heard) = IsHeard port zone id question octets heard
+
+-- The answer, denial or referral of a response is found, if it has one.
+abbrev pub FindsSaid : ℕ → Labels → Question → Message → Option Says → Type 0
+FindsSaid port zone question v found = MatchOption found (¬ (Tells port zone question v)) (IsSaid port zone question v)
+
+-- Whichever octets spell a message that meets the question, the verdict on them is right.
+abbrev pub JudgesMessage : {E : Type 0} → ℕ → Labels → Question → Message → Result Verdict E → Type 0
+JudgesMessage port zone question v result =
+    (over : Over) (id : ℕ) (octets : List ℕ) → IsRead octets v → Meets id question v → IfOk result (IsVerdict port over zone id question octets)

@@ -1,10 +1,9 @@
 //! The sets of a harvest that may be used as answers.
 
-ghost use Rattle.std.specs.Prelude.{◌≡◌, ◌↔◌, IsTrue, MatchOption, map};
-ghost use Rattle.std.specs.List.{AllByRecursion};
+ghost use Rattle.std.specs.Prelude.{◌≡◌, ◌↔◌, IsTrue};
 ghost use Rattle.neg_rule.specs.Negative.{said_by};
 ghost use Rattle.harvest.specs.Learnt.{set_of};
-ghost use Rattle.dns_query.specs.Believed.{HasSetAmong, IsBelieved, IsFirst, IsFoundFor, IsPassingFor};
+ghost use Rattle.dns_query.specs.Believed.{IsFoundFor, IsPassingFor, FindsBelieved, FindsFirstFind, FindsFirstPassing};
 
 use crate::sets::Believed;
 use dns_name::Name;
@@ -38,9 +37,7 @@ fn is_passing_for(set: &PassingSet, owner: &Name, kind: u16) -> bool
 
 /// The first find of this name and type that may be used as an answer.
 fn first_found<'a>(finds: &'a [SharedFind], owner: &Name, kind: u16) -> Option<&'a SharedFind>
-    ensures { MatchOption result
-        (AllByRecursion (λ said. ¬ (IsFoundFor (record { owner = owner.now; kind = kind }) said)) (map said_by finds.now))
-        (λ find. IsFirst (IsFoundFor (record { owner = owner.now; kind = kind })) (map said_by finds.now) (said_by find.now)) }
+    ensures { FindsFirstFind (record { owner = owner.now; kind = kind }) finds.now result }
 {
     for find in finds {
         if is_found_for(find.find(), owner, kind) {
@@ -56,9 +53,7 @@ fn first_passing<'a>(
     owner: &Name,
     kind: u16,
 ) -> Option<&'a Shared<PassingSet>>
-    ensures { MatchOption result
-        (AllByRecursion (λ set. ¬ (IsPassingFor (record { owner = owner.now; kind = kind }) set)) (map set_of passing.now))
-        (λ set. IsFirst (IsPassingFor (record { owner = owner.now; kind = kind })) (map set_of passing.now) (set_of set.now)) }
+    ensures { FindsFirstPassing (record { owner = owner.now; kind = kind }) passing.now result }
 {
     for set in passing {
         if is_passing_for(set.get(), owner, kind) {
@@ -70,9 +65,7 @@ fn first_passing<'a>(
 
 /// The first set of this name and type that may be used as an answer.
 pub(crate) fn believed_of<'a>(harvest: &'a Harvest, owner: &Name, kind: u16) -> Option<Believed<'a>>
-    ensures { MatchOption result
-        (¬ (HasSetAmong (map said_by harvest.now.finds) (map set_of harvest.now.passing) (record { owner = owner.now; kind = kind })))
-        (IsBelieved (map said_by harvest.now.finds) (map set_of harvest.now.passing) (record { owner = owner.now; kind = kind })) }
+    ensures { FindsBelieved harvest.now (record { owner = owner.now; kind = kind }) result }
 {
     match first_found(harvest.finds.as_slice(), owner, kind) {
         Some(find) => Some(Believed::Find(find)),
@@ -86,9 +79,7 @@ pub(crate) fn believed_of<'a>(harvest: &'a Harvest, owner: &Name, kind: u16) -> 
 /// The first set of a harvest that may be used as the answer to this question: it has rank 2 or more (RFC 2181, section
 /// 5.4.1). Finds come before passing sets.
 pub fn believed<'a>(harvest: &'a Harvest, question: &Question) -> Option<Believed<'a>>
-    ensures { MatchOption result
-        (¬ (HasSetAmong (map said_by harvest.now.finds) (map set_of harvest.now.passing) question.now))
-        (IsBelieved (map said_by harvest.now.finds) (map set_of harvest.now.passing) question.now) }
+    ensures { FindsBelieved harvest.now question.now result }
 {
     believed_of(harvest, &question.owner, question.kind)
 }

@@ -1,15 +1,14 @@
 //! The judgement of the octets that came for a query.
 
-ghost use Rattle.std.specs.Prelude.{◌≡◌, ◌↔◌, ◌⊎◌, List, map, true, ℕ, IfOk, IsTrue, MatchOption};
+ghost use Rattle.std.specs.Prelude.{◌≡◌, ◌↔◌, ◌⊎◌, List, map, true, ℕ, IfOk, IsTrue};
 ghost use Rattle.dns_wire.specs.WellFormed.{HasForms};
 ghost use Rattle.neg_rule.specs.Negative.{said_by};
 ghost use Rattle.harvest.specs.Harvest.{finds_in, passing_in};
 ghost use Rattle.harvest.specs.Learnt.{set_of};
 ghost use Rattle.dns_query.specs.Believed.{HarvestHasSet};
 ghost use Rattle.dns_query.specs.Query.{alias_question};
-ghost use Rattle.dns_query.specs.Response.{IsRead, IsWhole, Meets};
-ghost use Rattle.dns_query.specs.declared.over.Over.{Over};
-ghost use Rattle.dns_query.specs.Verdict.{IsDenial, IsSaid, IsVerdict, Tells};
+ghost use Rattle.dns_query.specs.Response.{IsRead, IsWhole};
+ghost use Rattle.dns_query.specs.Verdict.{IsDenial, IsSaid, IsVerdict, FindsSaid, JudgesMessage};
 
 use crate::believing::believed_of;
 use crate::over::Over;
@@ -75,9 +74,7 @@ fn says(
 ) -> Result<Option<Says>, NoMemory>
     requires finds { map said_by harvest.now.finds ≡ finds_in message.now question.now zone.now }
     requires passing { map set_of harvest.now.passing ≡ passing_in message.now question.now zone.now }
-    ensures { IfOk result (λ said. MatchOption said
-        (¬ (Tells port zone.now question.now message.now))
-        (IsSaid port zone.now question.now message.now)) }
+    ensures { IfOk result (λ found. FindsSaid port zone.now question.now message.now found) }
 {
     if is_answer(harvest, question) {
         return Ok(Some(Says::Answers));
@@ -102,8 +99,7 @@ fn heard(
 ) -> Result<Verdict, NoMemory>
     requires forms { HasForms message.now }
     requires whole { IsWhole message.now }
-    ensures { (over : Over) (id : ℕ) (octets : List ℕ) → IsRead octets message.now → Meets id question.now message.now
-        → IfOk result (IsVerdict port over zone.now id question.now octets) }
+    ensures { JudgesMessage port zone.now question.now message.now result }
 {
     let harvest = harvest(alloc, message, question, zone)?;
     match says(alloc, port, zone, question, message, &harvest)? {

@@ -1,10 +1,10 @@
 //! Referrals to servers nearer to a name.
 
-ghost use Rattle.std.specs.Prelude.{◌≡◌, map, IfOk, MatchOption};
+ghost use Rattle.std.specs.Prelude.{◌≡◌, map, IfOk};
 ghost use Rattle.neg_rule.specs.Negative.{said_by};
 ghost use Rattle.harvest.specs.Harvest.{finds_in, passing_in};
 ghost use Rattle.harvest.specs.Learnt.{set_of};
-ghost use Rattle.dns_query.specs.Referral.{AreServers, IsReferral};
+ghost use Rattle.dns_query.specs.Referral.{AreServers, FindsReferral};
 
 use crate::referred_zone::zone_of;
 use crate::servers::{add_server, addrs_by_name, targets_in};
@@ -50,9 +50,7 @@ pub(crate) fn referral_of(
 ) -> Result<Option<Referral>, NoMemory>
     requires finds { map said_by harvest.now.finds ≡ finds_in message.now question.now zone.now }
     requires passing { map set_of harvest.now.passing ≡ passing_in message.now question.now zone.now }
-    ensures { IfOk result (λ found. MatchOption found
-        ((referral : Referral) → ¬ (IsReferral port zone.now question.now message.now referral))
-        (IsReferral port zone.now question.now message.now)) }
+    ensures { IfOk result (λ found. FindsReferral port zone.now question.now message.now found) }
 {
     match zone_of(zone, message) {
         None => Ok(None),

@@ -3,8 +3,8 @@
 ghost use Rattle.std.specs.Prelude.{◌≡◌, ◌↔◌, IsTrue, MatchOption};
 ghost use Rattle.std.specs.List.{list_all, list_any};
 ghost use Rattle.std.specs.Option.{option_map};
-ghost use Rattle.dns_name.specs.Labels.{Labels, IsAtOrBelow};
-ghost use Rattle.dns_query.specs.Referral.{is_in, is_of, is_own, ns_owner, MayRefer, RefersTo};
+ghost use Rattle.dns_name.specs.Labels.{IsAtOrBelow};
+ghost use Rattle.dns_query.specs.Referral.{is_in, is_of, is_own, ns_owner, MayRefer, RefersTo, RefersNowhere};
 
 use crate::believing::is_same;
 use dns_name::Name;
@@ -81,9 +81,7 @@ fn is_nearer(asked: &Name, zone: &Name) -> bool
 
 /// The zone to which a response refers.
 pub(crate) fn zone_of<'a>(asked: &Name, message: &'a Message) -> Option<&'a Name>
-    ensures { MatchOption result
-        ((zone : Labels) → ¬ (RefersTo asked.now message.now zone))
-        (λ zone. RefersTo asked.now message.now zone.now) }
+    ensures { MatchOption result (RefersNowhere asked.now message.now) (λ zone. RefersTo asked.now message.now zone.now) }
 {
     if !may_refer(message) {
         return None;

@@ -1,17 +1,16 @@
 //! The servers that a response names, and their addresses.
 
-ghost use Rattle.std.specs.Prelude.{◌≡◌, ◌==◌, ◌∷◌, ◌++◌, [], filter, length, map, if◌then◌else◌, IfOk, OnOk};
+ghost use Rattle.std.specs.Prelude.{◌≡◌, ◌==◌, ◌∷◌, ◌++◌, [], filter, map, if◌then◌else◌, IfOk, OnOk};
 ghost use Rattle.std.specs.List.{flat_map};
 ghost use Rattle.std.specs.Option.{option_map};
-ghost use Rattle.dns_name.specs.Labels.{Labels};
 ghost use Rattle.dns_name.specs.Order.{name_eq};
 ghost use Rattle.ranked.specs.Body.{data_of};
 ghost use Rattle.ranked.specs.Find.{has_kind};
 ghost use Rattle.ranked.specs.Set.{with_datum};
 ghost use Rattle.neg_rule.specs.Negative.{said_by};
 ghost use Rattle.harvest.specs.Learnt.{set_of};
-ghost use Rattle.dns_query.specs.Indexed.{addrs_at, HasEach};
-ghost use Rattle.dns_query.specs.Referral.{addr_of, addrs_by, addrs_of, data_found, data_passing, target_in, targets_in};
+ghost use Rattle.dns_query.specs.Indexed.{addrs_at, HasEach, AddsAddrs, HasAddrs, lacks_addr};
+ghost use Rattle.dns_query.specs.Referral.{addr_of, addrs_of, target_in, targets_in, addrs_found, addrs_harvested, addrs_owned, addrs_passing};
 
 use crate::referred_zone::is_of;
 use dns_name::{Name, NoMemory};
@@ -135,8 +134,7 @@ fn add_addrs(
     set: &[Data],
     index: &mut BTreeMap<Name, Vec<Addr>>,
 ) -> Result<(), NoMemory>
-    ensures { OnOk result ((name : Labels) → addrs_at index.new name
-        ≡ addrs_at index.old name ++ (if name_eq owner.now name then flat_map (addr_of port) set.now else [])) }
+    ensures { OnOk result (AddsAddrs index.old (addrs_owned port owner.now set.now) index.new) }
 {
     if set.is_empty() {
         return Ok(());
@@ -158,8 +156,7 @@ fn add_found(
     kind: u16,
     index: &mut BTreeMap<Name, Vec<Addr>>,
 ) -> Result<(), NoMemory>
-    ensures { OnOk result ((name : Labels) → addrs_at index.new name
-        ≡ addrs_at index.old name ++ flat_map (λ said. flat_map (addr_of port) (data_found name kind said)) (map said_by finds.now)) }
+    ensures { OnOk result (AddsAddrs index.old (addrs_found port (map said_by finds.now) kind) index.new) }
 {
     for find in finds {
         let find = find.find();
@@ -176,8 +173,7 @@ fn add_passing(
     kind: u16,
     index: &mut BTreeMap<Name, Vec<Addr>>,
 ) -> Result<(), NoMemory>
-    ensures { OnOk result ((name : Labels) → addrs_at index.new name
-        ≡ addrs_at index.old name ++ flat_map (λ set. flat_map (addr_of port) (data_passing name kind set)) (map set_of passing.now)) }
+    ensures { OnOk result (AddsAddrs index.old (addrs_passing port (map set_of passing.now) kind) index.new) }
 {
     for set in passing {
         let set = set.get();
@@ -194,8 +190,7 @@ fn add_kind(
     kind: u16,
     index: &mut BTreeMap<Name, Vec<Addr>>,
 ) -> Result<(), NoMemory>
-    ensures { OnOk result ((name : Labels) → addrs_at index.new name
-        ≡ addrs_at index.old name ++ addrs_by port (map said_by harvest.now.finds) (map set_of harvest.now.passing) kind name) }
+    ensures { OnOk result (AddsAddrs index.old (addrs_harvested port harvest.now kind) index.new) }
 {
     add_found(alloc, port, harvest.finds.as_slice(), kind, index)?;
     add_passing(alloc, port, harvest.passing.as_slice(), kind, index)
@@ -207,8 +202,7 @@ pub(crate) fn addrs_by_name(
     port: u16,
     harvest: &Harvest,
 ) -> Result<BTreeMap<Name, Vec<Addr>>, NoMemory>
-    ensures { IfOk result (λ index. (name : Labels) → addrs_at index name
-        ≡ addrs_of port (map said_by harvest.now.finds) (map set_of harvest.now.passing) name) }
+    ensures { IfOk result (λ index. HasAddrs index (addrs_of port (map said_by harvest.now.finds) (map set_of harvest.now.passing))) }
 {
     let mut index = BTreeMap::new(alloc);
     add_kind(alloc, port, harvest, A, &mut index)?;
@@ -234,8 +228,7 @@ pub(crate) fn add_server(
     missing: &mut Vec<Name>,
 ) -> Result<(), NoMemory>
     ensures addrs { OnOk result (addrs.new.items ≡ addrs.old.items ++ addrs_at index.now target.now) }
-    ensures missing { OnOk result (missing.new.items
-        ≡ missing.old.items ++ filter (λ name. length (addrs_at index.now name) == 0) (target.now ∷ [])) }
+    ensures missing { OnOk result (missing.new.items ≡ missing.old.items ++ filter (λ name. lacks_addr index.now name) (target.now ∷ [])) }
 {
     let own = addrs_at(index, target);
     if own.is_empty() {
