@@ -40,3 +40,21 @@ pub record IsOldest (Ends : Labels → ℕ → Type 0) (name : Labels) : Type 0 
 -- No find of any name ends.
 abbrev pub NoneEnds : (Labels → ℕ → Type 0) → Type 0
 NoneEnds Ends = (name : Labels) (end : ℕ) → Ends name end → ⊥
+
+-- Whatever changes the world keeps: if a find of the name is alive at some moment, by some choice of them, this holds.
+abbrev pub HoldsIfEnding : {W S T : Type 0} → (S → Option ℕ) → (W → List (KeptChange S) → Type 0) → (W → List (KeptChange S) → (ℕ → Bool) → Face T) →
+    W → Labels → Type 0 → Type 0
+HoldsIfEnding {S = S} table keeps face world name P =
+    (kept : List (KeptChange S)) (t end : ℕ) → keeps world kept → IsEnding table face world kept t name end → P
+
+-- Whatever changes the world keeps, this is the name to forget first at a moment.
+abbrev pub IsOldestOf : {W S T : Type 0} → (S → Option ℕ) → (W → List (KeptChange S) → Type 0) → (W → List (KeptChange S) → (ℕ → Bool) → Face T) →
+    W → ℕ → Labels → Type 0
+IsOldestOf {S = S} table keeps face world t name =
+    (kept : List (KeptChange S)) → keeps world kept → AreCurrent kept → IsOldest (IsEnding table face world kept t) name
+
+-- Whatever changes the world keeps, no name has a find that is alive at a moment.
+abbrev pub HasNoneEnding : {W S T : Type 0} → (S → Option ℕ) → (W → List (KeptChange S) → Type 0) → (W → List (KeptChange S) → (ℕ → Bool) → Face T) →
+    W → ℕ → Type 0
+HasNoneEnding {S = S} table keeps face world t =
+    (kept : List (KeptChange S)) → keeps world kept → AreCurrent kept → NoneEnds (IsEnding table face world kept t)

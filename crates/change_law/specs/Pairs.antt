@@ -47,6 +47,11 @@ pub record IsAliveIn {W S T : Type 0} (table : S → Option ℕ) (face : W → L
   pub alive : alive_at t ((face world kept chosen).cell question) ≡ Some held
   pub same : pair_of held.body ≡ pair
 
+-- Whatever changes the world keeps: if a find of the pair is alive, by some choice of them, this holds.
+abbrev pub HoldsIfAlive : {W S T : Type 0} → (S → Option ℕ) → (W → List (KeptChange S) → Type 0) → (W → List (KeptChange S) → (ℕ → Bool) → Face T) →
+    W → ℕ → Labels × Scope → Type 0 → Type 0
+HoldsIfAlive {S = S} table keeps face world t pair P = (kept : List (KeptChange S)) → keeps world kept → IsAliveIn table face world kept t pair → P
+
 -- whether a question is about a pair: it has the owner, and the type unless the pair is of the whole name
 abbrev pub is_about : Labels × Scope → Question → Bool
 is_about pair question = name_eq pair.0 question.owner && has_kind pair.1 question.kind

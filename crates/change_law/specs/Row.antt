@@ -3,12 +3,13 @@ use Rattle.std.specs.Prelude.{◌≡◌, ◌<◌, ◌≤◌, ◌+◌, ℕ, Bool,
 use Rattle.std.proofs.Common.{refl, sym, subst}
 use Rattle.std.specs.List.{AllByRecursion}
 use Rattle.dns_name.specs.Labels.{Labels}
+use Rattle.dns_text.specs.declared.record.Question.{Question}
 use Rattle.ranked.specs.declared.find.Scope.{Scope}
 use Rattle.change_law.specs.declared.kept.KeptChange.{KeptChange}
 use Rattle.change_law.specs.declared.kept.Standing.{Standing}
 use Rattle.change_law.specs.declared.kept.Standing.TheVariants.{Done, Undone, Cleared}
 use Rattle.change_law.specs.Face.{Face, IsSame, IsSameAt}
-use Rattle.change_law.specs.Choice.{IsChoice, IsUncovered, IsFounded, cleared}
+use Rattle.change_law.specs.Choice.{Agree, IsChoice, IsFounded, IsPresent, IsUncovered, cleared}
 use Rattle.change_law.specs.Pairs.{AddsPairs}
 
 -- a kept change, by its ticket and the data that it saved
@@ -140,3 +141,29 @@ abbrev pub IsRefused : {W S T : Type 0} → (S → Option ℕ) → (W → List (
     (W → (Labels × Scope) → Bool) → W → W → Type 0
 IsRefused table keeps face newest stored counts before after =
     IsSameRow table keeps face before after × (newest after ≤ newest before) × (stored after ≡ stored before) × AddsPairs counts [] before after
+
+-- The world stores no more cells, has the same limit, and counts no pair that it did not.
+abbrev pub StoresNoMoreCells : {W : Type 0} → (W → ℕ) → (W → ℕ) → (W → (Labels × Scope) → Bool) → W → W → Type 0
+StoresNoMoreCells stored limit counts before after = (stored after ≤ stored before) × (limit after ≡ limit before) × AddsPairs counts [] before after
+
+-- If the change removed nothing, its undo needs no memory.
+abbrev pub NeedsNoneUnless : {S : Type 0} → Bool → (S → Bool) → S → Type 0
+NeedsNoneUnless removed needs_memory saved = removed ≡ false → needs_memory saved ≡ false
+
+-- ---- laws of a world
+
+-- The face that the world shows is the one of the changes in effect.
+abbrev pub ShowsPresent : {W S T : Type 0} → (W → List (KeptChange S) → Type 0) → (W → List (KeptChange S) → (ℕ → Bool) → Face T) → (W → Face T) → W → Type 0
+ShowsPresent {S = S} keeps face shown world =
+    (kept : List (KeptChange S)) (chosen : ℕ → Bool) → keeps world kept → IsPresent kept chosen → IsSame (face world kept chosen) (shown world)
+
+-- The cells of a face depend only on which of the kept changes are chosen.
+abbrev pub ReadsChosen : {W S T : Type 0} → (W → List (KeptChange S) → Type 0) → (W → List (KeptChange S) → (ℕ → Bool) → Face T) → W → Type 0
+ReadsChosen {S = S} keeps face world =
+    (kept : List (KeptChange S)) (chosen other : ℕ → Bool) → keeps world kept → Agree chosen other kept →
+    (q : Question) → (face world kept chosen).cell q ≡ (face world kept other).cell q
+
+-- The world as it is keeps the changes with the undone ones cleared, too. Each face is as before.
+abbrev pub KeepsCleared : {W S T : Type 0} → (S → Option ℕ) → (W → List (KeptChange S) → Type 0) → (W → List (KeptChange S) → (ℕ → Bool) → Face T) → W → Type 0
+KeepsCleared {S = S} table keeps face world =
+    (kept : List (KeptChange S)) → keeps world kept → IsRowAfter table keeps face same_face any world kept world (cleared kept)

@@ -1,11 +1,10 @@
 //! A change of a world, with its way back.
 
-ghost use Rattle.std.specs.Prelude.{◌≡◌, ◌≤◌, ◌<◌, max, ℕ, Bool, false, Option, None, [], IfOk, IfErr, IsOk, OnOk, OnErr};
+ghost use Rattle.std.specs.Prelude.{◌≡◌, ◌≤◌, ◌<◌, max, ℕ, Bool, false, Option, None, IfOk, IfErr, IsOk, OnOk, OnErr};
 ghost use Rattle.dns_text.specs.declared.record.Question.{Question};
 ghost use Rattle.change_law.specs.Effect.{effect, IsFaultFor};
-ghost use Rattle.change_law.specs.Pairs.{AddsPairs};
 ghost use Rattle.change_law.specs.Row.{CanGoBack, CanGoAgain, GoesBack, GoesAgain, IsSameKind, IsTurned, IsMade, SettlesOldest, SettlesCleared};
-ghost use Rattle.change_law.specs.Row.{IsNoMore, IsRefused, where_chosen};
+ghost use Rattle.change_law.specs.Row.{IsNoMore, IsRefused, NeedsNoneUnless, StoresNoMoreCells, where_chosen};
 
 use crate::fault::ChangeFault;
 use crate::world::World;
@@ -53,15 +52,13 @@ pub trait Change: Drop {
         ensures newest { OnOk result (Self.World.newest world.new ≤ max (Self.World.newest world.old) ticket) }
 
         // Only if it removed something from the tables, its undo may need memory.
-        ensures frees { IfOk result (λ saved. removes self (Self.World.shown world.old).tables ≡ false →
-            Self.World.needs_memory saved ≡ false) }
+        ensures frees { IfOk result (NeedsNoneUnless (removes self (Self.World.shown world.old).tables) Self.World.needs_memory) }
 
         // If the tables allow it, the only fault is that there is no memory.
         ensures err { IfErr result (λ fault. IsFaultFor (reason self (Self.World.shown world.old).tables) fault) }
         ensures same { OnErr result (IsRefused Self.World.table Self.World.keeps Self.World.face Self.World.newest Self.World.stored
             Self.World.counts world.old world.new) }
-        ensures store { (Self.World.stored world.new ≤ Self.World.stored world.old)
-            × (Self.World.limit world.new ≡ Self.World.limit world.old) × AddsPairs Self.World.counts [] world.old world.new };
+        ensures store { StoresNoMoreCells Self.World.stored Self.World.limit Self.World.counts world.old world.new };
 
     /// Undoes a change. No later change of its table is in effect. No face changes.
     fn back(

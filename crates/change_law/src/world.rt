@@ -2,14 +2,12 @@
 
 ghost use Rattle.std.specs.Prelude.{◌≡◌, ◌<◌, ◌≤◌, ◌+◌, ◌^◌, ℕ, Bool, true, false, List, Option, IfOk, IfErr, IfSome, IfNone, IsOk, OnOk, OnErr, IsErrOf};
 ghost use Rattle.dns_name.specs.Labels.{Labels};
-ghost use Rattle.dns_text.specs.declared.record.Question.{Question};
 ghost use Rattle.ranked.specs.declared.find.Scope.{Scope};
 ghost use Rattle.change_law.specs.declared.kept.KeptChange.{KeptChange};
-ghost use Rattle.change_law.specs.Face.{Face, IsSame, face_with, face_without, fate_in};
-ghost use Rattle.change_law.specs.Choice.{Agree, IsPresent, cleared};
-ghost use Rattle.change_law.specs.Row.{IsRowAfter, IsEachRow, IsEachRowFrom, IsNoMore, IsOneMore, IsRefused, any, same_face};
-ghost use Rattle.change_law.specs.Pairs.{AreNeeded, CountsNoneOf, IsAliveIn, pair_of};
-ghost use Rattle.change_law.specs.Oldest.{AreCurrent, IsEnding, IsOldest, NoneEnds};
+ghost use Rattle.change_law.specs.Face.{Face, face_with, face_without, fate_in};
+ghost use Rattle.change_law.specs.Row.{IsEachRow, IsEachRowFrom, IsNoMore, IsOneMore, IsRefused, KeepsCleared, ReadsChosen, ShowsPresent};
+ghost use Rattle.change_law.specs.Pairs.{AreNeeded, CountsNoneOf, HoldsIfAlive, pair_of};
+ghost use Rattle.change_law.specs.Oldest.{HasNoneEnding, HoldsIfEnding, IsOldestOf};
 
 use crate::fault::WorldFault;
 use dns_name::Name;
@@ -87,8 +85,7 @@ pub trait World: Drop {
         ensures at_limit { stored self.old ≡ limit self.old → IfErr result (λ fault. fault ≡ WorldFault.Full (stored self.old)) }
 
         // A find is not refused if one of its pair is alive, by whichever choice of the kept changes.
-        ensures free { (kept : List (KeptChange Self.Saved)) → keeps self.old kept →
-            IsAliveIn table face self.old kept moment (pair_of find) → IsOk result }
+        ensures free { HoldsIfAlive table keeps face self.old moment (pair_of find) (IsOk result) }
 
         // One admission stores one more cell at most: that of the find's pair.
         ensures counts { IsOneMore newest stored limit counts (pair_of find) self.old self.new };
@@ -119,31 +116,24 @@ pub trait World: Drop {
         ensures gone { CountsNoneOf counts owner.now self.new }
 
         // Fewer cells are stored, if a find of the name was alive, by whichever choice of the kept changes.
-        ensures fewer { (kept : List (KeptChange Self.Saved)) (t end : ℕ) → keeps self.old kept →
-            IsEnding table face self.old kept t owner.now end → stored self.new < stored self.old };
+        ensures fewer { HoldsIfEnding table keeps face self.old owner.now (stored self.new < stored self.old) };
 
     /// The name to forget first when no more cells fit: the one whose last find ends first, of the names that have a find alive at a moment,
     /// by whichever choice of the kept changes. Of names whose last finds end in the same second it is the first in the order of names.
     /// It takes no memory.
     fn oldest(&self, moment: u64) -> Option<&Name>
-        ensures some { IfSome result (λ name. (kept : List (KeptChange Self.Saved)) → keeps self.now kept → AreCurrent kept →
-            IsOldest (IsEnding table face self.now kept moment) name.now) }
-        ensures none { IfNone result ((kept : List (KeptChange Self.Saved)) → keeps self.now kept → AreCurrent kept →
-            NoneEnds (IsEnding table face self.now kept moment)) };
+        ensures some { IfSome result (λ name. IsOldestOf table keeps face self.now moment name.now) }
+        ensures none { IfNone result (HasNoneEnding table keeps face self.now moment) };
 
     /// A law: the face that it shows is the face of the changes in effect.
-    ghost shows: { (world : Self) (kept : List (KeptChange Self.Saved)) (chosen : ℕ → Bool) → keeps world kept → IsPresent kept chosen →
-        IsSame (face world kept chosen) (shown world) };
+    ghost shows: { (world : Self) → ShowsPresent keeps face shown world };
 
     /// A law: the cells of a face depend only on which of the kept changes are chosen.
-    ghost reads: { (world : Self) (kept : List (KeptChange Self.Saved)) (chosen other : ℕ → Bool) → keeps world kept →
-        Agree chosen other kept →
-        (q : Question) → (face world kept chosen).cell q ≡ (face world kept other).cell q };
+    ghost reads: { (world : Self) → ReadsChosen keeps face world };
 
     /// A law: at a later moment a sweep has no less to do.
     ghost later: { (world : Self) (s t : ℕ) → s ≤ t → unswept world s ≤ unswept world t };
 
     /// A law: to clear the undone changes, no call is needed. Each face is as before.
-    ghost clears: { (world : Self) (kept : List (KeptChange Self.Saved)) → keeps world kept →
-        IsRowAfter table keeps face same_face any world kept world (cleared kept) };
+    ghost clears: { (world : Self) → KeepsCleared table keeps face world };
 }
