@@ -6,6 +6,7 @@ use Rattle.change_law.specs.declared.kept.KeptChange.{KeptChange}
 use Rattle.change_law.specs.declared.kept.Standing.{Standing}
 use Rattle.change_law.specs.declared.kept.Standing.TheVariants.{Done, Undone}
 use Rattle.change_law.specs.Choice.{IsChoice, IsFounded, IsOneTable, IsUncovered, is_done}
+use Rattle.change_law.specs.Row.{kept_as}
 use Rattle.undo_journal.specs.declared.outcome.Outcome.{Outcome}
 use Rattle.undo_journal.specs.declared.outcome.Outcome.TheVariants.{Moved, NotKept, Buried}
 use Rattle.undo_journal.specs.declared.outcome.TicketReach.{TicketReach}
@@ -251,6 +252,23 @@ IsReach table changes ticket (reach.At place) =
     (is_among (done_of changes) ticket ≡ true) × (over table changes.kept ticket ≡ None) × IsPlaceOf table changes.kept ticket place × CanBeUndone table changes.kept place
 IsReach table changes ticket reach.NotKept = is_among (done_of changes) ticket ≡ false
 IsReach table changes ticket (reach.Buried other) = (is_among (done_of changes) ticket ≡ true) × (over table changes.kept ticket ≡ Some other)
+
+-- At this place is the change that an undo takes back: the newest one in effect.
+abbrev pub IsNextUndo : {S : Type 0} → (S → Option ℕ) → Changes S → ℕ → Type 0
+IsNextUndo table changes place = CanBeUndone table changes.kept place × (ticket_at changes.kept place ≡ last_of (done_of changes))
+
+-- At this place is the change that a redo puts back: the one that was undone last.
+abbrev pub IsNextRedo : {S : Type 0} → (S → Option ℕ) → Changes S → ℕ → Type 0
+IsNextRedo table changes place = CanBeRedone table changes.kept place × (ticket_at changes.kept place ≡ last_of changes.undone)
+
+-- the journal with one more change, which is in effect
+abbrev pub with_done : {S : Type 0} → ℕ → S → Changes S → Changes S
+with_done ticket saved before = record {
+  kept = before.kept ++ kept_as Done ticket saved ∷ [];
+  undone = [];
+  tickets = ticket;
+  limit = before.limit;
+}
 
 -- the code of a journal's changes, as that of a tuple
 abbrev pub changes_code : {S : Type 0} → Coded (KeptChange S) → Coded (Changes S)

@@ -1,10 +1,10 @@
 -- Whether the undo of a kept change may need memory.
-use Rattle.std.specs.Prelude.{◌≡◌, ◌==◌, ◌&&◌, ℕ, Bool, false, List, [], ◌∷◌, ◌++◌, map, if◌then◌else◌}
+use Rattle.std.specs.Prelude.{◌≡◌, ◌==◌, ◌&&◌, ℕ, Bool, false, Some, List, [], ◌∷◌, ◌++◌, map, if◌then◌else◌}
 use Rattle.std.specs.List.{AllByRecursion, list_any}
 use Rattle.change_law.specs.declared.kept.KeptChange.{KeptChange}
 use Rattle.change_law.specs.declared.kept.Standing.TheVariants.{Done}
 use Rattle.change_law.specs.Choice.{is_done}
-use Rattle.undo_journal.specs.Journal.{Changes, in_effect, newest}
+use Rattle.undo_journal.specs.Journal.{Changes, NeedsNone, done_of, in_effect, last_of, newest}
 
 -- whether the undo of a kept change may need memory. It is the next step of a change in effect. Of another it is the step after that.
 abbrev pub undo_needs : {S : Type 0} → (S → Bool) → (S → Bool) → KeptChange S → Bool
@@ -26,6 +26,14 @@ is_needy needs ticket = list_any (λ one. one.0 == ticket && one.1) needs
 -- To undo the change of a ticket, which is in effect, needs no memory.
 abbrev pub UndoNeedsNone : {S : Type 0} → (S → Bool) → List (KeptChange S) → ℕ → Type 0
 UndoNeedsNone needs_memory kept ticket = AllByRecursion (λ k. k.ticket ≡ ticket → k.standing ≡ Done → needs_memory k.saved ≡ false) kept
+
+-- If the last change in effect needs no memory to be undone, this holds.
+abbrev pub HoldsIfUndoIsFree : {S : Type 0} → (S → Bool) → Changes S → Type 0 → Type 0
+HoldsIfUndoIsFree needs_memory before P = (ticket : ℕ) → last_of (done_of before) ≡ Some ticket → UndoNeedsNone needs_memory before.kept ticket → P
+
+-- If the change that was undone last needs no memory to be redone, this holds.
+abbrev pub HoldsIfRedoIsFree : {S : Type 0} → (S → Bool) → Changes S → Type 0 → Type 0
+HoldsIfRedoIsFree needs_memory before P = (ticket : ℕ) → last_of before.undone ≡ Some ticket → NeedsNone needs_memory before.kept ticket → P
 
 -- The undo of a new change may need memory only if the change removed something. The undos of the others need what they did.
 pub record IsNeededAfter {S : Type 0} (needs_memory needs_memory_after : S → Bool) (before : Changes S) (ticket : ℕ) (removed : Bool) (after : Changes S) : Type 0 where

@@ -1,11 +1,9 @@
 //! The journal: a bounded ring of changes, for undo and redo.
 
-ghost use Rattle.std.specs.Prelude.{◌≡◌, ◌≤◌, ◌<◌, ◌^◌, ◌+◌, ◌-◌, ◌++◌, ◌∷◌, [], ℕ, false, length, take, filter, slice_get, vec_capacity, option_map, None, Some, IfOk, IfErr, IfSome, IfNone, IsOk, OnErr, OnOk};
-ghost use Rattle.change_law.specs.declared.kept.KeptChange.{KeptChange};
-ghost use Rattle.change_law.specs.declared.kept.Standing.TheVariants.{Done};
-ghost use Rattle.change_law.specs.Choice.{IsPresent, cleared, is_done};
-ghost use Rattle.change_law.specs.Effect.{effect, IsFaultFor};
-ghost use Rattle.change_law.specs.Row.{kept_as, IsNoMore};
+ghost use Rattle.std.specs.Prelude.{◌≡◌, ◌≤◌, ◌<◌, ◌^◌, [], false, length, filter, slice_get, vec_capacity, option_map, None, Some, IfOk, IfErr, IfSome, IfNone, IsOk, OnErr, OnOk};
+ghost use Rattle.change_law.specs.Choice.{is_done};
+ghost use Rattle.change_law.specs.Effect.{IsFaultFor};
+ghost use Rattle.change_law.specs.Row.{IsNoMore};
 
 use crate::outcome::{Outcome, TicketReach};
 use crate::reach::{is_done, leave_out, lies_on, lies_under};
@@ -44,10 +42,10 @@ impl<C: Change> Model for Journal<C> {
 }
 
 impl<C: Change> Journal<C> {
-    ghost use Rattle.undo_journal.specs.Journal.{AreChanges, CanBeRedone, CanBeUndone, IsForgotten, IsPlaceOf, IsPutBack, IsReach, IsRedo, IsRedoOf, IsTakenBack, IsUndo, IsUndoOf, NeedsNone};
-    ghost use Rattle.undo_journal.specs.Journal.{done_of, first_of, in_effect, is_among, last_of, lies_on, lies_under, out_of_effect, ticket_at, tickets_of};
-    ghost use Rattle.undo_journal.specs.Moving.{ChangesNothing, MovesStandings, SettlesFront, ShowsChange, StoresNoMore, TakesChange};
-    ghost use Rattle.undo_journal.specs.Needs.{UndoNeedsNone};
+    ghost use Rattle.undo_journal.specs.Journal.{AreChanges, CanBeRedone, CanBeUndone, IsForgotten, IsNextRedo, IsNextUndo, IsPlaceOf, IsPutBack, IsReach, IsRedo, IsRedoOf, IsTakenBack, IsUndo, IsUndoOf, NeedsNone};
+    ghost use Rattle.undo_journal.specs.Journal.{done_of, first_of, in_effect, is_among, last_of, lies_on, lies_under, ticket_at, tickets_of, with_done};
+    ghost use Rattle.undo_journal.specs.Moving.{ChangesNothing, MovesStandings, SettlesForOneMore, SettlesUndone, ShowsChange, StoresNoMore, Takes};
+    ghost use Rattle.undo_journal.specs.Needs.{HoldsIfRedoIsFree, HoldsIfUndoIsFree, UndoNeedsNone};
 
     /// An empty journal, which keeps at most `limit` changes. It takes all its memory here.
     pub fn new(alloc: Global, limit: usize) -> Result<Journal<C>, NoMemory>
@@ -65,8 +63,7 @@ impl<C: Change> Journal<C> {
     pub fn undo(&mut self, world: &mut C::World) -> Result<Option<u64>, NoMemory>
         requires { C.World.keeps world.old self.old.kept }
         ensures ticket { IfOk result (λ ticket. IsUndo self.old ticket self.new) }
-        ensures free { (ticket : ℕ) → last_of (done_of self.old) ≡ Some ticket →
-            UndoNeedsNone C.World.needs_memory self.old.kept ticket → IsOk result }
+        ensures free { HoldsIfUndoIsFree C.World.needs_memory self.old (IsOk result) }
         ensures moved { OnOk result (MovesStandings C.World.World world.old self.old world.new self.new) }
         ensures err { OnErr result (ChangesNothing C.World.World world.old self.old world.new self.new) }
         ensures counts { IsNoMore C.World.newest C.World.stored C.World.limit C.World.counts world.old world.new }
@@ -84,8 +81,7 @@ impl<C: Change> Journal<C> {
     pub fn redo(&mut self, world: &mut C::World) -> Result<Option<u64>, NoMemory>
         requires { C.World.keeps world.old self.old.kept }
         ensures ticket { IfOk result (λ ticket. IsRedo self.old ticket self.new) }
-        ensures free { (ticket : ℕ) → last_of self.old.undone ≡ Some ticket →
-            NeedsNone C.World.needs_memory self.old.kept ticket → IsOk result }
+        ensures free { HoldsIfRedoIsFree C.World.needs_memory self.old (IsOk result) }
         ensures moved { OnOk result (MovesStandings C.World.World world.old self.old world.new self.new) }
         ensures err { OnErr result (ChangesNothing C.World.World world.old self.old world.new self.new) }
         ensures counts { IsNoMore C.World.newest C.World.stored C.World.limit C.World.counts world.old world.new }
@@ -150,9 +146,9 @@ impl<C: Change> Journal<C> {
         requires keeps { C.World.keeps world.old self.old.kept }
         requires tickets { (C.World.newest world.old ≤ self.old.tickets) × (self.old.tickets < 2 ^ 62) }
         ensures reason { OnOk result (C.reason change (C.World.shown world.old).tables ≡ None) }
-        ensures ticket { IfOk result (λ ticket. TakesChange C.World.World self.old ticket (C.told change) (C.table change)
-            (C.removes change (C.World.shown world.old).tables) self.new) }
-        ensures row { IfOk result (λ ticket. ShowsChange C.World.World ticket (effect (C.after change) (C.empties change))
+        ensures ticket { IfOk result (Takes C.World.World (C.told change) (C.table change) (C.removes change)
+            world.old self.old self.new) }
+        ensures row { IfOk result (ShowsChange C.World.World (C.after change) (C.empties change)
             world.old self.old world.new self.new) }
         ensures err { IfErr result (λ fault. IsFaultFor (C.reason change (C.World.shown world.old).tables) fault) }
         ensures same { OnErr result (ChangesNothing C.World.World world.old self.old world.new self.new) }
@@ -253,8 +249,7 @@ impl<C: Change> Journal<C> {
     /// The place of the newest change in effect: the one that `undo` takes back.
     pub fn last_done(&self) -> Option<usize>
         ensures none { IfNone result (done_of self.now ≡ []) }
-        ensures some { IfSome result (λ place. CanBeUndone C.World.table self.now.kept place
-            × (ticket_at self.now.kept place ≡ last_of (done_of self.now))) }
+        ensures some { IfSome result (IsNextUndo C.World.table self.now) }
     {
         let len = self.ring.len();
         for back in 0..len {
@@ -269,8 +264,7 @@ impl<C: Change> Journal<C> {
     /// The place of the change that was undone last: the one that `redo` puts back.
     pub fn last_undone(&self) -> Option<usize>
         ensures none { IfNone result (self.now.undone ≡ []) }
-        ensures some { IfSome result (λ place. CanBeRedone C.World.table self.now.kept place
-            × (ticket_at self.now.kept place ≡ last_of self.now.undone)) }
+        ensures some { IfSome result (IsNextRedo C.World.table self.now) }
     {
         match self.undone.last() {
             Some(ticket) => match self.place_of(*ticket) {
@@ -348,8 +342,7 @@ impl<C: Change> Journal<C> {
     // Settles the undone changes.
     fn clear(&mut self, world: &mut C::World)
         ensures kept { self.new ≡ record self.old { kept = in_effect self.old.kept; undone = [] } }
-        ensures row { SettlesFront C.World.World (IsPresent (out_of_effect self.old.kept))
-            world.old (cleared self.old.kept) world.new self.new.kept }
+        ensures row { SettlesUndone C.World.World world.old self.old.kept world.new self.new.kept }
         ensures counts { IsNoMore C.World.newest C.World.stored C.World.limit C.World.counts world.old world.new }
         ensures sound { AreChanges C.World.table self.old }
     {
@@ -364,8 +357,7 @@ impl<C: Change> Journal<C> {
     fn forget(&mut self, world: &mut C::World)
         requires { self.old.undone ≡ [] }
         ensures kept { IsForgotten self.old self.new }
-        ensures row { SettlesFront C.World.World (IsPresent (take (length self.old.kept + 1 - self.old.limit) self.old.kept))
-            world.old self.old.kept world.new self.new.kept }
+        ensures row { SettlesForOneMore C.World.World self.old.limit world.old self.old.kept world.new self.new.kept }
         ensures counts { IsNoMore C.World.newest C.World.stored C.World.limit C.World.counts world.old world.new }
     {
         if self.ring.is_full() {
@@ -380,12 +372,7 @@ impl<C: Change> Journal<C> {
         requires room { length self.old.kept < self.old.limit }
         requires undone { self.old.undone ≡ [] }
         requires next { self.old.tickets < ticket }
-        ensures { self.new ≡ record {
-          kept = self.old.kept ++ kept_as Done ticket saved ∷ [];
-          undone = [];
-          tickets = ticket;
-          limit = self.old.limit;
-        } }
+        ensures { self.new ≡ with_done ticket saved self.old }
     {
         self.ring.push_back(KeptChange {
             ticket,

@@ -1,11 +1,10 @@
 //! The undone changes leave the ring, wherever they are in it.
 
 ghost use Rattle.std.specs.Prelude.{◌≡◌, ◌<◌, length};
-ghost use Rattle.change_law.specs.Choice.{IsPresent, cleared};
 ghost use Rattle.change_law.specs.Row.{IsNoMore};
 ghost use Rattle.circular_buffer.specs.Buffer.{buffer};
-ghost use Rattle.undo_journal.specs.Journal.{in_effect, out_of_effect};
-ghost use Rattle.undo_journal.specs.Moving.{SettlesFront};
+ghost use Rattle.undo_journal.specs.Journal.{in_effect};
+ghost use Rattle.undo_journal.specs.Moving.{SettlesUndone};
 ghost use Rattle.undo_journal.specs.Settling.{TurnsFirst};
 
 use crate::reach::is_done;
@@ -21,8 +20,7 @@ pub(crate) fn settle_undone<C: Change>(
     world: &mut C::World,
 )
     ensures ring { ring.new ≡ buffer (in_effect ring.old.items) ring.old.capacity }
-    ensures row { SettlesFront C.World.World (IsPresent (out_of_effect ring.old.items))
-        world.old (cleared ring.old.items) world.new (in_effect ring.old.items) }
+    ensures row { SettlesUndone C.World.World world.old ring.old.items world.new (in_effect ring.old.items) }
     ensures counts { IsNoMore C.World.newest C.World.stored C.World.limit C.World.counts world.old world.new }
 {
     for _round in 0..ring.len() {
