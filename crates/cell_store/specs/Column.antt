@@ -1,16 +1,17 @@
 -- A column: the versions of one name and type, and the find that each has.
-use Rattle.std.specs.Prelude.{◌≡◌, ℕ, ◌≤◌, max, Bool, true, List, Option, Some, None, length, map, nat_lt, is_some, if◌then◌else◌}
+use Rattle.std.specs.Prelude.{◌≡◌, ℕ, ◌≤◌, max, Bool, true, [], ◌∷◌, List, Option, Some, None, length, map, nat_lt, is_some, if◌then◌else◌}
 use Rattle.std.specs.List.{AllByRecursion, list_any}
 use Rattle.std.specs.Option.{option_map}
 use Rattle.arrayvec.specs.ArrayVec.{ArrayVec}
 use Rattle.ranked.specs.declared.find.Find.{Find}
+use Rattle.ranked.specs.declared.cell.Admitted.{Admitted}
 use Rattle.ranked.specs.declared.cell.Shown.{Shown}
 use Rattle.ranked.specs.Cell.{shown_at, shown_map}
 use Rattle.cell_store.specs.declared.version.Place.{Place}
 use Rattle.cell_store.specs.declared.version.Version.{Version}
 use Rattle.cell_store.specs.declared.version.Sight.{Sight}
 use Rattle.cell_store.specs.declared.version.Sight.TheVariants.{Left, Own}
-use Rattle.cell_store.specs.Version.{nothing, place_at, IsFromStart}
+use Rattle.cell_store.specs.Version.{nothing, after_find, place_at, IsFromStart}
 use Rattle.cell_store.specs.Few.{contents, AreRanked, DoDiffer}
 use Rattle.cell_store.specs.Slots.{version_of, IsWithin, AreNamed}
 
@@ -65,3 +66,14 @@ pub record IsSettledTo (number : ℕ) (old new : Cells) : Type 0 where
   pub places : (v : ℕ) → place_in new v ≡ place_in old (max number v)
   pub upto : new.upto ≡ old.upto
   pub counted : is_counted new ≡ true → is_counted old ≡ true
+
+-- one entry without a find, which may refer to the find of the whole name
+abbrev pub one_entry : Bool → ℕ → Cells
+one_entry left upto = record {
+  upto = upto;
+  versions = record { from = 0; place = record { left = left; cell = record { held = None } } } ∷ [];
+}
+
+-- Each version of a column up to this one has had an admission. The flag says whether the find of the whole name outranks it.
+abbrev pub HoldsUpTo : ℕ → Admitted Find → Bool → Cells → Cells → Type 0
+HoldsUpTo top admission outranked old new = (v : ℕ) → v ≤ top → place_in new v ≡ after_find admission outranked (place_in old v)

@@ -1,6 +1,6 @@
 -- The cells of one name: a find of the whole name, and columns by type.
-use Rattle.std.specs.Prelude.{◌≡◌, ℕ, ◌<◌, ◌≤◌, ◌==◌, max, Bool, true, false, List, [], ◌∷◌, Option, Some, None, IfSome, length, map, nat_eq, nat_lt, slice_index_or, if◌then◌else◌}
-use Rattle.std.specs.List.{AllByRecursion, IsDistinct}
+use Rattle.std.specs.Prelude.{◌≡◌, ℕ, ◌<◌, ◌≤◌, ◌+◌, ◌==◌, max, Bool, true, false, List, [], ◌∷◌, Option, Some, None, Result, IfSome, OnErr, length, map, nat_eq, nat_lt, slice_index_or, if◌then◌else◌}
+use Rattle.std.specs.List.{AllByRecursion, IsDistinct, list_any}
 use Rattle.std.specs.Option.{option_map}
 use Rattle.std.specs.Borrow.{Bor}
 use Rattle.ranked.specs.declared.cell.Shown.{Shown}
@@ -127,3 +127,20 @@ HasAdmission top find moment old new =
 -- the version whose content a version gets when a flush becomes permanent: its own, or that of the flush if it is older
 abbrev pub after_settle : Bool → ℕ → ℕ → ℕ
 after_settle covered number v = if covered then max number v else v
+
+-- A find of one type was admitted to a name: each version up to this one has it, unless the content there outranks it.
+abbrev pub HasKindAdmission : ℕ → ℕ → Find → ℕ → OwnerCells → OwnerCells → Type 0
+HasKindAdmission top kind find moment old new =
+    (k v : ℕ) → v ≤ top → cell_in new k v ≡ after_touch (kind == k) (cell_in old k v) (admission_of find find moment)
+
+-- A flush of some types is permanent: each version of their cells before it has the content of the flush's own version.
+abbrev pub SettlesKinds : List ℕ → ℕ → OwnerCells → OwnerCells → Type 0
+SettlesKinds kinds number old new = (k v : ℕ) → cell_in new k v ≡ cell_in old k (after_settle (list_any (λ kind. kind == k) kinds) number v)
+
+-- In each version a column has the content of a type that has no column.
+abbrev pub HasWholeAlone : Option WholeFind → Cells → Type 0
+HasWholeAlone whole column = (v : ℕ) → place_held (whole_cell whole) (place_in column v) ≡ whole_held whole v
+
+-- There is at most one more than before, and after an error there are as many as before.
+abbrev pub GrowsByOne : {X E : Type 0} → Result X E → ℕ → ℕ → Type 0
+GrowsByOne result old new = (new ≤ old + 1) × OnErr result (new ≡ old)

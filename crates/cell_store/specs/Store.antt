@@ -1,6 +1,6 @@
 -- The cells of all names.
-use Rattle.std.specs.Prelude.{◌≡◌, ◌≢◌, ◌⊎◌, ◌+◌, ◌==◌, ◌&&◌, ◌++◌, ◌∷◌, [], List, length, ◌<◌, ◌≤◌, ◌^◌, ℕ, Bool, true, false, not, swap_remove, Option, Some, None, IfSome, slice_get}
-use Rattle.indexmap.specs.IndexMap.{IndexMap, get}
+use Rattle.std.specs.Prelude.{◌≡◌, ◌≢◌, ◌⊎◌, ◌+◌, ◌==◌, ◌&&◌, ◌++◌, ◌∷◌, [], List, length, ◌<◌, ◌≤◌, ◌^◌, ℕ, Bool, true, false, not, position, swap_remove, Option, Some, None, IfSome, slice_get}
+use Rattle.indexmap.specs.IndexMap.{IndexMap, get, swap_remove_entry}
 use Rattle.std.specs.Option.{option_map_or}
 use Rattle.std.specs.List.{list_any, position_or_len}
 use Rattle.std.specs.Map.{keys_of}
@@ -148,3 +148,19 @@ pub record IsIndex {S : Type 0} (top stored : ℕ) (owners : IndexMap Labels Own
   pub upto : AreUpTo top owners
   pub counted : stored ≡ stored_in owners
   pub few : stored < 2 ^ 63
+
+-- These are the cells of whichever name a look-up found at the place.
+abbrev pub AreCellsAt : {S : Type 0} → IndexMap Labels OwnerCells S → Option ℕ → Option OwnerCells → Type 0
+AreCellsAt owners place cells = (name : Labels) → place ≡ position (name_eq name) (keys_of owners.entries) → cells ≡ get name_eq owners name
+
+-- If the name is not covered, its cells and the number of counted places are as they were.
+abbrev pub StayUnless : {S : Type 0} → Bool → IndexMap Labels OwnerCells S → ℕ → IndexMap Labels OwnerCells S → ℕ → Type 0
+StayUnless covered old stored new stored' = covered ≡ false → (new ≡ old) × (stored' ≡ stored)
+
+-- The name has gone, and the last name is in its place.
+abbrev pub HasGone : {S : Type 0} → Labels → IndexMap Labels OwnerCells S → IndexMap Labels OwnerCells S → Type 0
+HasGone owner old new = (get name_eq new owner ≡ None) × (new.entries ≡ swap_remove_entry (name_eq owner) old.entries)
+
+-- As many fewer places count as the name had, if it had cells.
+abbrev pub CountsFewerBy : {S : Type 0} → Labels → IndexMap Labels OwnerCells S → ℕ → ℕ → Type 0
+CountsFewerBy owner old stored stored' = (stored' ≤ stored) × IfSome (get name_eq old owner) (λ cells. stored' + count_of cells ≡ stored)

@@ -1,10 +1,10 @@
 //! The cells of one name and type.
 
-ghost use Rattle.std.specs.Prelude.{◌≡◌, ◌<◌, ◌≤◌, ◌+◌, ℕ, None, [], ◌∷◌, true, false, IfOk, OnOk, OnErr, IsOk, is_some, nat_lt, if◌then◌else◌};
+ghost use Rattle.std.specs.Prelude.{◌≡◌, ◌<◌, ◌≤◌, ◌+◌, ℕ, true, false, IfOk, OnOk, OnErr, IsOk, is_some, nat_lt, if◌then◌else◌};
 ghost use Rattle.ranked.specs.Find.{admission_of};
 ghost use Rattle.ranked.specs.Rank.{level_of};
-ghost use Rattle.cell_store.specs.Version.{nothing, whole, after_find};
-ghost use Rattle.cell_store.specs.Column.{place_in, sight_at, sight_now, IsSettledTo};
+ghost use Rattle.cell_store.specs.Version.{nothing, whole};
+ghost use Rattle.cell_store.specs.Column.{one_entry, place_in, sight_at, sight_now, HoldsUpTo, IsSettledTo};
 ghost use Rattle.cell_store.specs.Prune.{is_asked, IsLess};
 ghost use Rattle.cell_store.specs.Sweep.{swept, IsSeenAt};
 ghost use Rattle.cell_store.specs.Count.{has_find, is_counted};
@@ -76,10 +76,7 @@ impl Column {
 
     // A column with one entry, without a find.
     fn of(left: bool, upto: u64) -> Column
-        ensures { result ≡ record {
-          upto = upto;
-          versions = record { from = 0; place = record { left = left; cell = record { held = None } } } ∷ [];
-        } }
+        ensures { result ≡ one_entry left upto }
     {
         let mut versions = ArrayVec::new();
         versions.push(ColumnEntry::new(Version {
@@ -170,8 +167,7 @@ impl Column {
     pub fn hold(&mut self, find: SharedFind, moment: u64, outranked: bool, top: u64)
         requires upto { self.old.upto ≤ top }
         requires lower { outranked ≡ true → level_of find.rank < 4 }
-        ensures places { (v : ℕ) → v ≤ top →
-            place_in self.new v ≡ after_find (admission_of find find moment) outranked (place_in self.old v) }
+        ensures places { HoldsUpTo top (admission_of find find moment) outranked self.old self.new }
         ensures upto { self.new.upto ≡ top }
         ensures left { (v : ℕ) → (place_in self.new v).left ≡ true → (place_in self.old v).left ≡ true }
     {

@@ -2,13 +2,12 @@
 
 ghost use Rattle.std.specs.Prelude.{◌≡◌, ◌<◌, ◌≤◌, ◌==◌, ◌+◌, ◌-◌, ◌^◌, ℕ, [], ◌∷◌, Some, None, true, false, not, max, length, vec_len, vec_capacity, is_some};
 ghost use Rattle.std.specs.Prelude.{IfOk, IsOk, OnOk, OnErr, IfSome, IfNone, if◌then◌else◌};
-ghost use Rattle.std.specs.List.{AllByRecursion, list_any};
+ghost use Rattle.std.specs.List.{AllByRecursion};
 ghost use Rattle.ranked.specs.declared.find.Scope.{Scope};
 ghost use Rattle.ranked.specs.declared.find.Scope.TheVariants.{One, Whole};
 ghost use Rattle.ranked.specs.Find.{admission_of};
 ghost use Rattle.ranked.specs.Cell.{shown_at, turns_away};
-ghost use Rattle.cell_store.specs.Column.{place_in};
-ghost use Rattle.cell_store.specs.Owner.{after_settle, after_touch, column_of, held_now, place_held, whole_cell, whole_held};
+ghost use Rattle.cell_store.specs.Owner.{after_settle, column_of, held_now, whole_cell, whole_held};
 ghost use Rattle.cell_store.specs.Owner.{IsLeftWithin, IsPlaceOf, IsSettled, IsWholeUpTo};
 ghost use Rattle.cell_store.specs.Walk.{IsEach};
 ghost use Rattle.cell_store.specs.Count.{count_kinds, is_counted, one_if};
@@ -102,7 +101,7 @@ fn settle_each(kinds: &mut Vec<KindColumn>, number: u64)
 }
 
 impl OwnerCells {
-    ghost use Rattle.cell_store.specs.Owner.{cell_in, whole_settled, CanSettle, HasAdmission, HasSameCells, IsUpTo, KeepsSettling};
+    ghost use Rattle.cell_store.specs.Owner.{cell_in, whole_settled, CanSettle, GrowsByOne, HasAdmission, HasKindAdmission, HasSameCells, HasWholeAlone, IsUpTo, KeepsSettling, SettlesKinds};
     ghost use Rattle.cell_store.specs.Count.{count_of, has_place, AddsAtMost, AddsPlace, GainsNothing, HasSamePlaces, IsTidy, LosesFinds, LosesFindsOf, OpensColumns};
 
     /// No cells.
@@ -144,8 +143,7 @@ impl OwnerCells {
     // A column for a type that has none, with the content of that type.
     fn derived(&self, top: u64) -> Result<Column, NoMemory>
         requires upto { IsWholeUpTo top self.now.whole }
-        ensures cells { IfOk result (λ column. (v : ℕ) →
-            place_held (whole_cell self.now.whole) (place_in column v) ≡ whole_held self.now.whole v) }
+        ensures cells { IfOk result (HasWholeAlone self.now.whole) }
         ensures upto { IfOk result (λ column. column.upto ≤ top) }
         ensures left { IfOk result (IsLeftWithin self.now.whole) }
         ensures counted { IfOk result (λ column. is_counted column ≡ false) }
@@ -163,8 +161,7 @@ impl OwnerCells {
         ensures opens { OpensColumns top self.old self.new }
         ensures whole { self.new.whole ≡ self.old.whole }
         ensures opened { OnOk result ((1 ≤ vec_len self.new.kinds) × IsPlaceOf self.new.kinds.items kind (vec_len self.new.kinds - 1)) }
-        ensures size { (vec_len self.new.kinds ≤ vec_len self.old.kinds + 1)
-            × OnErr result (vec_len self.new.kinds ≡ vec_len self.old.kinds) }
+        ensures size { GrowsByOne result (vec_len self.old.kinds) (vec_len self.new.kinds) }
         ensures room { vec_capacity self.new.kinds ≤ max (vec_capacity self.old.kinds) (vec_len self.new.kinds) }
     {
         let column = self.derived(top)?;
@@ -244,8 +241,7 @@ impl OwnerCells {
     ) -> Result<(), NoMemory>
         requires upto { IsUpTo top self.old }
         requires scope { find.scope ≡ One kind }
-        ensures cells { OnOk result ((k v : ℕ) → v ≤ top →
-            cell_in self.new k v ≡ after_touch (kind == k) (cell_in self.old k v) (admission_of find find moment)) }
+        ensures cells { OnOk result (HasKindAdmission top kind find moment self.old self.new) }
         ensures err { OnErr result (HasSameCells self.old self.new × HasSamePlaces self.old self.new) }
         ensures upto { IsUpTo top self.new }
         ensures settles { KeepsSettling self.old self.new }
@@ -380,8 +376,7 @@ impl OwnerCells {
     /// Makes a flush of some types permanent.
     pub fn settle_kinds(&mut self, kinds: &[u16], number: u64)
         requires settles { AllByRecursion (λ kind. CanSettle number kind self.old) kinds.now }
-        ensures cells { (k v : ℕ) →
-            cell_in self.new k v ≡ cell_in self.old k (after_settle (list_any (λ kind. kind == k) kinds.now) number v) }
+        ensures cells { SettlesKinds kinds.now number self.old self.new }
         ensures gains { GainsNothing self.old self.new }
     {
         for kind in kinds {

@@ -1,19 +1,19 @@
 //! The cells of all names, in an index with a seeded hasher.
 
-ghost use Rattle.std.specs.Prelude.{◌≡◌, ◌<◌, ◌≤◌, ◌+◌, ℕ, None, true, false, length, option_copied, position, slice_get};
+ghost use Rattle.std.specs.Prelude.{◌≡◌, ◌<◌, ◌≤◌, ℕ, None, true, false, length, option_copied, position, slice_get};
 ghost use Rattle.std.specs.Prelude.{IfSome, IsOk, OnOk, OnErr, if◌then◌else◌};
 ghost use Rattle.std.specs.List.{AllByRecursion};
 ghost use Rattle.std.specs.Map.{keys_of};
 ghost use Rattle.std.specs.Option.{option_map_or};
-ghost use Rattle.indexmap.specs.IndexMap.{get, swap_remove_entry};
+ghost use Rattle.indexmap.specs.IndexMap.{get};
 ghost use Rattle.dns_name.specs.Labels.{Labels};
 ghost use Rattle.dns_name.specs.Order.{name_eq};
 ghost use Rattle.dns_text.specs.declared.record.Question.{Question};
 ghost use Rattle.ranked.specs.Cell.{shown_at};
 ghost use Rattle.cell_store.specs.Owner.{held_now};
-ghost use Rattle.cell_store.specs.Count.{count_of, has_pair, has_place, has_place_for, stored_in, KeepPairs};
-ghost use Rattle.cell_store.specs.Store.{cell_by_owner, cell_of, has_same_cell, AddAtMost, AreLeft, AreSameCells, AreSettled, AreSettledAt, AreUpTo, CanSettleAt, EachCounts};
-ghost use Rattle.cell_store.specs.Store.{GainNothing, HaveAdmission, IsBelowAt, IsDroppedAt, IsIndex, KeepNames, OpenColumns, StayButAt};
+ghost use Rattle.cell_store.specs.Count.{has_pair, has_place, has_place_for, stored_in, KeepPairs};
+ghost use Rattle.cell_store.specs.Store.{cell_by_owner, cell_of, has_same_cell, AddAtMost, AreCellsAt, AreLeft, AreSameCells, AreSettled, AreSettledAt, AreUpTo, CanSettleAt, CountsFewerBy, EachCounts};
+ghost use Rattle.cell_store.specs.Store.{GainNothing, HasGone, HaveAdmission, IsBelowAt, IsDroppedAt, IsIndex, KeepNames, OpenColumns, StayButAt, StayUnless};
 
 use crate::owner::OwnerCells;
 use crate::seed::NameSeed;
@@ -64,8 +64,7 @@ pub fn admit_at(
 
 /// The cells of a name, by the place that a look-up has found for it.
 pub fn cells_at(owners: &Owners, place: Option<usize>) -> Option<&OwnerCells>
-    ensures { (name : Labels) → place ≡ position (name_eq name) (keys_of owners.now.entries) →
-        option_copied result ≡ get name_eq owners.now name }
+    ensures { AreCellsAt owners.now place (option_copied result) }
 {
     match place {
         Some(place) => match owners.get_index(place) {
@@ -154,7 +153,7 @@ pub fn settle_at(
     ensures counted { (stored.new ≡ stored_in owners.new) × (stored.new ≤ stored.old) }
     ensures entries { StayButAt place owners.old.entries owners.new.entries }
     ensures covered { IsBelowAt place zone.now owners.old.entries result
-        × (result ≡ false → (owners.new ≡ owners.old) × (stored.new ≡ stored.old)) }
+        × StayUnless result owners.old stored.old owners.new stored.new }
 {
     let (name, cells) = owners.pair_mut(place);
     // Most names are not covered, and their cells need not be read.
@@ -198,14 +197,12 @@ pub fn is_same(owners: &Owners, owner: &Name, kind: u16, version: u64, other: u6
 pub fn forget_place(owners: &mut Owners, stored: &mut u64, owner: &Name) -> Option<usize>
     requires counted { stored.old ≡ stored_in owners.old }
     ensures place { result ≡ position (name_eq owner.now) (keys_of owners.old.entries) }
-    ensures gone { (get name_eq owners.new owner.now ≡ None)
-        × (owners.new.entries ≡ swap_remove_entry (name_eq owner.now) owners.old.entries) }
+    ensures gone { HasGone owner.now owners.old owners.new }
     ensures cells { (q : Question) (v : ℕ) →
         cell_of owners.new q v ≡ (if name_eq owner.now q.owner then None else cell_of owners.old q v) }
     ensures gains { GainNothing owners.old owners.new }
     ensures counted { stored.new ≡ stored_in owners.new }
-    ensures fewer { (stored.new ≤ stored.old)
-        × IfSome (get name_eq owners.old owner.now) (λ cells. stored.new + count_of cells ≡ stored.old) }
+    ensures fewer { CountsFewerBy owner.now owners.old stored.old stored.new }
 {
     let (place, _, cells) = owners.swap_remove_full(owner)?;
     *stored -= cells.counted();
