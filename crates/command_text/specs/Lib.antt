@@ -14,6 +14,5 @@ pub mod Line
 pub mod CommandWords
 pub mod Text
 pub mod Obeying
-pub mod Reading
 pub mod Script
 pub mod Control

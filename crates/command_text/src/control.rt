@@ -5,9 +5,8 @@ ghost use Rattle.streams.specs.declared.engine.TheConstants.{MOST_READS};
 ghost use Rattle.streams.specs.declared.source.TheConstants.{MOST_COUNTED};
 ghost use Rattle.streams.specs.declared.fault.ScriptFault.TheVariants.{Write as WriteFault};
 ghost use Rattle.streams.specs.Transcript.{paired};
-ghost use Rattle.streams.specs.Engine.{RunsLines};
+ghost use Rattle.streams.specs.Engine.{ReadFails, RunsLines};
 ghost use Rattle.command_text.specs.Control.{Controls};
-ghost use Rattle.command_text.specs.Reading.{ReadFails};
 
 use crate::control_line::obey_control;
 use clock::Clock;

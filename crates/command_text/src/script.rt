@@ -4,10 +4,9 @@ ghost use Rattle.std.specs.Prelude.{◌≡◌, List, ◌≤◌, ◌<◌, ◌+◌
 ghost use Rattle.streams.specs.declared.engine.TheConstants.{MOST_READS};
 ghost use Rattle.streams.specs.declared.source.TheConstants.{MOST_COUNTED};
 ghost use Rattle.streams.specs.declared.fault.ScriptFault.TheVariants.{Write as WriteFault};
-ghost use Rattle.streams.specs.Engine.{RunsLines};
+ghost use Rattle.streams.specs.Engine.{ReadFails, RunsLines};
 ghost use Rattle.history.specs.declared.event.Event.{Event};
 ghost use Rattle.command_text.specs.Obeying.{Place};
-ghost use Rattle.command_text.specs.Reading.{ReadFails};
 ghost use Rattle.command_text.specs.Script.{obeying, start_at, to_the_end};
 
 use crate::obeying::obey;

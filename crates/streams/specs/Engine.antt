@@ -1,5 +1,5 @@
 -- A run over the lines of an input: the octets that it read, the lines that it obeyed, the text that it wrote, and why it ended.
-use Rattle.std.specs.Prelude.{◌≡◌, ◌⊎◌, ℕ, ◌+◌, Result, Ok, Err, Option, List, []}
+use Rattle.std.specs.Prelude.{◌≡◌, ◌⊎◌, ℕ, ◌+◌, Result, Ok, Err, Option, List, [], IsErrOf}
 use Rattle.std.specs.Io.KnownBytes.{Appends, Consumes}
 use Rattle.streams.specs.declared.engine.TheConstants.{MOST_READS}
 use Rattle.streams.specs.declared.fault.Ended.{Ended}
@@ -28,3 +28,7 @@ pub record RunsLines {O : Type 0} (result : Result Ended ScriptFault) (obeys : O
 -- A run that could not read on: a read failed, or the run had made as many reads as it may.
 abbrev pub FailsToRead : ℕ → ℕ → ℕ → ℕ → Type 0
 FailsToRead calls calls' failures failures' = (failures' ≡ failures + 1) ⊎ (calls' + 1 ≡ calls + MOST_READS)
+
+-- If a run ended by `Read`, its reader could not read on: the reader before and after.
+abbrev pub ReadFails : {A S : Type 0} → (S → ℕ) → (S → ℕ) → Result A ScriptFault → S → S → Type 0
+ReadFails calls failures result reader reader' = IsErrOf result Read → FailsToRead (calls reader) (calls reader') (failures reader) (failures reader')

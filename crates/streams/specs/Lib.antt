@@ -1,5 +1,6 @@
 pub mod Filled
 pub mod Told
+pub mod Coming
 pub mod Split
 pub mod Text
 pub mod Transcript

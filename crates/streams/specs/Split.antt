@@ -1,5 +1,5 @@
 -- The lines of an input.
-use Rattle.std.specs.Prelude.{◌≡◌, ◌≢◌, ◌⊎◌, ◌<◌, ℕ, nat_eq, List, [], ◌∷◌, ◌++◌, length, take, flat_map, if◌then◌else◌}
+use Rattle.std.specs.Prelude.{◌≡◌, ◌≢◌, ◌⊎◌, ◌<◌, ℕ, nat_eq, List, [], ◌∷◌, ◌++◌, length, map, take, flat_map, if◌then◌else◌}
 use Rattle.std.specs.List.{AllByRecursion}
 use Rattle.std.specs.Io.BufRead.{strip_last}
 use Rattle.streams.specs.declared.held_line.TheConstants.{LONGEST_LINE, MOST_HELD}
@@ -35,6 +35,10 @@ held_of begun = take MOST_HELD begun
 abbrev pub IsLineHeard : List ℕ → List ℕ → Type 0
 IsLineHeard line whole = (line ≡ whole) ⊎ ((LONGEST_LINE < length line) × (LONGEST_LINE < length whole) × (take 1 line ≡ take 1 whole))
 
+-- This holds of each line of which these octets may have been handed on.
+abbrev pub IfHeard : List ℕ → (List ℕ → Type 0) → Type 0
+IfHeard line P = (whole : List ℕ) → IsLineHeard line whole → P whole
+
 -- No octet of it ends a line.
 abbrev pub IsUnended : List ℕ → Type 0
 IsUnended octets = AllByRecursion (λ octet. octet ≢ 10) octets
@@ -48,3 +52,7 @@ pub record Splits (input : List ℕ) (whole : List (List ℕ)) (rest : List ℕ)
   pub all : input ≡ flat_map with_end whole ++ rest
   pub unended : AllByRecursion IsUnended whole
   pub partial : IsUnended rest
+
+-- The lines of an input are these, each without one carriage return at its end, and the front behind them, if it has an octet.
+abbrev pub AreLines : List ℕ → List (List ℕ) → List ℕ → Type 0
+AreLines input whole rest = lines_of input ≡ map without_return whole ++ last_line rest

@@ -1,10 +1,14 @@
 -- The octets that a call has written when it returns, and whether it counts as failed.
-use Rattle.std.specs.Prelude.{◌≡◌, ◌<◌, ◌≤◌, ℕ, ◌+◌, Result, Ok, Err, Option, List, length, take}
-use Rattle.std.specs.Io.KnownBytes.{Appends}
+use Rattle.std.specs.Prelude.{◌≡◌, ◌<◌, ◌≤◌, ℕ, ◌+◌, Result, Ok, Err, Option, List, MatchOption, length, take}
+use Rattle.std.specs.Io.KnownBytes.{Appends, Keeps}
 
 -- The first n octets of the text were written, and n is at least one.
 abbrev pub Takes : ℕ → Option (List ℕ) → Option (List ℕ) → List ℕ → Type 0
 Takes n old new text = (0 < n) × (n ≤ length text) × Appends old new (take n text)
+
+-- The first octets of the text were written, at least one, or nothing was.
+abbrev pub TakesOrKeeps : Option (List ℕ) → Option (List ℕ) → List ℕ → Option ℕ → Type 0
+TakesOrKeeps old new text taken = MatchOption taken (Keeps old new) (λ n. Takes n old new text)
 
 -- The whole text was written; after a failure, a front of it.
 abbrev pub Sent : {X E : Type 0} → Result X E → Option (List ℕ) → Option (List ℕ) → List ℕ → Type 0

@@ -4,11 +4,11 @@ ghost use Rattle.std.specs.Prelude.{◌≡◌, ℕ, List, [], ◌∷◌, ◌≤�
 ghost use Rattle.streams.specs.declared.source.TheConstants.{MOST_COUNTED};
 ghost use Rattle.streams.specs.declared.engine.TheConstants.{MOST_READS};
 ghost use Rattle.streams.specs.declared.fault.Flow.TheVariants.{On};
-ghost use Rattle.streams.specs.declared.fault.ScriptFault.TheVariants.{Read as ReadFault, Write as WriteFault};
+ghost use Rattle.streams.specs.declared.fault.ScriptFault.TheVariants.{Write as WriteFault};
 ghost use Rattle.streams.specs.Split.{ended_lines, begun_line, last_line, held_of, IsLineHeard};
 ghost use Rattle.streams.specs.Transcript.{paired};
 ghost use Rattle.streams.specs.Flow.{Tells, CountsFlow};
-ghost use Rattle.streams.specs.Engine.{RunsLines, FailsToRead};
+ghost use Rattle.streams.specs.Engine.{RunsLines, ReadFails};
 
 use crate::fault::{Ended, Flow, ScriptFault};
 use crate::held_line::HeldLine;
@@ -124,8 +124,7 @@ pub fn run_lines<T, D, O: Obeyer<T, D>, S: Source, W: Sink>(
     requires writes { W.failures writer.old < MOST_COUNTED }
     // It reads fewer times than it may, and fails only if a read or a write failed, or if it may not read once more.
     ensures few { S.calls reader.new < S.calls reader.old + MOST_READS }
-    ensures read_failed { IsErrOf result ReadFault
-        → FailsToRead (S.calls reader.old) (S.calls reader.new) (S.failures reader.old) (S.failures reader.new) }
+    ensures read_failed { ReadFails S.calls S.failures result reader.old reader.new }
     ensures write_failed { IsErrOf result WriteFault → W.failures writer.new ≡ W.failures writer.old + 1 }
     // What it read, which lines of that it obeyed, and what it wrote.
     ensures runs { RunsLines result (paired O.obeys) (time.old, desk.old) (time.new, desk.new)

@@ -1,7 +1,7 @@
 //! Laws of the definitions alone.
 
-ghost use Rattle.std.specs.Prelude.{◌≡◌, ℕ, List, ◌++◌, map};
-ghost use Rattle.streams.specs.Split.{without_return, last_line, lines_of, Splits};
+ghost use Rattle.std.specs.Prelude.{◌≡◌, ℕ, List};
+ghost use Rattle.streams.specs.Split.{AreLines, Splits};
 
 use crate::engine::MOST_READS;
 use crate::held_line::LONGEST_LINE;
@@ -10,8 +10,7 @@ use crate::source::MOST_COUNTED;
 /// If an input is cut into lines with their ends and the front of one more, `lines_of` gives those lines,
 /// each without one carriage return. Each input can be cut so.
 pub fn lines_are()
-    ensures only { (input : List ℕ) (whole : List (List ℕ)) (rest : List ℕ) → Splits input whole rest
-        → lines_of input ≡ map without_return whole ++ last_line rest }
+    ensures only { (input : List ℕ) (whole : List (List ℕ)) (rest : List ℕ) → Splits input whole rest → AreLines input whole rest }
     ensures some { (input : List ℕ) → (whole : List (List ℕ)) × (rest : List ℕ) × Splits input whole rest }
 {}
 

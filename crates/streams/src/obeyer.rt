@@ -1,7 +1,7 @@
 //! The trait that obeys one line.
 
 ghost use Rattle.std.specs.Prelude.{ℕ, Bool, List};
-ghost use Rattle.streams.specs.Split.{IsLineHeard};
+ghost use Rattle.streams.specs.Split.{IfHeard};
 ghost use Rattle.streams.specs.Text.{octets_in};
 
 use crate::text::Text;
@@ -23,6 +23,6 @@ pub trait Obeyer<T, D> {
 
     /// Obeys a line. A line that is too long may be cut, but is still too long and keeps its first octet.
     fn obey(alloc: Global, time: &mut T, desk: &mut D, line: &[u8]) -> LineReply
-        ensures obeys { (whole : List ℕ) → IsLineHeard line.now whole
-            → obeys time.old desk.old whole (octets_in result.text) result.stops time.new desk.new };
+        ensures obeys { IfHeard line.now (λ whole.
+            obeys time.old desk.old whole (octets_in result.text) result.stops time.new desk.new) };
 }

@@ -1,8 +1,8 @@
 //! Writers that count their failures.
 
-ghost use Rattle.std.specs.Prelude.{◌≡◌, ℕ, List, Option, ◌+◌, ◌<◌, length, IfOk, OnErr, MatchOption};
+ghost use Rattle.std.specs.Prelude.{◌≡◌, ℕ, List, Option, ◌+◌, ◌<◌, length, IfOk, OnErr};
 ghost use Rattle.std.specs.Io.KnownBytes.{Keeps};
-ghost use Rattle.streams.specs.Told.{Takes, CountsFailure};
+ghost use Rattle.streams.specs.Told.{Takes, TakesOrKeeps, CountsFailure};
 ghost use Rattle.streams.specs.declared.source.TheConstants.{MOST_COUNTED};
 
 use std::io::{ErrorKind, Write};
@@ -53,8 +53,7 @@ impl<W: Write> CountedWriter<W> {
 
 /// Writes a front of a text once. Returns None if a signal interrupted the write.
 fn write_once<W: Write>(writer: &mut W, text: &[u8]) -> Result<Option<usize>, WriteFailed>
-    ensures ok { IfOk result (λ n. MatchOption n (Keeps (W.contents writer.old) (W.contents writer.new))
-        (λ n. Takes n (W.contents writer.old) (W.contents writer.new) text.now)) }
+    ensures ok { IfOk result (TakesOrKeeps (W.contents writer.old) (W.contents writer.new) text.now) }
     ensures err { OnErr result (Keeps (W.contents writer.old) (W.contents writer.new)) }
 {
     match writer.write(text) {

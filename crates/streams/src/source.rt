@@ -1,7 +1,8 @@
 //! Readers that count their calls and failures.
 
-ghost use Rattle.std.specs.Prelude.{◌≡◌, ℕ, List, Option, ◌+◌, ◌<◌, ◌≤◌, length, take, IfOk, OnErr, MatchOption};
-ghost use Rattle.std.specs.Io.KnownBytes.{Consumes, IsAtEnd, Keeps};
+ghost use Rattle.std.specs.Prelude.{◌≡◌, ℕ, List, Option, ◌+◌, ◌<◌, ◌≤◌, length, IfOk, OnErr};
+ghost use Rattle.std.specs.Io.KnownBytes.{Keeps};
+ghost use Rattle.streams.specs.Coming.{Fills};
 ghost use Rattle.streams.specs.Told.{CountsFailure};
 ghost use Rattle.streams.specs.declared.source.TheConstants.{MOST_COUNTED};
 
@@ -30,9 +31,7 @@ pub trait Source {
     fn next(&mut self, room: &mut [u8]) -> Result<Option<usize>, ReadFailed>
         requires room { 0 < length room.old }
         requires few { calls self.old < MOST_COUNTED }
-        ensures some { IfOk result (λ came. MatchOption came
-            (Keeps (remaining self.old) (remaining self.new) × IsAtEnd (remaining self.new))
-            (λ n. (n ≤ length room.new) × Consumes (remaining self.old) (remaining self.new) (take n room.new))) }
+        ensures some { IfOk result (Fills (remaining self.old) (remaining self.new) room.new) }
         ensures err { OnErr result (Keeps (remaining self.old) (remaining self.new)) }
         ensures length { length room.new ≡ length room.old }
         ensures calls { calls self.new ≡ calls self.old + 1 }
