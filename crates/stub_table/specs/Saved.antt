@@ -16,6 +16,10 @@ needs_memory saved = puts_in saved.turn
 abbrev pub needs_memory_after : SavedStubs → Bool
 needs_memory_after saved = takes_out saved.turn
 
+-- After a step to the other side, the next step and the one after it need what they did, the other way round.
+abbrev pub IsTurned : SavedStubs → SavedStubs → Type 0
+IsTurned saved saved' = (needs_memory saved' ≡ needs_memory_after saved) × (needs_memory_after saved' ≡ needs_memory saved)
+
 -- From the list that a change left, the saved value gives the one before it.
 pub record TakesBack (saved : SavedStubs) (left before : Stubs) : Type 0 where
   pub gives : before_of saved left ≡ before

@@ -37,7 +37,7 @@ impl StubTable {
     ghost use Rattle.stub_table.specs.Closest.{closest_stub};
     ghost use Rattle.stub_table.specs.Change.{has_stub, stubs_with, stubs_without};
     ghost use Rattle.stub_table.specs.Reason.{reason_of_stub, IsFaultFor};
-    ghost use Rattle.stub_table.specs.Saved.{before_of, needs_memory, needs_memory_after, TakesBack};
+    ghost use Rattle.stub_table.specs.Saved.{before_of, needs_memory, IsTurned, TakesBack};
 
     /// A table of no stubs. It takes no memory.
     pub fn new(alloc: Global) -> StubTable
@@ -95,8 +95,7 @@ impl StubTable {
         requires { (before : Stubs) × TakesBack saved.old self.old before }
         ensures ok { OnOk result (self.new ≡ before_of saved.old self.old) }
         ensures again { OnOk result (TakesBack saved.new self.new self.old) }
-        ensures turned { OnOk result ((needs_memory saved.new ≡ needs_memory_after saved.old)
-            × (needs_memory_after saved.new ≡ needs_memory saved.old)) }
+        ensures turned { OnOk result (IsTurned saved.old saved.new) }
         ensures err { OnErr result ((self.new ≡ self.old) × (saved.new ≡ saved.old)) }
         ensures free { needs_memory saved.old ≡ false → IsOk result }
     {
@@ -108,8 +107,7 @@ impl StubTable {
         requires { (after : Stubs) × TakesBack saved.old self.old after }
         ensures ok { OnOk result (self.new ≡ before_of saved.old self.old) }
         ensures back { OnOk result (TakesBack saved.new self.new self.old) }
-        ensures turned { OnOk result ((needs_memory saved.new ≡ needs_memory_after saved.old)
-            × (needs_memory_after saved.new ≡ needs_memory saved.old)) }
+        ensures turned { OnOk result (IsTurned saved.old saved.new) }
         ensures err { OnErr result ((self.new ≡ self.old) × (saved.new ≡ saved.old)) }
         ensures free { needs_memory saved.old ≡ false → IsOk result }
     {
