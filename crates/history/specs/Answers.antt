@@ -1,6 +1,7 @@
 -- What a step may answer to an event, and what is in the history then.
 use Rattle.std.specs.Prelude.{◌≡◌, ◌≢◌, ℕ, ◌<◌, ◌≤◌, IsTrue, Result, Ok, Err, List, [], ◌∷◌, ◌++◌, length, count_by}
 use Rattle.history.specs.declared.event.Event.{Event}
+use Rattle.history.specs.declared.event.Event.TheVariants.{Sweep}
 use Rattle.history.specs.declared.event.Reply.{Reply}
 use Rattle.history.specs.declared.event.Settings.{Settings}
 use Rattle.history.specs.declared.book.StepFault.{StepFault}
@@ -43,3 +44,8 @@ history_after history event (Err fault) = history
 abbrev pub TellsLimit : ℕ → ℕ → Event → StepFault → Type 0
 TellsLimit stored limit event NoMemory = IsTrue (is_admission event) → stored ≢ limit
 TellsLimit stored limit event _ = Unit {0}
+
+-- If the event is a sweep, nothing is left to sweep. The number is what is left after it.
+abbrev pub SweepsAll : Event → ℕ → Type 0
+SweepsAll (Sweep moment) left = left ≡ 0
+SweepsAll event left = Unit {0}

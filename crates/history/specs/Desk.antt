@@ -1,5 +1,5 @@
 -- Calls of a desk.
-use Rattle.std.specs.Prelude.{◌≡◌, ℕ, List, [], ◌∷◌, Result, Ok, Err, IfErr, IsErrOf, OnErr}
+use Rattle.std.specs.Prelude.{◌≡◌, ℕ, List, [], ◌∷◌, Result, Ok, Err, IfErr, IsErrOf, OnErr, OnOk}
 use Rattle.history.specs.declared.event.Event.{Event}
 use Rattle.history.specs.declared.event.Reply.{Reply}
 use Rattle.history.specs.declared.event.Settings.{Settings}
@@ -7,7 +7,7 @@ use Rattle.history.specs.declared.book.StepFault.{StepFault}
 use Rattle.history.specs.declared.book.StepFault.TheVariants.{Full}
 use Rattle.history.specs.declared.desk.DeskFault.{DeskFault}
 use Rattle.history.specs.declared.desk.DeskFault.TheVariants.{Step}
-use Rattle.history.specs.Answers.{Answers, TellsLimit, history_after}
+use Rattle.history.specs.Answers.{Answers, SweepsAll, TellsLimit, history_after}
 
 -- one step of a book, as its promise says: the book before, the event, the answer, the book after
 pub record IsStep {B : Type 0} (stands_for : B → List Event → Type 0) (settings : B → Settings) (stored : B → ℕ) (before : B) (event : Event) (answer : Result Reply StepFault) (after : B) : Type 0 where
@@ -23,10 +23,11 @@ abbrev pub desk_answer : Result Reply StepFault → Result Reply DeskFault
 desk_answer (Ok reply) = Ok reply
 desk_answer (Err fault) = Err (Step fault)
 
--- one call of a book is one step of it
-abbrev pub BookCall : {B : Type 0} → (B → List Event → Type 0) → (B → Settings) → (B → ℕ) → B → Event → Result Reply DeskFault → B → Type 0
-BookCall stands_for settings stored before event answer after =
+-- One call of a book is one step of it. A sweep leaves nothing to sweep.
+abbrev pub BookCall : {B : Type 0} → (B → List Event → Type 0) → (B → Settings) → (B → ℕ) → (B → ℕ) → B → Event → Result Reply DeskFault → B → Type 0
+BookCall stands_for settings stored unswept before event answer after =
     (told : Result Reply StepFault) × (answer ≡ desk_answer told) × IsStep stands_for settings stored before event told after
+    × OnOk told (SweepsAll event (unswept after))
 
 -- one call of a desk: an event, with its answer
 pub record Call : Type 0 where

@@ -1,13 +1,13 @@
 //! The promise that every book keeps, however it keeps it.
 
-ghost use Rattle.std.specs.Prelude.{◌≡◌, ◌<◌, ◌≤◌, ℕ, true, false, List, length, count_by, IfOk, OnErr, IsErrOf, ◌⊎◌, IfErr};
+ghost use Rattle.std.specs.Prelude.{◌≡◌, ◌<◌, ◌≤◌, ℕ, true, false, List, length, count_by, IfOk, OnOk, OnErr, IsErrOf, ◌⊎◌, IfErr};
 ghost use Rattle.history.specs.declared.event.Event.{Event};
 ghost use Rattle.history.specs.declared.event.Settings.{Settings};
 ghost use Rattle.history.specs.Event.{is_admission};
 ghost use Rattle.history.specs.History.{past_of, stubs_of, tables_of};
 ghost use Rattle.history.specs.Reply.{seen_of, look_seen};
 ghost use Rattle.history.specs.Servers.{servers_of};
-ghost use Rattle.history.specs.Answers.{Answers, Follows, TellsLimit, history_after};
+ghost use Rattle.history.specs.Answers.{Answers, Follows, SweepsAll, TellsLimit, history_after};
 
 use crate::event::{Ask, Event, Look, Reply, Seen, Settings};
 use crate::hidden::Hidden;
@@ -93,7 +93,10 @@ pub trait Book: Drop {
 
         // If it stores as many cells as there may be, it does not refuse an admission for want of memory.
         ensures by_limit { IfErr result (λ fault. (h : List Event) → stands_for self.old h →
-            TellsLimit (stored self.old) (settings self.old).cells event fault) };
+            TellsLimit (stored self.old) (settings self.old).cells event fault) }
+
+        // A sweep that is taken leaves nothing to sweep.
+        ensures swept { OnOk result (SweepsAll event (unswept self.new)) };
 
     /// Takes an event as `step` does, and returns no reply. A book that follows another one needs none, since the other has replied. So
     /// it may leave out what only replies need, and what has expired until `sweep_some` removes it.

@@ -33,7 +33,7 @@ pub trait Desk {
 
 /// A book is a desk for its only owner. It is never behind.
 impl<B: Book> Desk for B {
-    ghost calls = { BookCall B.stands_for B.settings B.stored };
+    ghost calls = { BookCall B.stands_for B.settings B.stored B.unswept };
 
     fn call(&mut self, event: Event) -> Result<Reply, DeskFault> {
         match self.step(event) {

@@ -1,5 +1,5 @@
 -- What the calls of a book over another one promise, by what the other one shows of itself.
-use Rattle.std.specs.Prelude.{◌≡◌, ◌<◌, ◌≤◌, ◌+◌, ◌⊎◌, ℕ, List, Result, IfErr}
+use Rattle.std.specs.Prelude.{◌≡◌, ◌<◌, ◌≤◌, ◌+◌, ◌⊎◌, ℕ, List, Result, IfErr, OnOk}
 use Rattle.dns_name.specs.Labels.{Labels}
 use Rattle.ranked.specs.declared.find.Scope.{Scope}
 use Rattle.history.specs.declared.book.Book.{Ghosts}
@@ -8,10 +8,9 @@ use Rattle.history.specs.declared.book.StepFault.TheVariants.{BadMoment, CountEn
 use Rattle.history.specs.declared.event.Event.{Event}
 use Rattle.history.specs.declared.event.Event.TheVariants.{Sweep}
 use Rattle.history.specs.declared.event.Reply.{Reply}
-use Rattle.history.specs.Answers.{Answers, Follows, history_after}
+use Rattle.history.specs.Answers.{Answers, Follows, SweepsAll, history_after}
 use Rattle.history.specs.History.{past_of}
 use Rattle.world_book.specs.Book.{IsByLimit}
-use Rattle.world_book.specs.Step.{SweepsAll}
 use Rattle.world_book.specs.Versions.{count_pairs, pairs_left, AreAliveAfter, ForgetsOldest}
 use Rattle.store.specs.Sweep.{turn_of_sweep}
 
@@ -37,11 +36,14 @@ IsByLimitAt by book event fault = IsByLimit (by.stands_for book) (by.stored book
 abbrev pub IsUntimelyIfFree : {B A : Type 0} → Ghosts B → B → Event → Result A StepFault → Type 0
 IsUntimelyIfFree by book event answer = by.is_free book event → IfErr answer (λ fault. (fault ≡ BadMoment) ⊎ (fault ≡ CountEnded))
 
--- If the event forgets the name to forget first, the book stores fewer cells after it. If it is a sweep, nothing is left to sweep.
+-- If the event is a sweep that was taken, nothing is left to sweep.
+abbrev pub SweepsIfTaken : {B A : Type 0} → Ghosts B → Event → Result A StepFault → B → Type 0
+SweepsIfTaken by event answer book' = OnOk answer (SweepsAll event (by.unswept book'))
+
+-- If the event forgets the name to forget first, the book stores fewer cells after it.
 abbrev pub MakesRoomAt : {B : Type 0} → Ghosts B → B → Event → B → Type 0
 MakesRoomAt by book event book' =
-    ((h : List Event) → by.stands_for book h → ForgetsOldest (past_of (by.settings book).journal h) event → by.stored book' < by.stored book)
-    × SweepsAll event (by.unswept book')
+    (h : List Event) → by.stands_for book h → ForgetsOldest (past_of (by.settings book).journal h) event → by.stored book' < by.stored book
 
 -- ---- what two books have in common
 

@@ -177,7 +177,7 @@ impl ShelfBook {
 impl Book for ShelfBook {
     ghost use Rattle.std.proofs.Common.{◌≡◌, ◌≤◌, sym, ◌∙◌};
     ghost use Rattle.std.specs.Prelude.{ℕ, true, false, OnOk, OnErr, IfErr, IsErrOf};
-    ghost use Rattle.store.specs.Calls.{AnswersEach, FollowsEach, StandsAfter, IsByLimitAt, IsUntimelyIfFree, MakesRoomAt};
+    ghost use Rattle.store.specs.Calls.{AnswersEach, FollowsEach, StandsAfter, IsByLimitAt, IsUntimelyIfFree, MakesRoomAt, SweepsIfTaken};
     ghost use Rattle.store.specs.Calls.{StandsStill, StoresAsMany, HasSettingsOf};
     ghost use Rattle.store.specs.Calls.{HasLessToSweep, SweepsOneTurn, IsShortSweep};
     ghost use Rattle.store.specs.Calls.{FitsLimit, FitsAdmitted, CoversAlive};
@@ -213,7 +213,10 @@ impl Book for ShelfBook {
         // pair is alive in some version need no memory.
         ensures free { IsUntimelyIfFree ⟦<WorldBook<StoreChange> as Book>⟧ self.old.book event result }
 
-        // A forget of the name to forget first at its moment makes room: fewer cells are stored after it. A sweep leaves nothing to sweep.
+        // A sweep that is taken leaves nothing to sweep.
+        ensures swept { SweepsIfTaken ⟦<WorldBook<StoreChange> as Book>⟧ event result self.new.book }
+
+        // A forget of the name to forget first at its moment makes room: fewer cells are stored after it.
         ensures room { OnOk result (MakesRoomAt ⟦<WorldBook<StoreChange> as Book>⟧ self.old.book event self.new.book) }
     {
         match self.book.step(event) {

@@ -13,6 +13,7 @@ use Rattle.ranked.specs.Find.{admission_of, has_kind}
 use Rattle.history.specs.declared.event.Entry.{Entry}
 use Rattle.history.specs.declared.event.Event.{Event}
 use Rattle.history.specs.declared.event.Event.TheVariants.{Admit, Look, Sweep, Forget, Do, Undo, Redo, UndoOf, RedoOf}
+use Rattle.history.specs.Answers.{SweepsAll}
 use Rattle.history.specs.Cells.{cell_after}
 use Rattle.history.specs.Counts.{counted_in, counted_of, events_in}
 use Rattle.history.specs.Event.{covers, forgets, moment_of}
@@ -21,6 +22,18 @@ use Rattle.history.specs.Oldest.{IsEnding}
 use Rattle.undo_book.specs.Stored.{counted_at}
 use Rattle.undo_book.proofs.StoredLaws.{counted_forget}
 use Rattle.world_book.specs.Versions.{ForgetsOldest}
+
+-- A book that has never anything to sweep has swept all after each event.
+pub nothing_swept : (event : Event) → SweepsAll event 0
+nothing_swept (Admit moment find) = tt
+nothing_swept (Look moment ask) = tt
+nothing_swept (Sweep moment) = refl
+nothing_swept (Forget moment owner) = tt
+nothing_swept (Do moment command) = tt
+nothing_swept (Undo moment) = tt
+nothing_swept (Redo moment) = tt
+nothing_swept (UndoOf moment ticket) = tt
+nothing_swept (RedoOf moment ticket) = tt
 
 -- ---- what a cell holds was admitted, and its name was not forgotten since
 

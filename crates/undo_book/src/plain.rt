@@ -104,7 +104,7 @@ impl Book for PlainBook {
     ghost use Rattle.history.specs.declared.event.Event.{Event};
     ghost use Rattle.history.specs.Event.{is_admission};
     ghost use Rattle.history.specs.Counts.{counted_of, stores_counted, same_count};
-    ghost use Rattle.history.specs.Answers.{IsTimely, Answers, TellsLimit, history_after};
+    ghost use Rattle.history.specs.Answers.{IsTimely, Answers, SweepsAll, TellsLimit, history_after};
     ghost use Rattle.history.specs.History.{past_of};
     ghost use Rattle.undo_book.specs.PlainBook.{settings_in, stored_in, IsFullAtItsLimit, MakesRoom, StandsFor, TellsItsLimit};
     ghost use Rattle.world_book.specs.Versions.{ForgetsOldest};
@@ -138,6 +138,9 @@ impl Book for PlainBook {
 
         // It stores each admission until its owner is forgotten, so it is full exactly where there are as many of these as there may be cells.
         ensures full_at_the_limit { IsFullAtItsLimit self.old event result }
+
+        // There is never anything to sweep.
+        ensures swept { OnOk result (SweepsAll event 0) }
 
         // A forget of the name to forget first at its moment makes room: fewer cells are stored after it.
         ensures room { OnOk result (MakesRoom self.old event self.new) }

@@ -18,7 +18,7 @@ use Rattle.history.specs.Answers.{Follows, TellsLimit, history_after}
 use Rattle.history.specs.Event.{is_admission}
 use Rattle.history.specs.History.{past_of}
 use Rattle.world_book.specs.Removals.{HasRemoved, IsFreeAfter}
-use Rattle.world_book.specs.Step.{IsSound, SweepsAll}
+use Rattle.world_book.specs.Step.{IsSound}
 use Rattle.world_book.specs.Tied.{IsTied, undo_may_need}
 use Rattle.world_book.specs.Versions.{count_pairs, pairs_left, AreAliveAfter, ForgetsOldest}
 
@@ -79,11 +79,10 @@ IsFreeAt by book event = (h : List Event) × IsBookOf by book h × IsFreeAfter b
 abbrev pub StandsAfter : {W S A : Type 0} → Ghosts W Tables S Command → BookState W S → Event → Result A StepFault → BookState W S → Type 0
 StandsAfter by book event answer book' = (h : List Event) → IsBookOf by book h → IsBookOf by book' (history_after h event answer)
 
--- If the event forgets the name to forget first, the book stores fewer cells after it. If it is a sweep, nothing is left to sweep.
+-- If the event forgets the name to forget first, the book stores fewer cells after it.
 abbrev pub MakesRoomAt : {W S : Type 0} → Ghosts W Tables S Command → BookState W S → Event → BookState W S → Type 0
 MakesRoomAt by book event book' =
-    ((h : List Event) → IsBookOf by book h → ForgetsOldest (past_of book.settings.journal h) event → by.stored book'.world < by.stored book.world)
-    × SweepsAll event (by.unswept book'.world book'.moment)
+    (h : List Event) → IsBookOf by book h → ForgetsOldest (past_of book.settings.journal h) event → by.stored book'.world < by.stored book.world
 
 -- What was left to sweep is at most one turn more than what is left now.
 abbrev pub SweepsOneTurn : {W T S D : Type 0} → Ghosts W T S D → BookState W S → BookState W S → Type 0

@@ -45,11 +45,6 @@ abbrev pub ForgetsPairs : {W T S D : Type 0} → Ghosts W T S D → Event → W 
 ForgetsPairs by (Forget moment owner) world = CountsNoneOf by.counts owner world
 ForgetsPairs by event world = Unit {0}
 
--- If the event is a sweep, nothing is left to sweep. The number is what is left after it.
-abbrev pub SweepsAll : Event → ℕ → Type 0
-SweepsAll (Sweep moment) left = left ≡ 0
-SweepsAll event left = Unit {0}
-
 -- the numbers by which changes tell the reasons
 abbrev pub code_of : Reason → ℕ
 code_of BelowRedirect = 1

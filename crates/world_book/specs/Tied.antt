@@ -12,6 +12,7 @@ use Rattle.history.specs.declared.event.Event.TheVariants.{Forget}
 use Rattle.history.specs.declared.event.Reply.{Reply}
 use Rattle.history.specs.declared.event.Settings.{Settings}
 use Rattle.history.specs.declared.tables.Tables.{Tables}
+use Rattle.history.specs.Answers.{SweepsAll}
 use Rattle.history.specs.Event.{moment_of}
 use Rattle.history.specs.Marks.{is_struck}
 use Rattle.history.specs.History.{Past, followed_by}
@@ -19,7 +20,7 @@ use Rattle.history.specs.Oldest.{IsOldest}
 use Rattle.history.specs.Reply.{reply_of}
 use Rattle.world_book.specs.Deeds.{deeds_of, given_in, given_tickets, empty_face}
 use Rattle.world_book.specs.Removals.{IsRemoval}
-use Rattle.world_book.specs.Step.{ForgetsPairs, SweepsAll}
+use Rattle.world_book.specs.Step.{ForgetsPairs}
 use Rattle.world_book.specs.Versions.{table_of, IsFreeWhere}
 
 -- The kept changes are commands of the past, each with its ticket.

@@ -123,7 +123,7 @@ impl<C: BookChange> Book for WorldBook<C> {
     ghost use Rattle.std.specs.Prelude.{ℕ, true, false, OnOk, OnErr, IfErr, IsErrOf};
     ghost use Rattle.change_law.specs.Pairs.{count_pairs, AreNeeded};
     ghost use Rattle.history.specs.declared.event.Event.{Event};
-    ghost use Rattle.history.specs.Answers.{Answers, Follows};
+    ghost use Rattle.history.specs.Answers.{Answers, Follows, SweepsAll};
     ghost use Rattle.world_book.specs.Book.{CoversAlive, IsBookOf, IsByLimitAt, IsFreeAt, IsUntimely, MakesRoomAt, StandsAfter};
     ghost use Rattle.world_book.specs.Versions.{pairs_left};
 
@@ -159,7 +159,10 @@ impl<C: BookChange> Book for WorldBook<C> {
         // An event that needs no memory is refused only by the clock and the count of events.
         ensures free { IsFreeAt C.World.World self.old event → IfErr result IsUntimely }
 
-        // A forget of the name to forget first at its moment makes room: fewer cells are stored after it. A sweep leaves nothing to sweep.
+        // A sweep that is taken leaves nothing to sweep.
+        ensures swept { OnOk result (SweepsAll event (C.World.unswept self.new.world self.new.moment)) }
+
+        // A forget of the name to forget first at its moment makes room: fewer cells are stored after it.
         ensures room { OnOk result (MakesRoomAt C.World.World self.old event self.new) }
     {
         if event.moment() >= MOMENT_END {

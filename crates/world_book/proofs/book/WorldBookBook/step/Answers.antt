@@ -26,7 +26,10 @@ pub returns-in-Ok-clause-room : goal.returns-in-Ok-clause-room
 returns-in-Ok-clause-room g c =
     let j = c.self.inside in
     let book : BookState g.row.C-World.Denot g.row.C-World-Saved.Denot = record { world = j.world; changes = j.journal; settings = j.settings; moment = j.moment; count = j.count } in
-    rw (← c.self.view_is) (room_made g.C.World.World book c.obey.new.world c.args.event c.in-Ok.ensures.gone.1, c.in-Ok.ensures.gone.2)
+    rw (← c.self.view_is) (room_made g.C.World.World book c.obey.new.world c.args.event c.in-Ok.ensures.gone.1)
+
+pub returns-in-Ok-clause-swept : goal.returns-in-Ok-clause-swept
+returns-in-Ok-clause-swept g c = c.in-Ok.ensures.gone.2
 
 pub returns-in-Err-clause-stands : goal.returns-in-Err-clause-stands
 returns-in-Err-clause-stands g c =
