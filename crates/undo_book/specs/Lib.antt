@@ -19,6 +19,7 @@ pub use Rattle.history.specs.Reply
 pub use Rattle.history.specs.PreviewLaws
 pub use Rattle.history.specs.Answers
 pub use Rattle.history.specs.Desk
+pub use Rattle.history.specs.Fresh
 pub use Rattle.history.specs.Equal
 pub use Rattle.history.specs.EqualLaws
 pub use Rattle.history.specs.Runs
