@@ -1,9 +1,11 @@
 //! The place of an octet of a connection, whose messages are each preceded by a length in two octets (RFC 1035, section 4.2.2).
 //! A `BegunMessage` would take memory for the octets. A spot keeps nothing of them but their place.
 
-ghost use Rattle.std.specs.Prelude.{◌≡◌, ◌<◌, ◌≤◌, ◌⊎◌, length, take};
+ghost use Rattle.std.specs.Prelude.{◌≡◌, ◌<◌, ◌≤◌, ◌⊎◌, ◌+◌, ◌*◌, length, take};
 ghost use Rattle.plain_workers.specs.declared.spot.Spot.TheVariants.{Beginning};
 ghost use Rattle.plain_workers.specs.Spots.{spot_inside, spot_behind, spot_after, IsOfOneMessage};
+
+use replies::size_of;
 
 /// The place of an octet of a connection.
 #[derive(Clone, Copy, PartialEq, Eq)]
@@ -28,13 +30,20 @@ impl Spot {
         }
     }
 
+    /// The place behind a length of these two octets.
+    fn behind_length(high: u8, low: u8) -> Spot
+        ensures { result ≡ spot_inside (high * 256 + low) }
+    {
+        Spot::inside(size_of(high, low) as u16)
+    }
+
     /// The place of the next octet, after this one.
     fn behind(self, octet: u8) -> Spot
         ensures { result ≡ spot_behind self octet }
     {
         match self {
             Spot::Beginning => Spot::Length(octet),
-            Spot::Length(first) => Spot::inside(u16::from(first) * 256 + u16::from(octet)),
+            Spot::Length(first) => Spot::behind_length(first, octet),
             Spot::Inside(left) => Spot::inside(left.saturating_sub(1)),
         }
     }
