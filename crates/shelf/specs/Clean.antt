@@ -81,6 +81,10 @@ HasLowered place old new = (new ≡ old) ⊎ ((new ≡ place) × (old ≡ place 
 abbrev pub EndsMixed : ℕ → List ℕ → List Bool → List ℕ → Type 0
 EndsMixed place old mixed new = (new ≡ slice_set old place 0) ⊎ ((new ≡ old) × (slice_index_or (evens_of old mixed) place 0 ≡ slice_index_or old place 0))
 
+-- If there was a flag for each moment, that at a place is 0 now, or it is as it was, and right whatever flushes are kept.
+abbrev pub EndsMixedAt : ℕ → Ends → Ends → Type 0
+EndsMixedAt place old new = length old.mixed.items ≡ length old.moments → EndsMixed place old.moments old.mixed.items new.moments
+
 -- The moments have changed in this way, and so have those of the names that are not mixed, and those that are sure.
 pub record AreBy (f : List ℕ → List ℕ) (old new : Ends) : Type 0 where
   pub moments : new.moments ≡ f old.moments
@@ -108,6 +112,10 @@ pub record AreEnds (kept : List KeptFlush) (entries : List (Labels × OwnerCells
   pub low : AreLow kept entries (sure ends) ends.lasts.ends.items
   pub low_ever : AreLow [] entries (evens ends) ends.lasts.ends.items
   pub winners : AreWinners entries ends.lasts
+
+-- If no name needed a sweep before its moment, none does, whatever the names are and whatever flushes are kept.
+abbrev pub KeepsEnds : Ends → Ends → Type 0
+KeepsEnds old new = (kept : List KeptFlush) (entries : List (Labels × OwnerCells)) → AreEnds kept entries old → AreEnds kept entries new
 
 -- Moments are in doubt from no later place than before, and if they were from one place at most, then now from the other at most.
 abbrev pub HasSettled : ℕ → ℕ → Ends → Ends → Type 0

@@ -102,6 +102,10 @@ IsRight entries lasts winners node = IsWinner entries lasts winners node (winner
 abbrev pub AreRight : List (Labels × OwnerCells) → List ℕ → List ℕ → Type 0
 AreRight entries lasts winners = (i : ℕ) → i < length winners → IsRight entries lasts winners i
 
+-- If no winner but a place and the last one, which has gone, was wrong, each node is right.
+abbrev pub AreMendedOnceGone : ℕ → List (Labels × OwnerCells) → List ℕ → List ℕ → List ℕ → Type 0
+AreMendedOnceGone place entries lasts old new = AreFirstButGone place entries lasts old → AreRight entries lasts new
+
 -- Each winner is at or below its node.
 abbrev pub AreWithin : List ℕ → Type 0
 AreWithin winners = (i : ℕ) → i < length winners → IsBelow i (winner_at winners i)

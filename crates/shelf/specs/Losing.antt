@@ -45,10 +45,14 @@ pub record IsTidiedAt {S : Type 0} (place : ℕ) (olds : IndexMap Labels OwnerCe
 abbrev pub HaveGoneDown : ℕ → ℕ → Ends → Ends → Type 0
 HaveGoneDown from to old new = EndNear old.moments new.moments from to × HasSettled from to old new
 
+-- By no moment have more names ended than before, or fewer, than the permanent flushes have taken steps.
+abbrev pub EndBySteps : List Settling → List Settling → Ends → Ends → Type 0
+EndBySteps was now old new = EndNear old.moments new.moments (steps_left was) (steps_left now)
+
 -- The first permanent flush has taken so many steps, or all that it had. By no moment have more names ended than before, or fewer, than it took steps. If the flushes had each name left whose moment was in doubt, they have.
 pub record TakesSteps (most : ℕ) (was now : List Settling) (old new : Ends) : Type 0 where
   pub steps : HaveStepped most was now
-  pub ended : EndNear old.moments new.moments (steps_left was) (steps_left now)
+  pub ended : EndBySteps was now old new
   pub doubt : old.left ≤ most_left was → new.left ≤ most_left now
 
 -- Whatever flushes were kept and are kept now, no name needs a sweep before its moment but those in doubt, and some permanent flush has each of these left.

@@ -25,6 +25,11 @@ use Rattle.shelf.specs.Told.{cell_at, shown_version}
 abbrev pub takes : (Question → ℕ → Option (Admitted Find)) → Find → ℕ → Question → ℕ → Bool
 takes cells find moment question v = not (turns_away (cells question v) (admission_of find find moment))
 
+-- whether a version has content of a type that is alive at a moment and outranks a find
+abbrev pub is_outranked : Shelf → Find → ℕ → ℕ → ℕ → Bool
+is_outranked shelf find kind version moment =
+    turns_away (cell_at shelf (record { owner = find.owner; kind = kind }) version) (admission_of find find moment)
+
 -- whether a version so far would, or that of this flush if it covers the question
 abbrev pub taken_by : (Question → ℕ → Option (Admitted Find)) → Find → ℕ → Question → Bool → KeptFlush → Bool
 taken_by cells find moment question taken own = if covers own.flush question && takes cells find moment question own.number then true else taken

@@ -1,5 +1,5 @@
 -- Permanent flushes of zones that have not reached the cells of each name yet.
-use Rattle.std.specs.Prelude.{◌≡◌, ◌≤◌, ◌+◌, ◌++◌, ◌&&◌, ◌==◌, ◌∷◌, [], ℕ, Bool, false, length, nat_le, not, max, min, true, fold, vec_capacity, List, Option, Vec, if◌then◌else◌}
+use Rattle.std.specs.Prelude.{◌≡◌, ◌<◌, ◌≤◌, ◌+◌, ◌++◌, ◌&&◌, ◌==◌, ◌∷◌, [], ℕ, Bool, false, length, nat_le, not, max, min, true, fold, vec_capacity, List, Option, Vec, if◌then◌else◌}
 use Rattle.std.specs.List.{AllByRecursion, filter, list_any}
 use Rattle.indexmap.specs.IndexMap.{IndexMap}
 use Rattle.dns_name.specs.Labels.{Labels}
@@ -65,6 +65,10 @@ AreMovedBy moved was now old new = (top : ℕ) → AreUpTo top old → AllByRecu
 abbrev pub AreMovedFrom : {S : Type 0} → ℕ → (Question → ℕ → ℕ) → List Settling → List Settling → IndexMap Labels OwnerCells S → IndexMap Labels OwnerCells S → Type 0
 AreMovedFrom number moved was now old new =
     (top : ℕ) → number ≤ top → AreUpTo top old → AllByRecursion (IsSettling top old) was → IsMoved moved top was now old new
+
+-- Each version has the content that another version had, while the list of permanent flushes stays as it is, whatever it is.
+abbrev pub AreMovedAlone : {S : Type 0} → (Question → ℕ → ℕ) → IndexMap Labels OwnerCells S → IndexMap Labels OwnerCells S → Type 0
+AreMovedAlone moved old new = (settlings : List Settling) → AreMovedBy moved settlings settlings old new
 
 -- the version whose content a version gets when a flush of every type at or below a name becomes permanent
 abbrev pub moved_by_zone : Labels → ℕ → Question → ℕ → ℕ
@@ -138,6 +142,10 @@ HasJoined flush number owners was now = now ≡ joined_by flush.reach flush.name
 -- the flushes once an undone one has gone
 abbrev pub doubted : ℕ → List Settling → List Settling
 doubted names settlings = without_outdone [] 0 settlings ++ doubting names ∷ []
+
+-- If there was room for one more, the flushes are those once an undone one has gone.
+abbrev pub DoubtsIfRoom : {A : Type 0} → ℕ → Vec Settling A → Vec Settling A → Type 0
+DoubtsIfRoom names old new = length old.items < vec_capacity old → new.items ≡ doubted names old.items
 
 -- the same, if the flush of a number was kept
 abbrev pub cleared_once : ℕ → ℕ → List KeptFlush → List Settling → List Settling

@@ -7,6 +7,7 @@ use Rattle.dns_name.specs.Order.{name_eq}
 use Rattle.dns_text.specs.declared.record.Question.{Question}
 use Rattle.ranked.specs.declared.find.Find.{Find}
 use Rattle.ranked.specs.declared.find.Scope.{Scope}
+use Rattle.ranked.specs.declared.flush.Flush.{Flush}
 use Rattle.ranked.specs.Find.{has_kind}
 use Rattle.ranked.specs.declared.cell.Admitted.{Admitted}
 use Rattle.cell_store.specs.declared.owner.OwnerCells.{OwnerCells}
@@ -17,7 +18,7 @@ use Rattle.shelf.specs.declared.shelf.Shelf.{Shelf}
 use Rattle.shelf.specs.declared.fault.StoreFault.{StoreFault}
 use Rattle.shelf.specs.declared.fault.StoreFault.TheVariants.{Full}
 use Rattle.shelf.specs.Room.{needs_place}
-use Rattle.shelf.specs.Told.{Told, cell_by, face_of, is_version, only, IsShelfOf}
+use Rattle.shelf.specs.Told.{Told, cell_by, face_of, is_version, only, HasAdmitted, HasFlushed, IsShelfOf}
 use Rattle.shelf.specs.Told.Told.{admitted, flushed}
 
 -- the pairs of the admissions, in order: of each find its owner and scope
@@ -38,6 +39,18 @@ HasAdmittedEach told shelf = (pair : Labels × Scope) → has_pair shelf.owners 
 abbrev pub AddsEach : List Told → Told → Shelf → Shelf → Type 0
 AddsEach told more old new = HasAdmittedEach told old → HasAdmittedEach (told ++ more ∷ []) new
 
+-- If each place that counted was that of an admission, each that counts is one of those.
+abbrev pub KeepsEach : List Told → Shelf → Shelf → Type 0
+KeepsEach told old new = HasAdmittedEach told old → HasAdmittedEach told new
+
+-- If a find was admitted, each place that counts is that of an admission, with this one more.
+abbrev pub AddsAdmitted : List Told → Find → ℕ → Shelf → Shelf → Type 0
+AddsAdmitted told find t old new = HasAdmitted find t old new → AddsEach told (admitted find t) old new
+
+-- The same, if a flush was made.
+abbrev pub AddsFlushed : List Told → Flush → ℕ → Shelf → Shelf → Type 0
+AddsFlushed told flush n old new = HasFlushed flush n old new → AddsEach told (flushed flush n) old new
+
 -- A find of this pair is alive at a moment in the cell of a question, if only the chosen ones of the kept flushes are in force.
 pub record IsAliveInFace (shelf : Shelf) (t : ℕ) (pair : Labels × Scope) : Type 0 where
   pub chosen : ℕ → Bool
@@ -45,6 +58,10 @@ pub record IsAliveInFace (shelf : Shelf) (t : ℕ) (pair : Labels × Scope) : Ty
   pub held : Admitted Find
   pub alive : alive_at t (face_of shelf chosen question) ≡ Some held
   pub same : pair_of held.body ≡ pair
+
+-- A count of places is at least that of the pairs of which some choice of the kept flushes gives a find that is alive.
+abbrev pub CountsFaces : Shelf → ℕ → Type 0
+CountsFaces shelf count = (t : ℕ) (pairs : List (Labels × Scope)) → AllByRecursion (IsAliveInFace shelf t) pairs → count_pairs pairs ≤ count
 
 -- A find of this pair is alive at a moment in a version of the cell of a question, by a replay.
 pub record IsAliveInReplay (kept : List KeptFlush) (told : List Told) (t : ℕ) (pair : Labels × Scope) : Type 0 where

@@ -108,6 +108,10 @@ StaysUnderway {S} kept t olds old stored news new stored' = (asked most : ℕ) (
 abbrev pub NotesLifeAt : ℕ → List KeptFlush → List (Labels × OwnerCells) → List ℕ → Type 0
 NotesLifeAt place kept entries lasts = last_at lasts place ≡ min (life_at [] kept entries place) latest
 
+-- If no name has gone, the one at a place has there the second in which its last find ends.
+abbrev pub NotesLifeUnlessGone : ℕ → List KeptFlush → List (Labels × OwnerCells) → List (Labels × OwnerCells) → List ℕ → Type 0
+NotesLifeUnlessGone place kept olds news lasts = length news ≡ length olds → NotesLifeAt place kept news lasts
+
 -- 1 if a moment is at another or before, else 0
 abbrev pub one_ended : ℕ → ℕ → ℕ
 one_ended asked end = if nat_le end asked then 1 else 0

@@ -2,6 +2,7 @@
 use Rattle.std.specs.Prelude.{ℕ, Bool, true, false, ◌++◌, ◌+◌, ◌==◌, ◌&&◌, ◌≡◌, ◌≤◌, ◌<◌, ◌^◌, length, map, vec_capacity, List, [], ◌∷◌, Option, None, fold, if◌then◌else◌}
 use Rattle.std.specs.List.{AllByRecursion}
 use Rattle.dns_name.specs.Labels.{Labels}
+use Rattle.dns_name.specs.Order.{name_eq}
 use Rattle.dns_text.specs.declared.record.Question.{Question}
 use Rattle.ranked.specs.declared.find.Find.{Find}
 use Rattle.ranked.specs.declared.cell.Admitted.{Admitted}
@@ -155,10 +156,20 @@ pub record TurnsFlush (number : ℕ) (shown : Bool) (old new : Shelf) : Type 0 w
   pub stored : new.stored ≡ old.stored
   pub owners : new.owners ≡ old.owners
 
+-- If the flush of a number is chosen, or if it is not, each cell shows what it did, whatever choice of the other flushes is in force.
+abbrev pub ShowsSameIf : ℕ → Bool → Shelf → Shelf → Type 0
+ShowsSameIf number on old new =
+    (chosen : ℕ → Bool) → chosen number ≡ on → (q : Question) → face_of new chosen q ≡ face_of old chosen q
+
+-- A name has gone: whatever choice of the kept flushes is in force, each cell of it is empty, and the others show what they did.
+abbrev pub ForgetsName : Labels → Shelf → Shelf → Type 0
+ForgetsName owner old new =
+    (chosen : ℕ → Bool) (q : Question) → face_of new chosen q ≡ (if name_eq owner q.owner then None else face_of old chosen q)
+
 -- The kept flush of a number has gone: it is permanent if it was the oldest and in force. Else it is as if it had never been. No place counts that did not, and no more do than before.
 pub record LetsGo (number : ℕ) (old new : Shelf) : Type 0 where
   pub whole : IsShelf new
-  pub faces : (chosen : ℕ → Bool) → chosen number ≡ stands_first number old.kept.items → (question : Question) → face_of new chosen question ≡ face_of old chosen question
+  pub faces : ShowsSameIf number (stands_first number old.kept.items) old new
   pub kept : new.kept.items ≡ without number old.kept.items
   pub top : new.top ≡ old.top
   pub limit : new.limit ≡ old.limit

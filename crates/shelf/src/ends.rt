@@ -2,7 +2,7 @@
 
 ghost use Rattle.std.specs.Prelude.{◌≡◌, ◌<◌, ◌≤◌, ◌+◌, [], List, None, true, length, replicate, slice_set, swap_remove, is_some, IfSome, IsOk, OnOk, OnErr, if◌then◌else◌};
 ghost use Rattle.cell_store.specs.Store.{name_place};
-ghost use Rattle.shelf.specs.Clean.{dropped, evens, fitted, sure, touched_at, AreBy, AreEnds, AreEvened, HasLowered, HasSettled, EndsMixed, HaveEnds, IsLower};
+ghost use Rattle.shelf.specs.Clean.{dropped, evens, fitted, sure, touched_at, AreBy, AreEnds, AreEvened, EndsMixedAt, HasLowered, HasSettled, HaveEnds, IsLower, KeepsEnds};
 ghost use Rattle.shelf.specs.Sweep.{EndNear};
 ghost use Rattle.dns_name.specs.Labels.{Labels};
 ghost use Rattle.cell_store.specs.declared.owner.OwnerCells.{OwnerCells};
@@ -177,8 +177,7 @@ pub(crate) fn end_mixed(ends: &mut Ends)
 
 // Lets the next sweep visit the name at a place, if its moment may be wrong once a kept flush has gone.
 fn end_if_mixed(ends: &mut Ends, place: usize)
-    ensures moments { length ends.old.mixed.items ≡ length ends.old.moments →
-        EndsMixed place ends.old.moments ends.old.mixed.items ends.new.moments }
+    ensures moments { EndsMixedAt place ends.old ends.new }
     ensures same { (ends.new.mixed ≡ ends.old.mixed) × (ends.new.left ≡ ends.old.left) × (ends.new.lasts ≡ ends.old.lasts) }
     ensures near { EndNear ends.old.moments ends.new.moments (place + 1) place }
 {
@@ -192,8 +191,7 @@ fn end_if_mixed(ends: &mut Ends, place: usize)
 
 // If the name at a place is the last that is in doubt, lets the next sweep visit it, if its moment may be wrong. It takes no memory.
 pub(crate) fn settle_doubt(ends: &mut Ends, place: usize)
-    ensures ends { (kept : List KeptFlush) (entries : List (Labels × OwnerCells)) →
-        AreEnds kept entries ends.old → AreEnds kept entries ends.new }
+    ensures ends { KeepsEnds ends.old ends.new }
     ensures size { (entries : List (Labels × OwnerCells)) → HaveEnds entries ends.old → HaveEnds entries ends.new }
     ensures ended { EndNear ends.old.moments ends.new.moments (place + 1) place }
     ensures left { HasSettled (place + 1) place ends.old ends.new }

@@ -5,7 +5,7 @@ ghost use Rattle.ranked.specs.Flush.{flushed_types};
 ghost use Rattle.cell_store.specs.Store.{AreUpTo, KeepNames, OpenColumns};
 ghost use Rattle.shelf.specs.Kept.{stands_first};
 ghost use Rattle.shelf.specs.Losing.{AreDoubted, IsTallied, LoseCells, LosePlaces};
-ghost use Rattle.shelf.specs.Settling.{joined_to, joining, moved_by_flush, AreMovedFrom, HasGrown, HasJoined, IsOneLonger};
+ghost use Rattle.shelf.specs.Settling.{moved_by_flush, AreMovedFrom, HasGrown, HasJoined, IsOneLonger};
 ghost use Rattle.shelf.specs.Told.{without, CanSettleFlush};
 
 use crate::ends::{Ends, doubt_all};
@@ -76,8 +76,7 @@ fn settle_reach(
     ensures moved { AreMovedFrom number (moved_by_flush flush number) settlings.old.items settlings.new.items owners.old owners.new }
     ensures lost { LoseCells owners.old stored.old ends.old owners.new stored.new ends.new }
     ensures space { IsOneLonger settlings.old settlings.new }
-    ensures items { settlings.new.items ≡
-        joined_to (joining flush.reach flush.name number (length owners.old.entries)) settlings.old.items }
+    ensures items { HasJoined flush number owners.old settlings.old.items settlings.new.items }
     ensures left { ends.new.left ≤ ends.old.left }
 {
     match flush.reach {

@@ -4,7 +4,7 @@ ghost use Rattle.std.specs.Prelude.{◌≡◌, ◌⊎◌, ◌<◌, ◌≤◌, �
 ghost use Rattle.dns_name.specs.Order.{IsNotAfter};
 ghost use Rattle.shelf.specs.First.{name_at};
 ghost use Rattle.shelf.specs.Clean.{dropped};
-ghost use Rattle.shelf.specs.Lasts.{last_at, winner_at, AreFirstButGone, AreLetGo, AreMendedFrom, AreMoved, AreRight};
+ghost use Rattle.shelf.specs.Lasts.{last_at, winner_at, AreLetGo, AreMendedFrom, AreMendedOnceGone, AreMoved};
 ghost use Rattle.shelf.specs.Lasts.{AreSameLasts, AreWinners, AreWithin, FollowGone, FollowNames, FollowRemoved, HaveCome, HaveRoom, IsShaped};
 ghost use Rattle.shelf.specs.Lasts.{IsFirstOf, IsNodeOrWinner, IsWinner, IsWinnerAgain, Leads};
 
@@ -262,8 +262,7 @@ fn mend_gap(owners: &Owners, lasts: &[u64], winners: &mut Vec<usize>, place: usi
     requires within { AreWithin winners.old.items }
     ensures size { length winners.new.items ≡ length winners.old.items }
     ensures within { AreWithin winners.new.items }
-    ensures right { AreFirstButGone place owners.now.entries lasts.now winners.old.items →
-        AreRight owners.now.entries lasts.now winners.new.items }
+    ensures right { AreMendedOnceGone place owners.now.entries lasts.now winners.old.items winners.new.items }
 {
     if place == winners.len() {
         let_go(owners, lasts, winners);

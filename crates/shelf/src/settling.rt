@@ -1,14 +1,15 @@
 //! Permanent flushes of zones. They reach the cells of the names a few at a time, so that no call visits many of them.
 
-ghost use Rattle.std.specs.Prelude.{◌≡◌, ◌<◌, ◌≤◌, ◌+◌, ◌-◌, ◌^◌, [], ℕ, true, false, List, length, vec_capacity, OnOk};
+ghost use Rattle.std.specs.Prelude.{◌≡◌, ◌<◌, ◌≤◌, ◌+◌, ◌-◌, ◌^◌, [], ℕ, true, false, length, vec_capacity, OnOk};
 ghost use Rattle.std.specs.List.{AllByRecursion};
 ghost use Rattle.dns_name.specs.Labels.{Labels};
+ghost use Rattle.ranked.specs.declared.flush.Reach.TheVariants.{Zone};
 ghost use Rattle.cell_store.specs.Owner.{after_settle};
 ghost use Rattle.cell_store.specs.Store.{AreUpTo, CanSettleAt, HaveTop};
 ghost use Rattle.shelf.specs.Clean.{HaveEnds};
 ghost use Rattle.shelf.specs.Losing.{AreDoubted, HaveGoneDown, IsTallied, IsTidiedAt, LoseCells, TakesSteps};
-ghost use Rattle.shelf.specs.Settling.{doubted, ends_first, first_at, is_outdone, joined_to, moved_by_name, moved_by_zone, settled_version, unmoved};
-ghost use Rattle.shelf.specs.Settling.{with_left, without_outdone, AreMovedBy, AreMovedFrom, HasGrown, HasShrunk, IsOneLonger, IsReaching};
+ghost use Rattle.shelf.specs.Settling.{ends_first, first_at, is_outdone, joined_by, moved_by_name, moved_by_zone, settled_version, unmoved};
+ghost use Rattle.shelf.specs.Settling.{with_left, without_outdone, AreMovedAlone, AreMovedBy, AreMovedFrom, DoubtsIfRoom, HasGrown, HasShrunk, IsOneLonger, IsReaching};
 
 use crate::ends::{Ends, doubt_all, drop_at, end_mixed, put, settle_doubt};
 use crate::shelf::Shelf;
@@ -220,8 +221,7 @@ fn drop_outdone(settlings: &mut Vec<Settling>, zone: &Name, number: u64)
 pub(crate) fn settle_zone(owners: &Owners, settlings: &mut Vec<Settling>, zone: Name, number: u64)
     requires room { length settlings.old.items < vec_capacity settlings.old }
     ensures moved { AreMovedFrom number (moved_by_zone zone number) settlings.old.items settlings.new.items owners.now owners.now }
-    ensures items { settlings.new.items ≡
-        joined_to (record { zone = zone; number = number; left = length owners.now.entries }) settlings.old.items }
+    ensures items { settlings.new.items ≡ joined_by Zone zone number (length owners.now.entries) settlings.old.items }
     ensures room { IsOneLonger settlings.old settlings.new }
 {
     drop_outdone(settlings, &zone, number);
@@ -245,8 +245,7 @@ pub(crate) fn doubt_later(
     ensures versions { (name : Labels) (v : ℕ) →
         settled_version settlings.new.items name v ≡ settled_version settlings.old.items name v }
     ensures room { HasGrown settlings.old settlings.new }
-    ensures items { length settlings.old.items < vec_capacity settlings.old →
-        settlings.new.items ≡ doubted (length owners.now.entries) settlings.old.items }
+    ensures items { DoubtsIfRoom (length owners.now.entries) settlings.old settlings.new }
 {
     if settlings.len() >= settlings.capacity() {
         end_mixed(ends);
@@ -268,8 +267,7 @@ pub(crate) fn settle_name(
 )
     requires settles { AllByRecursion (λ kind. CanSettleAt number kind name.now owners.old) kinds.now }
     requires tallied { IsTallied owners.old stored.old ends.old }
-    ensures moved { (settlings : List Settling) →
-        AreMovedBy (moved_by_name name.now kinds.now number) settlings settlings owners.old owners.new }
+    ensures moved { AreMovedAlone (moved_by_name name.now kinds.now number) owners.old owners.new }
     ensures lost { LoseCells owners.old stored.old ends.old owners.new stored.new ends.new }
     ensures left { ends.new.left ≤ ends.old.left }
 {

@@ -1,25 +1,21 @@
 //! The shelf: cached cells, and the flushes that can be undone or redone.
 
-ghost use Rattle.std.specs.Prelude.{◌≡◌, ◌<◌, ◌≤◌, ◌+◌, ◌^◌, ◌∷◌, ◌&&◌, [], ℕ, Bool, List, None, true, false, map, option_copied, position};
-ghost use Rattle.std.specs.Prelude.{IfErr, IsOk, OnOk, OnErr, if◌then◌else◌};
-ghost use Rattle.std.specs.List.{AllByRecursion};
+ghost use Rattle.std.specs.Prelude.{◌≡◌, ◌<◌, ◌≤◌, ◌+◌, ◌^◌, ◌∷◌, ◌&&◌, [], ℕ, List, None, true, false, map, option_copied, position};
+ghost use Rattle.std.specs.Prelude.{IfErr, IsOk, OnOk, OnErr};
 ghost use Rattle.std.specs.Map.{keys_of};
 ghost use Rattle.indexmap.specs.IndexMap.{get, hasher_of};
-ghost use Rattle.dns_name.specs.Labels.{Labels};
 ghost use Rattle.dns_name.specs.Order.{name_eq};
 ghost use Rattle.dns_text.specs.declared.record.Question.{Question};
-ghost use Rattle.ranked.specs.Cell.{turns_away};
-ghost use Rattle.ranked.specs.Find.{admission_of};
+ghost use Rattle.ranked.specs.declared.find.Scope.TheVariants.{One};
 ghost use Rattle.cell_store.specs.Count.{has_place_for, KeepPairs};
 ghost use Rattle.cell_store.specs.Owner.{held_now};
 ghost use Rattle.cell_store.specs.Store.{StayBut};
 ghost use Rattle.shelf.specs.declared.shelf.KeptFlush.{KeptFlush};
 ghost use Rattle.shelf.specs.Kept.{with_shown};
-ghost use Rattle.shelf.specs.Room.{fate_of, kind_fate, is_taken, is_wanted, room_for, HasRoomFor};
-ghost use Rattle.shelf.specs.Settling.{cleared_by, reached_at_once, steps_left, HaveEnded, HaveStepped};
-ghost use Rattle.shelf.specs.Sweep.{EndNear};
+ghost use Rattle.shelf.specs.Losing.{EndBySteps};
+ghost use Rattle.shelf.specs.Room.{fate_of, is_outranked, is_wanted, kind_fate, room_for, HasRoomFor};
+ghost use Rattle.shelf.specs.Settling.{cleared_by, reached_at_once, HaveEnded, HaveStepped};
 ghost use Rattle.shelf.specs.Told.{without};
-ghost use Rattle.ranked.specs.declared.find.Scope.{Scope};
 
 use crate::ends::{Ends, drop_end, fit, no_ends, reset, touch};
 use crate::fault::StoreFault;
@@ -89,9 +85,9 @@ fn set_shown(kept: &mut Vec<KeptFlush>, number: u64, shown: bool)
 }
 
 impl Shelf {
-    ghost use Rattle.shelf.specs.Told.{Told, cell_at, shown_version, face_of, HasAdmitted, HasFlushed, IsEmptyShelf, IsReplayed, IsSame, IsShelf, IsShown, JoinsOldest};
-    ghost use Rattle.shelf.specs.Told.{HasEndedSince, HasSteppedSince, KeepsFlushes, LetsGo, LosesOnly, ShowsOldest, TurnsFlush};
-    ghost use Rattle.shelf.specs.Stored.{count_pairs, pairs_in, CountsReplayed, HasAdmittedEach, IsAliveInFace};
+    ghost use Rattle.shelf.specs.Told.{Told, cell_at, shown_version, ForgetsName, HasAdmitted, HasFlushed, IsEmptyShelf, IsReplayed, IsSame, IsShelf, IsShown, JoinsOldest};
+    ghost use Rattle.shelf.specs.Told.{HasEndedSince, HasSteppedSince, KeepsFlushes, LetsGo, LosesOnly, ShowsOldest, ShowsSameIf, TurnsFlush};
+    ghost use Rattle.shelf.specs.Stored.{count_pairs, pairs_in, CountsFaces, CountsReplayed, HasAdmittedEach};
     ghost use Rattle.shelf.specs.Admission.{IsAdmission};
     ghost use Rattle.shelf.specs.Oldest.{IsEnding};
 
@@ -146,8 +142,7 @@ impl Shelf {
         ensures value { result ≡ self.now.stored }
         ensures limit { IsShelf self.now → result ≤ self.now.limit }
         ensures most { IsShelf self.now → (told : List Told) → HasAdmittedEach told self.now → result ≤ count_pairs (pairs_in told) }
-        ensures least { IsShelf self.now → (t : ℕ) (pairs : List (Labels × Scope)) →
-            AllByRecursion (IsAliveInFace self.now t) pairs → count_pairs pairs ≤ result }
+        ensures least { IsShelf self.now → CountsFaces self.now result }
         ensures replayed { IsShelf self.now → CountsReplayed self.now result }
     {
         // `len` is called for its clause that the names differ, which the proof cites.
@@ -165,8 +160,7 @@ impl Shelf {
         moment: u64,
     ) -> bool
         requires { option_copied cells ≡ get name_eq self.now.owners find.now.owner }
-        ensures { result ≡ turns_away
-            (cell_at self.now (record { owner = find.now.owner; kind = kind }) version) (admission_of find.now find.now moment) }
+        ensures { result ≡ is_outranked self.now find.now kind version moment }
     {
         let version = self.settled(&find.owner, version);
         match held_in(cells, kind, version, moment) {
@@ -178,8 +172,7 @@ impl Shelf {
     // Whether some version would cache a find of a type.
     fn is_taken(&self, find: &Find, cells: Option<&OwnerCells>, kind: u16, moment: u64) -> bool
         requires { option_copied cells ≡ get name_eq self.now.owners find.now.owner }
-        ensures { result ≡
-            is_taken (cell_at self.now) self.now.kept.items find.now moment (record { owner = find.now.owner; kind = kind }) }
+        ensures { result ≡ is_wanted self.now find.now moment (One kind) }
     {
         if !self.turns_away(find, cells, kind, 0, moment) {
             return true;
@@ -421,8 +414,7 @@ impl Shelf {
     pub fn forget(&mut self, owner: &Name)
         requires whole { IsShelf self.old }
         ensures loses { LosesOnly self.old self.new }
-        ensures faces { (chosen : ℕ → Bool) (q : Question) →
-            face_of self.new chosen q ≡ (if name_eq owner.now q.owner then None else face_of self.old chosen q) }
+        ensures faces { ForgetsName owner.now self.old self.new }
         ensures gone { get name_eq self.new.owners owner.now ≡ None }
 
         // Fewer places are counted, if a find of the name was alive, whatever choice of the kept flushes was in force.
@@ -470,8 +462,7 @@ impl Shelf {
         ensures loses { LosesOnly self.old self.new }
         ensures cells { (q : Question) (v : ℕ) → cell_at self.new q v ≡ cell_at self.old q v }
         ensures left { HaveStepped reached_at_once self.old.settlings.items self.new.settlings.items }
-        ensures ended { EndNear
-            self.old.ends.moments self.new.ends.moments (steps_left self.old.settlings.items) (steps_left self.new.settlings.items) }
+        ensures ended { EndBySteps self.old.settlings.items self.new.settlings.items self.old.ends self.new.ends }
     {
         reach_some(
             &mut self.owners,
@@ -513,8 +504,7 @@ impl Shelf {
     /// where they may differ. It takes no memory.
     pub fn settle_cleared(&mut self, number: u64)
         ensures whole { IsShelf self.old → IsShelf self.new }
-        ensures faces { (chosen : ℕ → Bool) → chosen number ≡ false →
-            (q : Question) → face_of self.new chosen q ≡ face_of self.old chosen q }
+        ensures faces { ShowsSameIf number false self.old self.new }
         ensures kept { self.new.kept.items ≡ without number self.old.kept.items }
         ensures top { self.new.top ≡ self.old.top }
         ensures limit { self.new.limit ≡ self.old.limit }

@@ -9,7 +9,7 @@ ghost use Rattle.cell_store.specs.Sweep.{IsSeenAlive, KeepsAlive};
 ghost use Rattle.shelf.specs.Losing.{IsTallied};
 ghost use Rattle.shelf.specs.Settling.{reached_at_once};
 ghost use Rattle.shelf.specs.Sweep.{asked_at, count_ended, numbers_of, turn_at_most, unswept_of, AreAlive, AreSwept, CanSweep, EndsOneAt, IsSwept, IsSweptAt, IsUnderway};
-ghost use Rattle.shelf.specs.Sweep.{NotesLifeAt, StaysUnderway};
+ghost use Rattle.shelf.specs.Sweep.{NotesLifeUnlessGone, StaysUnderway};
 
 use crate::ends::{Ends, drop_at, end_all, put};
 use crate::oldest::last_end;
@@ -119,8 +119,7 @@ fn visit(
     requires room { length kept.now ≤ vec_capacity numbers.old }
     ensures on { StaysUnderway kept.now moment owners.old ends.old stored.old owners.new ends.new stored.new }
     ensures ended { EndsOneAt place moment ends.old.moments ends.new.moments }
-    ensures noted { length owners.new.entries ≡ length owners.old.entries →
-        NotesLifeAt place kept.now owners.new.entries ends.new.lasts.ends.items }
+    ensures noted { NotesLifeUnlessGone place kept.now owners.old.entries owners.new.entries ends.new.lasts.ends.items }
     ensures capacity { vec_capacity numbers.new ≡ vec_capacity numbers.old }
 {
     let (end, mixed) = sweep_at(owners, stored, kept, numbers, place, moment);
