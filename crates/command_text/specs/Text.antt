@@ -53,10 +53,14 @@ abbrev pub scope_text : Scope → List ℕ
 scope_text (One kind) = type_text kind
 scope_text Whole = []
 
+-- ` OWNER TYPE DATA` of a set.
+abbrev pub find_text : Find → List Data → List ℕ
+find_text find items = 32 ∷ text_of find.owner ++ 32 ∷ scope_text find.scope ++ 32 ∷ set_text items
+
 -- RANK LEFT OWNER TYPE DATA of a cached set, where LEFT is the seconds that it has left.
 unfoldable pub found_text : Shown Find → List Data → List ℕ
 found_text shown items =
-    decimal (level_of shown.rank) ++ 32 ∷ decimal shown.left ++ 32 ∷ text_of shown.body.owner ++ 32 ∷ scope_text shown.body.scope ++ 32 ∷ set_text items
+    decimal (level_of shown.rank) ++ 32 ∷ decimal shown.left ++ find_text shown.body items
 
 -- A cached set, or a cached negative answer, with the seconds that it has left.
 abbrev pub held_by : Shown Find → Body → List ℕ

@@ -62,6 +62,10 @@ commands =
     ∷ control_only Stats (codes "stats") []
     ∷ []
 
+-- The words that only scripts have.
+abbrev pub script_words : List (List ℕ)
+script_words = codes "at" ∷ codes "admit" ∷ codes "nodata" ∷ codes "noname" ∷ codes "forget" ∷ codes "oldest" ∷ []
+
 -- A row as the code has it.
 abbrev pub row_now : Usage → Row
 row_now usage = record { verb = usage.verb; word = usage.word.now; form = usage.form.now; in_script = usage.in_script; in_control = usage.in_control }

@@ -2,9 +2,9 @@
 
 ghost use Rattle.std.specs.Prelude.{◌≡◌, ◌++◌, ◌∷◌, OnOk, codes};
 ghost use Rattle.dns_name.specs.Text.{text_of};
-ghost use Rattle.dns_text.specs.Kind.{type_text};
 ghost use Rattle.dns_text.specs.Record.{record_text};
 ghost use Rattle.local_zone.specs.ZoneType.{word_of};
+ghost use Rattle.history.specs.declared.event.Command.TheVariants.{FlushType};
 ghost use Rattle.command_text.specs.Addrs.{addrs_text};
 ghost use Rattle.command_text.specs.CommandWords.{command_words};
 
@@ -25,8 +25,7 @@ fn push_named(word: &[u8], name: &Name, out: &mut Vec<u8>) -> Result<(), NoMemor
 }
 
 fn push_flush_type(question: &Question, out: &mut Vec<u8>) -> Result<(), NoMemory>
-    ensures { OnOk result (out.new.items
-        ≡ out.old.items ++ codes "flush_type " ++ text_of question.now.owner ++ 32 ∷ type_text question.now.kind) }
+    ensures { OnOk result (out.new.items ≡ out.old.items ++ command_words (FlushType question.now)) }
 {
     push_named(b"flush_type ", &question.owner, out)?;
     out.push(b' ')?;

@@ -7,6 +7,7 @@ ghost use Rattle.command_text.specs.Addrs.{words_of};
 ghost use Rattle.command_text.specs.Bar.{BarsEndPieces, WordsGoOnInPieces, pieces};
 ghost use Rattle.command_text.specs.CommandWords.{ReadsCommands};
 ghost use Rattle.command_text.specs.Line.{IsUnknown};
+ghost use Rattle.command_text.specs.Words.{script_words};
 ghost use Rattle.command_text.specs.declared.words.Channel.TheVariants.{Script, Control};
 
 use dns_text::written_law;
@@ -28,8 +29,7 @@ pub fn words_are()
 /// The control socket does not know the lines that only scripts have, and scripts do not know `stop`, `status` and `stats`,
 /// whatever follows the word.
 pub fn channels_are_apart()
-    ensures control { AllByRecursion (IsUnknown Control)
-        (codes "at" ∷ codes "admit" ∷ codes "nodata" ∷ codes "noname" ∷ codes "forget" ∷ codes "oldest" ∷ []) }
+    ensures control { AllByRecursion (IsUnknown Control) script_words }
     ensures script { AllByRecursion (IsUnknown Script) (codes "stop" ∷ codes "status" ∷ codes "stats" ∷ []) }
 {}
 

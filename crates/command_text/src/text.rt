@@ -6,7 +6,7 @@ ghost use Rattle.streams.specs.Text.{octets_in};
 ghost use Rattle.dns_name.specs.Text.{text_of};
 ghost use Rattle.dns_text.specs.Data.{data_text};
 ghost use Rattle.ranked.specs.Body.{is_negative};
-ghost use Rattle.command_text.specs.Text.{set_text, scope_text, found_text, held_text, is_long, oldest_text, refusal_text, reply_text, reason_text, fault_text, desk_fault_text, line_fault_text};
+ghost use Rattle.command_text.specs.Text.{set_text, scope_text, find_text, found_text, held_text, is_long, oldest_text, refusal_text, reply_text, reason_text, fault_text, desk_fault_text, line_fault_text};
 ghost use Rattle.command_text.specs.declared.text.TheConstants.{MOST_WORDS};
 ghost use Rattle.command_text.specs.Obeying.{IsTextOf};
 
@@ -59,8 +59,7 @@ fn push_scope(scope: Scope, out: &mut Vec<u8>) -> Result<(), NoMemory>
 
 /// Writes ` OWNER TYPE DATA` of a set.
 fn push_find(find: &Find, items: &[Data], out: &mut Vec<u8>) -> Result<(), NoMemory>
-    ensures { OnOk result (out.new.items
-        ≡ out.old.items ++ 32 ∷ text_of find.now.owner ++ 32 ∷ scope_text find.now.scope ++ 32 ∷ set_text items.now) }
+    ensures { OnOk result (out.new.items ≡ out.old.items ++ find_text find.now items.now) }
 {
     out.push(b' ')?;
     find.owner.push_text(out)?;
