@@ -59,15 +59,15 @@ IsBelieved finds passing question (Passing set) = AllByRecursion (λ said. ¬ (I
 
 -- The first of these finds that may be the answer to this question is found, if there is one.
 abbrev pub FindsFirstFind : Question → List CachedFind → Option (Bor CachedFind) → Type 0
-FindsFirstFind question finds found =
-    MatchOption found (AllByRecursion (λ said. ¬ (IsFoundFor question said)) (map said_by finds)) (λ find. IsFirst (IsFoundFor question) (map said_by finds) (said_by find.now))
+FindsFirstFind question finds told =
+    MatchOption told (AllByRecursion (λ said. ¬ (IsFoundFor question said)) (map said_by finds)) (λ find. IsFirst (IsFoundFor question) (map said_by finds) (said_by find.now))
 
 -- The first of these passing sets that may be the answer to this question is found, if there is one.
 abbrev pub FindsFirstPassing : Question → List PassingSet → Option (Bor PassingSet) → Type 0
-FindsFirstPassing question passing found =
-    MatchOption found (AllByRecursion (λ set. ¬ (IsPassingFor question set)) (map set_of passing)) (λ set. IsFirst (IsPassingFor question) (map set_of passing) (set_of set.now))
+FindsFirstPassing question passing told =
+    MatchOption told (AllByRecursion (λ set. ¬ (IsPassingFor question set)) (map set_of passing)) (λ set. IsFirst (IsPassingFor question) (map set_of passing) (set_of set.now))
 
 -- The set of a harvest that is believed for this question is found, if the harvest has one.
 abbrev pub FindsBelieved : Harvest → Question → Option Believed → Type 0
-FindsBelieved harvest question found =
-    MatchOption found (¬ (HarvestHasSet harvest question)) (IsBelieved (map said_by harvest.finds) (map set_of harvest.passing) question)
+FindsBelieved harvest question told =
+    MatchOption told (¬ (HarvestHasSet harvest question)) (IsBelieved (map said_by harvest.finds) (map set_of harvest.passing) question)
