@@ -1,6 +1,6 @@
 -- Runs over the first lines, by the clock and the desk alone.
-use Rattle.std.proofs.Common.{◌≡◌, ◌∙◌, ◌++◌, ◌∷◌, [], ℕ, Bool, List, Option, Result, Some, None, Ok, IfSome, sym, ap, subst, append-nil}
-use Rattle.std.specs.Io.KnownBytes.{Appends, Consumes, IsAtEnd}
+use Rattle.std.proofs.Common.{◌≡◌, ◌∙◌, ◌⊎◌, ◌++◌, ◌∷◌, [], ℕ, Bool, false, List, Option, Result, Some, None, Ok, Err, IfSome, IsErrOf, inl, inr, refl, sym, ap, subst, append-nil}
+use Rattle.std.specs.Io.KnownBytes.{Consumes, IsAtEnd}
 use Rattle.streams.specs.Engine.{RunsLines}
 use Rattle.streams.specs.Split.{lines_of}
 use Rattle.streams.specs.Transcript.{Transcript, paired}
@@ -8,8 +8,14 @@ use Rattle.streams.specs.declared.fault.Ended.{Ended}
 use Rattle.streams.specs.declared.fault.Ended.TheVariants.{EndOfInput}
 use Rattle.streams.specs.declared.fault.ScriptFault.{ScriptFault}
 use Rattle.clock.specs.Ticks.{Ticks}
-use Rattle.command_text.specs.Control.{Calls, Controls}
-use Rattle.operators.specs.FirstLines.{AcceptsInput, AcceptsLine}
+use Rattle.command_text.specs.declared.line.Line.{Line}
+use Rattle.command_text.specs.declared.fault.LineFault.{LineFault}
+use Rattle.command_text.specs.declared.fault.LineFault.TheVariants.{Unknown, Missing, BadName, BadType, BadData, BadAddress, TooLong, NoMemory}
+use Rattle.command_text.specs.declared.words.Channel.TheVariants.{Control}
+use Rattle.command_text.specs.Fault.{Gives}
+use Rattle.command_text.specs.Line.{says}
+use Rattle.command_text.specs.Control.{Calls, DoesAt, IsReadAs, Controls}
+use Rattle.operators.specs.FirstLines.{AcceptsInput, AcceptsLine, IsRepliedTo}
 
 all_read : (unread left : Option (List ℕ)) (input : List ℕ) → Consumes unread left input → IsAtEnd left → IfSome unread (λ octets. input ≡ octets)
 all_read None left input reads end = tt
@@ -51,14 +57,32 @@ accepts_if clock_of ticks calls result p q unread left old new runs is =
     accepts_all clock_of ticks calls p q unread left old new
     (subst (λ (r : Result Ended ScriptFault). RunsLines r (paired (λ before desk line text ends after desk'. AcceptsLine ticks calls (clock_of before) desk line text ends (clock_of after) desk')) p q unread left old new) is runs)
 
--- The reply to an input of one line.
-pub replied : {C D : Type 0} (ticks : Ticks C) (calls : Calls D) (p q : C × D) (line reply : List ℕ) (unread left old : Option (List ℕ))
-    → unread ≡ Some line → old ≡ Some [] → RunsLines (Ok EndOfInput) (paired (Controls ticks calls)) p q unread left old (Some reply)
-    → Transcript (paired (Controls ticks calls)) p (lines_of line) reply q
-replied ticks calls p q line reply unread left old is was runs =
-    let reads : Consumes (Some line) left runs.input = subst (λ (u : Option (List ℕ)). Consumes u left runs.input) is runs.reads in
-    let writes : Appends (Some []) (Some reply) runs.text = subst (λ (o : Option (List ℕ)). Appends o (Some reply) runs.text) was runs.writes in
-    let input : runs.input ≡ line = all_read (Some line) left runs.input reads runs.obeyed.1 in
-    let text : runs.text ≡ reply = sym writes in
-    subst (λ (i : List ℕ). Transcript (paired (Controls ticks calls)) p (lines_of i) reply q) input
-    (subst (λ (t : List ℕ). Transcript (paired (Controls ticks calls)) p (lines_of runs.input) t q) text runs.obeyed.0)
+-- What was read is what the line says, or there was no memory for it.
+said_or_dropped : (line : List ℕ) (said : Result Line LineFault) → Gives said (says Control line) → (says Control line ≡ said) ⊎ IsErrOf said NoMemory
+said_or_dropped line (Ok what) gives = inl gives
+said_or_dropped line (Err Unknown) gives = inl (gives (λ is. cc))
+said_or_dropped line (Err Missing) gives = inl (gives (λ is. cc))
+said_or_dropped line (Err BadName) gives = inl (gives (λ is. cc))
+said_or_dropped line (Err BadType) gives = inl (gives (λ is. cc))
+said_or_dropped line (Err BadData) gives = inl (gives (λ is. cc))
+said_or_dropped line (Err BadAddress) gives = inl (gives (λ is. cc))
+said_or_dropped line (Err TooLong) gives = inl (gives (λ is. cc))
+said_or_dropped line (Err NoMemory) gives = inr refl
+
+-- A line that was read, and then obeyed as it was read, is obeyed as one of control.
+controls_read : {C D : Type 0} (ticks : Ticks C) (calls : Calls D) (clock clock' : C) (desk desk' : D) (line text : List ℕ) (ends : Bool)
+    (said : Result Line LineFault) → IsReadAs line said → DoesAt ticks calls clock desk said text ends clock' desk'
+    → Controls ticks calls clock desk line text ends clock' desk'
+controls_read ticks calls clock clock' desk desk' line text ends said read does = elim (said_or_dropped line said read.0) [
+  | inl is ↦ inl (subst (λ (r : Result Line LineFault). DoesAt ticks calls clock desk r text ends clock' desk') (sym is) does)
+  | inr none ↦ inr (read.1 none, subst (λ (r : Result Line LineFault). DoesAt ticks calls clock desk r text ends clock' desk') none does)
+]
+
+-- If it does not end the service, its text is its reply.
+pub replied : {C D : Type 0} (ticks : Ticks C) (calls : Calls D) (clock clock' : C) (desk desk' : D) (line text : List ℕ) (ends : Bool)
+    (said : Result Line LineFault) → IsReadAs line said → DoesAt ticks calls clock desk said text ends clock' desk' → ends ≡ false
+    → IsRepliedTo ticks calls clock desk line text clock' desk'
+replied ticks calls clock clock' desk desk' line text ends said read does goes_on = record {
+  controls = subst (λ (b : Bool). Controls ticks calls clock desk line text b clock' desk') goes_on
+      (controls_read ticks calls clock clock' desk desk' line text ends said read does);
+}

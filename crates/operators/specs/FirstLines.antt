@@ -12,20 +12,20 @@ use Rattle.command_text.specs.Control.{Calls, Controls}
 abbrev pub says_refused : List ℕ → Bool
 says_refused reply = starts_with nat_eq reply (codes "error ") || starts_with nat_eq reply (codes "fault ")
 
--- The line is obeyed as if it were the only one of an operator, and its reply does not say that it was not obeyed.
+-- A line is obeyed as one of an operator, it does not end the service, and gets this reply.
+pub record IsRepliedTo {C D : Type 0} (ticks : Ticks C) (calls : Calls D) (clock : C) (desk : D) (line reply : List ℕ) (clock' : C) (desk' : D) : Type 0 where
+  pub controls : Controls ticks calls clock desk line reply false clock' desk'
+
+-- The line is obeyed as one of an operator, and its reply does not say that it was not obeyed.
 pub record IsAccepted {C D : Type 0} (ticks : Ticks C) (calls : Calls D) (clock : C) (desk : D) (line : List ℕ) (clock' : C) (desk' : D) : Type 0 where
   pub reply : List ℕ
-  pub obeyed : Transcript (paired (Controls ticks calls)) (clock, desk) (lines_of line) reply (clock', desk')
+  pub obeyed : IsRepliedTo ticks calls clock desk line reply clock' desk'
   pub accepted : says_refused reply ≡ false
 
 -- A line of a file is accepted, as far as it is heard, or it is the last.
 abbrev pub AcceptsLine : {C D : Type 0} → Ticks C → Calls D → C → D → List ℕ → List ℕ → Bool → C → D → Type 0
 AcceptsLine ticks calls clock desk line text ends clock' desk' =
     ends ≡ false → (heard : List ℕ) × IsLineHeard heard line × IsAccepted ticks calls clock desk heard clock' desk'
-
--- A line is obeyed as if it were the only one of an operator, and gets this reply.
-abbrev pub IsRepliedTo : {C D : Type 0} → Ticks C → Calls D → C → D → List ℕ → List ℕ → C → D → Type 0
-IsRepliedTo ticks calls clock desk line reply clock' desk' = Transcript (paired (Controls ticks calls)) (clock, desk) (lines_of line) reply (clock', desk')
 
 -- An input was read to its end, and each of its lines was accepted, in order.
 pub record AcceptsInput {C D : Type 0} (ticks : Ticks C) (calls : Calls D) (unread : Option (List ℕ)) (clock : C) (desk : D)

@@ -1,7 +1,8 @@
 //! The lines of a file, which a service obeys before it is ready.
 
-ghost use Rattle.std.specs.Prelude.{◌≡◌, [], None, Some, Ok, false, IfOk, IfErr, IfSome, OnOk};
+ghost use Rattle.std.specs.Prelude.{◌≡◌, None, Ok, false, IfOk, IfErr, IfSome, OnOk};
 ghost use Rattle.std.specs.Io.BufRead.{strip_last};
+ghost use Rattle.streams.specs.Text.{octets_in};
 ghost use Rattle.operators.specs.Fault.{CannotObey};
 ghost use Rattle.operators.specs.FirstLines.{AcceptsIfEnded, AcceptsInput, AcceptsLine, IsAccepted, IsRepliedTo, refusal_of};
 
@@ -11,7 +12,7 @@ use crate::lookout::Lookout;
 use crate::replies::is_refusal;
 use crate::watched_fifo::WatchedFifo;
 use clock::Clock;
-use command_text::serve_control;
+use command_text::{obey_said, read_control};
 use history::Desk;
 use std::alloc::{AllocError, Global};
 use std::fmt::Display;
@@ -20,10 +21,7 @@ use std::rt::Files;
 use std::sync::Wait;
 use std::thread::Threads;
 use std::{fs, io};
-use streams::{
-    CountedReader, CountedWriter, Ended, LineReply, Obeyer, ScriptFault, Sink, Source, Text,
-    WriteFailed, run_lines,
-};
+use streams::{CountedWriter, Ended, LineReply, Obeyer, ScriptFault, Source, Text, run_lines};
 
 /// The reply to `stop`, as in a script: no file ends the service.
 const NO_STOP: &[u8] = b"error unknown";
@@ -119,59 +117,22 @@ fn refusal_text(
     Ok(text)
 }
 
-/// The reply to one line.
-#[derive(Drop)]
-struct KeptReply {
-    octets: Vec<u8>,
-    failures: u64,
-}
-
-impl KeptReply {
-    /// Nothing was written.
-    fn new(alloc: Global) -> KeptReply
-        ensures octets { result.octets.items ≡ [] }
-        ensures failures { result.failures ≡ 0 }
-    {
-        KeptReply {
-            octets: Vec::new(alloc),
-            failures: 0,
-        }
-    }
-}
-
-impl Sink for KeptReply {
-    ghost contents = { λ s. Some s.octets.items };
-
-    ghost failures = { λ s. s.failures };
-
-    fn put(&mut self, text: &[u8]) -> Result<usize, WriteFailed> {
-        match self.octets.extend_from_slice(text) {
-            Ok(()) => Ok(text.len()),
-            Err(_) => {
-                self.failures += 1;
-                Err(WriteFailed)
-            }
-        }
-    }
-}
-
-/// Obeys a line as if it were the only one of an operator, and returns its reply. The error is the reply to `stop`, or to a
-/// line for whose reply there was no memory.
+/// Obeys a line as one of an operator, and returns its reply. The error is the reply to `stop`.
 fn reply_to<D: Desk, C: Clock>(
     alloc: Global,
     desk: &mut D,
     clock: &mut C,
     line: &[u8],
-) -> Result<Vec<u8>, &'static [u8]>
-    ensures { IfOk result (λ reply. IsRepliedTo C.ticks D.calls clock.old desk.old line.now reply.items clock.new desk.new) }
+) -> Result<Text, &'static [u8]>
+    ensures { IfOk result (λ reply.
+        IsRepliedTo C.ticks D.calls clock.old desk.old line.now (octets_in reply) clock.new desk.new) }
 {
-    let mut reader = CountedReader::new(line);
-    let mut reply = KeptReply::new(alloc);
-    match serve_control(alloc, desk, clock, &mut reader, &mut reply) {
-        Ok(Ended::EndOfInput) => Ok(reply.octets),
-        Ok(Ended::Stop) => Err(NO_STOP),
-        Err(_) => Err(LOST),
+    let said = read_control(alloc, line);
+    let reply = obey_said(alloc, clock, desk, said);
+    if reply.stops {
+        return Err(NO_STOP);
     }
+    Ok(reply.text)
 }
 
 /// Obeys the lines of a file until one is refused.
