@@ -45,6 +45,11 @@ abbrev pub TellsLimit : ℕ → ℕ → Event → StepFault → Type 0
 TellsLimit stored limit event NoMemory = IsTrue (is_admission event) → stored ≢ limit
 TellsLimit stored limit event _ = Unit {0}
 
+-- The limit of cells decides this of a fault at a book, whatever history it stands for.
+abbrev pub TellsLimitAt : {B : Type 0} → (B → List Event → Type 0) → (B → Settings) → (B → ℕ) → B → Event → StepFault → Type 0
+TellsLimitAt stands_for settings stored book event fault =
+    (h : List Event) → stands_for book h → TellsLimit (stored book) (settings book).cells event fault
+
 -- If the event is a sweep, nothing is left to sweep. The number is what is left after it.
 abbrev pub SweepsAll : Event → ℕ → Type 0
 SweepsAll (Sweep moment) left = left ≡ 0

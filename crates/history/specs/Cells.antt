@@ -1,11 +1,13 @@
 -- The cached data of each question: a replay, from nothing, of what is in force.
 use Rattle.std.specs.Prelude.{ℕ, max, Option, None, List, fold, if◌then◌else◌}
+use Rattle.std.specs.Borrow.{Bor}
+use Rattle.std.specs.Option.{option_map}
 use Rattle.dns_name.specs.Order.{name_eq}
 use Rattle.dns_text.specs.declared.record.Question.{Question}
 use Rattle.ranked.specs.declared.find.Find.{Find}
 use Rattle.ranked.specs.declared.cell.Admitted.{Admitted}
 use Rattle.ranked.specs.declared.cell.Shown.{Shown}
-use Rattle.ranked.specs.Cell.{after_admission, shown_at}
+use Rattle.ranked.specs.Cell.{after_admission, shown_at, shown_map}
 use Rattle.ranked.specs.Find.{touches, admission_of}
 use Rattle.history.specs.declared.event.Event.{Event}
 use Rattle.history.specs.declared.event.Event.TheVariants.{Admit, Forget, Do}
@@ -35,3 +37,7 @@ cell_of past question = cell_by question (standing_of past)
 -- What the cell shows to a look that gives a moment. A look back is read at the greatest moment so far.
 abbrev pub shows : Past → Question → ℕ → Option (Shown Find)
 shows past question moment = shown_at (cell_of past question) (max past.now moment)
+
+-- what a cell shows, with the find itself where it is lent
+abbrev pub shown_now : Option (Shown (Bor Find)) → Option (Shown Find)
+shown_now held = option_map (shown_map (λ find. find.now)) held

@@ -1,5 +1,5 @@
 -- The commands that the journal holds: those that can be undone or redone.
-use Rattle.std.specs.Prelude.{ℕ, ◌==◌, ◌&&◌, nat_lt, Bool, true, false, Option, Some, None, List, [], ◌∷◌, map, filter, not, filter_map, slice_get, if◌then◌else◌}
+use Rattle.std.specs.Prelude.{◌≡◌, ℕ, ◌==◌, ◌&&◌, nat_lt, Bool, true, false, Option, Some, None, List, [], ◌∷◌, map, filter, not, filter_map, slice_get, if◌then◌else◌}
 use Rattle.std.specs.List.{list_any}
 use Rattle.std.specs.Option.{option_map}
 use Rattle.history.specs.declared.event.Command.{Command}
@@ -107,3 +107,7 @@ buried_one commands held = option_map (λ by. record { ticket = held.ticket; by 
 -- these commands, the oldest first
 abbrev pub buried_in : List Journalled → List BuriedCommand
 buried_in commands = filter_map (buried_one commands) commands
+
+-- Of the commands of the journal, a ticket is undone if the marks say so.
+abbrev pub IsUndoneByMarks : Past → ℕ → Type 0
+IsUndoneByMarks past ticket = is_among (tickets_undone past) ticket ≡ is_among past.marks.undone ticket

@@ -16,6 +16,7 @@ pub mod EndingLaws
 pub mod OldestLaws
 pub mod Servers
 pub mod Reply
+pub mod Previews
 pub mod PreviewLaws
 pub mod Answers
 pub mod Desk

@@ -142,6 +142,14 @@ seen_of settings past OldestAsked moment = Oldest (oldest_of past (max past.now 
 seen_of settings past (After question step) moment = answer_after settings.journal past step question moment
 seen_of settings past NextUndo moment = next_seen (next_undo past.marks (commands_of past))
 
+-- what a look sees after a history
+abbrev pub seen_after : Settings → List Event → Ask → ℕ → SeenValue
+seen_after settings history ask moment = seen_of settings (past_of settings.journal history) ask moment
+
+-- what a lookup of a question sees after a history
+abbrev pub lookup_after : Settings → List Event → Question → ℕ → SeenValue
+lookup_after settings history question moment = seen_of settings (past_of settings.journal history) (Answer question) moment
+
 -- what is lent, as what is seen
 abbrev pub look_seen : Look → SeenValue
 look_seen NothingLent = Unknown

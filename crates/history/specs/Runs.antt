@@ -35,3 +35,13 @@ Runs settings stands_for history events old new (Err fault) =
 abbrev pub Steps : Settings → (List Event → Type 0) → List Event → Event → List Reply → List Reply → Result Unit RunFault → Type 0
 Steps settings stands_for history event old new (Ok _) = (new ≡ old ++ reply_to settings history event ∷ []) × stands_for (history ++ event ∷ [])
 Steps settings stands_for history event old new (Err fault) = Meets settings history event fault × (new ≡ old) × stands_for history
+
+-- From whatever history the book stands for before, a run takes these events.
+abbrev pub RunsByHistory : {B : Type 0} → (B → List Event → Type 0) → (B → Settings) → B → List Event → List Reply → List Reply → Result Unit RunFault → B → Type 0
+RunsByHistory stands_for settings book events old new result after_book =
+    (h : List Event) → stands_for book h → Runs (settings book) (stands_for after_book) h events old new result
+
+-- From whatever history the book stands for before, a step of a run takes this event.
+abbrev pub StepsByHistory : {B : Type 0} → (B → List Event → Type 0) → (B → Settings) → B → Event → List Reply → List Reply → Result Unit RunFault → B → Type 0
+StepsByHistory stands_for settings book event old new result after_book =
+    (h : List Event) → stands_for book h → Steps (settings book) (stands_for after_book) h event old new result

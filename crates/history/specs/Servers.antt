@@ -17,10 +17,11 @@ use Rattle.ranked.specs.Body.{data_of}
 use Rattle.stub_table.specs.declared.stub.Stub.{Stub}
 use Rattle.stub_table.specs.Stubs.{Stubs}
 use Rattle.stub_table.specs.Closest.{stub_named}
+use Rattle.history.specs.declared.event.Event.{Event}
 use Rattle.history.specs.declared.event.Settings.{Settings}
 use Rattle.history.specs.declared.servers.Servers.{Servers}
 use Rattle.history.specs.declared.servers.Origin.TheVariants as source
-use Rattle.history.specs.History.{Past, stubs_of}
+use Rattle.history.specs.History.{Past, past_of, stubs_of}
 use Rattle.history.specs.Cells.{shows}
 
 -- ---- what the cache has
@@ -106,3 +107,7 @@ servers_by settings stubs shown name = unwrap_or (closest_with (servers_at setti
 -- the servers to ask at a moment, by the stubs of a history and by what its cells show then
 abbrev pub servers_of : Settings → Past → Labels → ℕ → Servers
 servers_of settings past name moment = servers_by settings (stubs_of past) (λ question. shows past question moment) name
+
+-- the servers to ask about a name after a history
+abbrev pub servers_after : Settings → List Event → Labels → ℕ → Servers
+servers_after settings history name moment = servers_of settings (past_of settings.journal history) name moment

@@ -5,9 +5,9 @@ ghost use Rattle.history.specs.declared.event.Event.{Event};
 ghost use Rattle.history.specs.declared.event.Settings.{Settings};
 ghost use Rattle.history.specs.Event.{is_admission};
 ghost use Rattle.history.specs.History.{past_of, stubs_of, tables_of};
-ghost use Rattle.history.specs.Reply.{seen_of, look_seen};
-ghost use Rattle.history.specs.Servers.{servers_of};
-ghost use Rattle.history.specs.Answers.{Answers, Follows, SweepsAll, TellsLimit, history_after};
+ghost use Rattle.history.specs.Reply.{look_seen, lookup_after, seen_after};
+ghost use Rattle.history.specs.Answers.{Answers, Follows, SweepsAll, TellsLimitAt, history_after};
+ghost use Rattle.history.specs.Servers.{servers_after};
 
 use crate::event::{Ask, Event, Look, Reply, Seen, Settings};
 use crate::hidden::Hidden;
@@ -92,8 +92,7 @@ pub trait Book: Drop {
             IfErr result (λ fault. (fault ≡ StepFault.BadMoment) ⊎ (fault ≡ StepFault.CountEnded)) }
 
         // If it stores as many cells as there may be, it does not refuse an admission for want of memory.
-        ensures by_limit { IfErr result (λ fault. (h : List Event) → stands_for self.old h →
-            TellsLimit (stored self.old) (settings self.old).cells event fault) }
+        ensures by_limit { IfErr result (λ fault. TellsLimitAt stands_for settings stored self.old event fault) }
 
         // A sweep that is taken leaves nothing to sweep.
         ensures swept { OnOk result (SweepsAll event (unswept self.new)) };
@@ -108,8 +107,7 @@ pub trait Book: Drop {
         ensures settings { settings self.new ≡ settings self.old }
         ensures free { is_free self.old event →
             IfErr result (λ fault. (fault ≡ StepFault.BadMoment) ⊎ (fault ≡ StepFault.CountEnded)) }
-        ensures by_limit { IfErr result (λ fault. (h : List Event) → stands_for self.old h →
-            TellsLimit (stored self.old) (settings self.old).cells event fault) }
+        ensures by_limit { IfErr result (λ fault. TellsLimitAt stands_for settings stored self.old event fault) }
     {
         match self.step(event) {
             Ok(reply) => {
@@ -131,13 +129,11 @@ pub trait Book: Drop {
 
     /// The reply that a lookup at this moment would get. It moves no clock, and no moment is too late for it.
     fn seen(&self, ask: &Ask, moment: u64) -> Result<Seen, NoMemory>
-        ensures { (h : List Event) → stands_for self.now h →
-            IfOk result (λ s. s ≡ seen_of (settings self.now) (past_of (settings self.now).journal h) ask.now moment) };
+        ensures { (h : List Event) → stands_for self.now h → IfOk result (λ s. s ≡ seen_after (settings self.now) h ask.now moment) };
 
     /// The reply that a lookup of a question would get. It takes no memory.
     fn look<'a>(&'a self, question: &'a Question, moment: u64) -> Look<'a>
-        ensures { (h : List Event) → stands_for self.now h →
-            look_seen result ≡ seen_of (settings self.now) (past_of (settings self.now).journal h) (Ask.Answer question.now) moment };
+        ensures { (h : List Event) → stands_for self.now h → look_seen result ≡ lookup_after (settings self.now) h question.now moment };
 
     /// The local zones and records.
     fn zones(&self) -> &ZoneTable
@@ -149,8 +145,7 @@ pub trait Book: Drop {
 
     /// The servers to ask about a name at a moment.
     fn servers(&self, name: &Name, moment: u64) -> Result<Servers, NoMemory>
-        ensures { (h : List Event) → stands_for self.now h →
-            IfOk result (λ s. s ≡ servers_of (settings self.now) (past_of (settings self.now).journal h) name.now moment) };
+        ensures { (h : List Event) → stands_for self.now h → IfOk result (λ s. s ≡ servers_after (settings self.now) h name.now moment) };
 
     /// Counts of how many cached names with data alive the flush of a ticket hides a cell: of some names from a place on, so that no call
     /// is long. It is for an operator's eyes, and no clause says what is counted.

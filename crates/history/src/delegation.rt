@@ -2,10 +2,9 @@
 
 ghost use Rattle.std.specs.Prelude.{◌≡◌, ◌++◌, [], IfOk, OnOk, not};
 ghost use Rattle.std.specs.List.{flat_map, list_any};
-ghost use Rattle.std.specs.Option.{option_map};
 ghost use Rattle.dns_name.specs.Below.{is_at_or_below};
 ghost use Rattle.ranked.specs.Body.{data_of};
-ghost use Rattle.ranked.specs.Cell.{shown_map};
+ghost use Rattle.history.specs.Cells.{shown_now};
 ghost use Rattle.history.specs.Servers.{AddsMissing, addr_of, addrs_at, data_at, data_shown, target_of};
 ghost use Rattle.history.specs.Servers.{cached_servers, is_usable, servers_named};
 
@@ -45,7 +44,7 @@ fn data_at<'a, C: CellSource>(cells: &'a C, name: &Name, kind: u16, moment: u64)
 
 /// The data of what a cell shows.
 fn data_shown<'a>(held: Option<Held<'a>>) -> &'a [Data]
-    ensures { result.now ≡ data_shown (option_map (shown_map (λ find. find.now)) held.entry) }
+    ensures { result.now ≡ data_shown (shown_now held.entry) }
 {
     match held {
         Some(held) => data_in(&held.body.find().body),

@@ -1,31 +1,23 @@
 //! The laws of undo, redo, flush, refusal and of the name to forget first, by the definitions alone.
 
-ghost use Rattle.std.specs.Prelude.{◌≡◌, ◌≤◌, ◌++◌, ◌∷◌, [], ℕ, List, Option, None, Some, IsTrue, true, max, fold, map};
-ghost use Rattle.std.specs.List.{Contains};
+ghost use Rattle.std.specs.Prelude.{◌≡◌, ◌≤◌, ℕ, List, Option, true, max, fold, map};
 ghost use Rattle.dns_name.specs.Labels.{Labels, IsAtOrBelow};
 ghost use Rattle.dns_text.specs.declared.record.Question.{Question};
 ghost use Rattle.history.specs.declared.event.Entry.{Entry};
 ghost use Rattle.history.specs.Event.{moment_of};
 ghost use Rattle.history.specs.declared.event.Event.{Event};
-ghost use Rattle.history.specs.declared.event.Event.TheVariants.{Look, Sweep, Undo};
-ghost use Rattle.history.specs.declared.event.Ask.TheVariants.{After, Answer, NextUndo};
-ghost use Rattle.history.specs.declared.event.Move.{Move};
-ghost use Rattle.history.specs.declared.event.Refusal.{Refusal};
-ghost use Rattle.history.specs.declared.event.Refusal.TheVariants as refusal;
-ghost use Rattle.history.specs.declared.event.Reply.TheVariants.{Seen, Undone, NothingToUndo};
-ghost use Rattle.history.specs.declared.event.Seen.TheVariants.{Command as CommandSeen, Refused as RefusedSeen};
-ghost use Rattle.history.specs.declared.event.Journalled.{Journalled};
+ghost use Rattle.history.specs.declared.event.Event.TheVariants.{Sweep};
 ghost use Rattle.history.specs.declared.event.Command.{Command};
 ghost use Rattle.history.specs.declared.event.Settings.{Settings};
 ghost use Rattle.history.specs.declared.event.Reply.{Reply};
-ghost use Rattle.history.specs.History.{Past, followed_by, is_unstruck, past_of};
+ghost use Rattle.history.specs.History.{Past, past_of};
 ghost use Rattle.history.specs.Flushes.{ForgetsBefore, LastFlushDecides};
-ghost use Rattle.history.specs.Journal.{commands_of, is_among, tickets_done, tickets_of, tickets_undone};
+ghost use Rattle.history.specs.Journal.{commands_of, tickets_done, tickets_of, IsUndoneByMarks};
 ghost use Rattle.history.specs.Marks.{AreAscending};
 ghost use Rattle.history.specs.Oldest.{IsOldest};
 ghost use Rattle.history.specs.OldestFound.{oldest_of};
-ghost use Rattle.history.specs.Reply.{answer_by, answer_of, marks_moved, move_at, refusal_in, reply_to};
-ghost use Rattle.history.specs.Refusal.{is_refusal, ChangesOnlyClock};
+ghost use Rattle.history.specs.Previews.{NextUndoIsShown, NoUndoIsShown, PreviewGoesByMarks, PreviewIsRefusedAlike, PreviewSeesAhead};
+ghost use Rattle.history.specs.Refusal.{ChangesOnlyClock, RefusalChangesOnlyClock};
 ghost use Rattle.history.specs.Undo.{TakesBack};
 ghost use Rattle.history.specs.Redo.{StandsAgain, UndoIsPutBack};
 ghost use Rattle.history.specs.Servers.{servers_of};
@@ -50,21 +42,11 @@ pub fn redo_puts_back()
 /// the same reason. Of the commands, those are in force that the marks after it leave unstruck.
 /// The command that `what_undo` shows is the one that an undo takes back. It shows none only if an undo finds none.
 pub fn preview_law()
-    ensures granted { (settings : Settings) (history : List Event) (m : ℕ) (step : Move) (q : Question) →
-        refusal_in (reply_to settings history (move_at m step)) ≡ None →
-        reply_to settings history (Look m (After q step)) ≡ reply_to settings (history ++ move_at m step ∷ []) (Look m (Answer q)) }
-    ensures refused { (settings : Settings) (history : List Event) (m : ℕ) (step : Move) (q : Question) (why : Refusal) →
-        refusal_in (reply_to settings history (move_at m step)) ≡ Some why →
-        reply_to settings history (Look m (After q step)) ≡ Seen (RefusedSeen why) }
-    ensures choice { (bound : ℕ) (past : Past) (m : ℕ) (step : Move) (q : Question) →
-        answer_of (followed_by bound past (move_at m step)) q m
-        ≡ answer_by (is_unstruck (marks_moved past step)) past.log q (max past.now m) }
-    ensures next { (settings : Settings) (history : List Event) (m : ℕ) (held : Journalled) →
-        reply_to settings history (Look m NextUndo) ≡ Seen (CommandSeen held) →
-        (reply_to settings history (Undo m) ≡ Undone held.ticket) × Contains (commands_of (past_of settings.journal history)) held }
-    ensures none { (settings : Settings) (history : List Event) (m : ℕ) →
-        reply_to settings history (Look m NextUndo) ≡ Seen (RefusedSeen refusal.NothingToUndo) →
-        reply_to settings history (Undo m) ≡ NothingToUndo }
+    ensures granted { PreviewSeesAhead }
+    ensures refused { PreviewIsRefusedAlike }
+    ensures choice { PreviewGoesByMarks }
+    ensures next { NextUndoIsShown }
+    ensures none { NoUndoIsShown }
 {}
 
 /// A flush forgets what was before it: a cell that it covers depends only on what is in force after it.
@@ -87,8 +69,7 @@ pub fn clock_is_greatest()
 
 /// A refused command, undo or redo changes nothing but the clock.
 pub fn refusal_changes_only_the_clock()
-    ensures { (settings : Settings) (history : List Event) (event : Event) → IsTrue (is_refusal (reply_to settings history event)) →
-        ChangesOnlyClock settings.journal history event }
+    ensures { RefusalChangesOnlyClock }
 {}
 
 /// A sweep changes nothing but the clock.
@@ -114,8 +95,7 @@ pub fn equality_law()
 pub fn journal_law()
     ensures order { (bound : ℕ) (history : List Event) → AreAscending (tickets_of (commands_of (past_of bound history))) }
     ensures done { (bound : ℕ) (history : List Event) → tickets_done (past_of bound history) ≡ (past_of bound history).marks.done }
-    ensures undone { (bound : ℕ) (history : List Event) (ticket : ℕ) →
-        is_among (tickets_undone (past_of bound history)) ticket ≡ is_among (past_of bound history).marks.undone ticket }
+    ensures undone { (bound : ℕ) (history : List Event) (ticket : ℕ) → IsUndoneByMarks (past_of bound history) ticket }
 {}
 
 /// A name is at or below the zone whose servers are asked about it.

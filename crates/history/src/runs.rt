@@ -1,8 +1,7 @@
 //! Any book, over a list of events.
 
-ghost use Rattle.std.specs.Prelude.{◌≡◌, List};
-ghost use Rattle.history.specs.declared.event.Event.{Event};
-ghost use Rattle.history.specs.Runs.{Runs, Steps};
+ghost use Rattle.std.specs.Prelude.{◌≡◌};
+ghost use Rattle.history.specs.Runs.{RunsByHistory, StepsByHistory};
 
 use crate::book::{Book, StepFault};
 use crate::event::{Event, Reply};
@@ -46,8 +45,7 @@ pub fn run<B: Book>(
     events: Vec<Event>,
     replies: &mut Vec<Reply>,
 ) -> Result<(), RunFault>
-    ensures replies { (h : List Event) → B.stands_for book.old h →
-        Runs (B.settings book.old) (B.stands_for book.new) h events.items replies.old.items replies.new.items result }
+    ensures replies { RunsByHistory B.stands_for B.settings book.old events.items replies.old.items replies.new.items result book.new }
     ensures settings { B.settings book.new ≡ B.settings book.old }
 {
     for event in events {
@@ -58,8 +56,7 @@ pub fn run<B: Book>(
 
 /// Takes an event and adds its reply.
 fn step_one<B: Book>(book: &mut B, event: Event, replies: &mut Vec<Reply>) -> Result<(), RunFault>
-    ensures answered { (h : List Event) → B.stands_for book.old h →
-        Steps (B.settings book.old) (B.stands_for book.new) h event replies.old.items replies.new.items result }
+    ensures answered { StepsByHistory B.stands_for B.settings book.old event replies.old.items replies.new.items result book.new }
     ensures settings { B.settings book.new ≡ B.settings book.old }
 {
     replies.reserve(1)?;
