@@ -1,5 +1,5 @@
 -- The first lookup of a question, and what it settles.
-use Rattle.std.specs.Prelude.{◌≡◌, ◌≢◌, ℕ, List, [], None, Some, Option, Result, IfOk, IfSome, MatchOption}
+use Rattle.std.specs.Prelude.{◌≡◌, ◌≢◌, ℕ, List, None, Some, Result, IfSome}
 use Rattle.local_zone.specs.declared.local_answer.Local.TheVariants as local
 use Rattle.dns_text.specs.declared.record.Question.{Question}
 use Rattle.dns_wire.specs.declared.server.query.Query.{Query}
@@ -11,13 +11,9 @@ use Rattle.history.specs.declared.event.Event.TheVariants.{Look}
 use Rattle.history.specs.declared.event.Reply.{Reply}
 use Rattle.history.specs.declared.event.Reply.TheVariants.{Seen}
 use Rattle.history.specs.declared.event.Seen.TheVariants.{Local as LocalSeen}
-use Rattle.iterate.specs.declared.answer.Answer.{Answer}
 use Rattle.iterate.specs.declared.want.Input.{Input}
 use Rattle.iterate.specs.declared.want.Input.TheVariants.{Reply as Replied}
-use Rattle.iterate.specs.declared.want.Want.TheVariants.{Book}
-use Rattle.iterate.specs.Exchanges.{AddsLook, Exchange}
-use Rattle.iterate.specs.Phase.{Suits}
-use Rattle.iterate.specs.Resolved.{IsNoAnswer, IsResolved}
+use Rattle.iterate.specs.Resolved.{IsNoAnswer}
 use Rattle.replies.specs.Calls.{Calls}
 use Rattle.flight.specs.declared.sockets.Listened.{Listened}
 use Rattle.flight.specs.declared.sockets.Listened.TheVariants.{Anew}
@@ -30,12 +26,6 @@ use Rattle.flight.specs.Waiting.{FlightState, UnderWay, exchange_at}
 -- A local zone says that the question gets no reply.
 abbrev pub IsSilence : Input → Type 0
 IsSilence input = input ≡ Replied (Seen (LocalSeen local.Drop))
-
--- What came of the first lookup of a question settles it with this answer, or is no answer to it.
-abbrev pub IsSettledBy : {E : Type 0} → Question → Input → Result (Option Answer) E → Type 0
-IsSettledBy question input result =
-    (port m : ℕ) (log : List Exchange) → AddsLook [] m (Asked question) input log → Suits (Book (Look m (Asked question))) input
-    → IfOk result (λ answer. MatchOption answer (IsNoAnswer question input) (IsResolved port question log))
 
 -- This came of the first lookup of a question. If it is a cached or local answer, the desk is not called again, and no exchange begins. If it is silence, nothing leaves for clients.
 pub record HeedsInput {D O : Type 0} (question : Question) (input : Input) (desk : D) (flight : FlightState) (outbox : O) (desk' : D) (flight' : FlightState) (outbox' : O) : Type 0 where

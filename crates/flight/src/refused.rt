@@ -10,9 +10,9 @@ ghost use Rattle.replies.specs.Reply.{most_octets, Tells};
 ghost use Rattle.history.specs.declared.event.Ask.TheVariants.{Answer as Asks};
 ghost use Rattle.history.specs.declared.event.Event.TheVariants.{Look};
 ghost use Rattle.iterate.specs.declared.search.Hunt.{Hunt};
+ghost use Rattle.iterate.specs.FirstLookup.{IsSettledBy};
 ghost use Rattle.iterate.specs.Told.{IsFit};
 ghost use Rattle.flight.specs.Counted.{CountsListened};
-ghost use Rattle.flight.specs.FirstLook.{IsSettledBy};
 ghost use Rattle.flight.specs.Told.{listened_of, IsHeard, Keeps};
 
 use crate::in_flight::InFlight;

@@ -19,4 +19,7 @@ pub mod Admitting
 pub mod Joining
 pub mod Hunting
 pub mod Going
+pub mod Narrowed
+pub mod FirstLookup
 pub mod Task
+pub mod Laws

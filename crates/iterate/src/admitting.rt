@@ -1,9 +1,8 @@
 //! The finds of a response, handed to the book one by one. A book that is full makes room for a find: it sweeps, and then it forgets
 //! the name whose data end first.
 
-ghost use Rattle.std.specs.Prelude.{◌≡◌, ◌+◌, ◌<◌, ◌≤◌, ◌↔◌, ℕ, true, false, List, Some, IfOk, IsTrue, MatchOption, length};
+ghost use Rattle.std.specs.Prelude.{◌≡◌, ◌↔◌, ℕ, false, Some, IfOk, IsTrue, MatchOption};
 ghost use Rattle.dns_name.specs.Labels.{Labels};
-ghost use Rattle.dns_text.specs.declared.record.Question.{Question};
 ghost use Rattle.ranked.specs.declared.find.Find.{Find};
 ghost use Rattle.history.specs.declared.event.Ask.TheVariants.{Oldest as AskedOldest};
 ghost use Rattle.history.specs.declared.event.Event.TheVariants.{Admit, Forget, Look, Sweep};
@@ -11,13 +10,10 @@ ghost use Rattle.history.specs.declared.event.Reply.TheVariants.{Seen as SeenRep
 ghost use Rattle.history.specs.declared.event.Seen.TheVariants.{Oldest as SeenOldest};
 ghost use Rattle.iterate.specs.declared.want.Input.TheVariants.{Reply as Replied};
 ghost use Rattle.iterate.specs.declared.want.Want.TheVariants.{Book};
-ghost use Rattle.iterate.specs.Admitting.{ContinuesAfter, HandsOver};
-ghost use Rattle.iterate.specs.Exchanges.{Exchange};
-ghost use Rattle.iterate.specs.Measure.{left_of_finds, left_of_hearing};
-ghost use Rattle.iterate.specs.Phase.{Advances, IsHearing, Suits, drawing};
-ghost use Rattle.iterate.specs.Resolved.{Fails};
-ghost use Rattle.iterate.specs.Room.{IsHanded, IsHandedBy, IsNoneOldest, MadeRoom, SaysFull};
-ghost use Rattle.iterate.specs.Shown.{IsMisanswered};
+ghost use Rattle.iterate.specs.Admitting.{ContinuesAfter, HandsOver, HandsOverFirst, HandsOverIn};
+ghost use Rattle.iterate.specs.Admitting.{HandsOverNext, IsFindAt, IsUnlawful, PassesOn};
+ghost use Rattle.iterate.specs.Phase.{drawing};
+ghost use Rattle.iterate.specs.Room.{IsHanded, IsNoneOldest, SaysFull};
 
 use crate::concluding::conclude;
 use crate::finishing::failed;
@@ -34,8 +30,7 @@ use std::alloc::Global;
 
 /// The find at this place of a response, if it is one of the first ones that may be handed over.
 fn find_at(heard: &Heard, allowed: usize, next: usize) -> Result<Option<SharedFind>, NoMemory>
-    ensures { IfOk result (λ found. MatchOption found ((find : Find) → ¬ (IsHanded heard.now.harvest.chosen allowed next find))
-        (IsHanded heard.now.harvest.chosen allowed next)) }
+    ensures { IfOk result (λ found. IsFindAt heard.now.harvest.chosen allowed next found) }
 {
     let finds = heard.harvest.chosen.as_slice();
     if next < allowed && next < MOST_FINDS && next < finds.len() {
@@ -65,12 +60,7 @@ fn hand<R: Rng>(
     attempt: Attempt,
 ) -> Result<Advance, NoMemory>
     ensures hands { HandsOver (IsHanded handing.heard.value.harvest.chosen handing.allowed handing.next) moment result }
-    ensures goes { (question : Question) (log : List Exchange) (left : ℕ)
-        → IsHearing port question log handing.search.value handing.heard.value handing.allowed
-        → ((find : Find) → IsHanded handing.heard.value.harvest.chosen handing.allowed handing.next find → IsHandedBy attempt find log)
-        → left_of_hearing handing.search.value.path 1 ≤ left
-        → (handing.next < MOST_FINDS → left_of_finds handing.search.value.path handing.next attempt < left)
-        → IfOk result (Advances port question log moment (drawing (R.stream ids.old) (R.stream ids.new)) left) }
+    ensures goes { HandsOverIn attempt handing port moment (drawing (R.stream ids.old) (R.stream ids.new)) result }
 {
     match find_at(&handing.heard, handing.allowed, handing.next)? {
         Some(find) => Ok(ask_book(handing, attempt, Event::Admit { moment, find })),
@@ -93,10 +83,7 @@ pub(crate) fn admit<R: Rng>(
     allowed: usize,
 ) -> Result<Advance, NoMemory>
     ensures hands { HandsOver (IsHanded heard.value.harvest.chosen allowed 0) moment result }
-    ensures goes { (question : Question) (log : List Exchange) (left : ℕ) → IsHearing port question log search.value heard.value allowed
-        → ¬ (MadeRoom log)
-        → left_of_hearing search.value.path 1 ≤ left → left_of_finds search.value.path 0 Attempt.Admit < left
-        → IfOk result (Advances port question log moment (drawing (R.stream ids.old) (R.stream ids.new)) left) }
+    ensures goes { HandsOverFirst search.value heard.value allowed port moment (drawing (R.stream ids.old) (R.stream ids.new)) result }
 {
     let handing = Handing {
         search,
@@ -116,14 +103,8 @@ fn pass<R: Rng>(
     handing: Handing,
     lawful: bool,
 ) -> Result<Advance, NoMemory>
-    ensures hands { (find : Find) → lawful ≡ true → IsHanded handing.heard.value.harvest.chosen handing.allowed (handing.next + 1) find
-        → IfOk result (λ told. told.want ≡ Book (Admit moment find)) }
-    ensures goes { (question : Question) (log : List Exchange) (attempt : Attempt)
-        → IsHearing port question log handing.search.value handing.heard.value handing.allowed → handing.next < MOST_FINDS
-        → ¬ (MadeRoom log)
-        → (lawful ≡ false → Fails port log handing.search.value.path.last (length handing.search.value.path.sets.items))
-        → IfOk result (Advances port question log moment (drawing (R.stream ids.old) (R.stream ids.new))
-        (left_of_finds handing.search.value.path handing.next attempt)) }
+    ensures hands { HandsOverNext lawful handing moment result }
+    ensures goes { PassesOn lawful handing port moment (drawing (R.stream ids.old) (R.stream ids.new)) result }
 {
     if !lawful {
         return Ok(failed(alloc));
@@ -158,7 +139,7 @@ fn is_full(input: &Input) -> bool
 
 /// Whether a book may reply this to an admission. A fault of the book is ignored.
 fn is_passed(input: &Input) -> bool
-    ensures { result ≡ false → (m : ℕ) (find : Find) → Suits (Book (Admit m find)) input.now → IsMisanswered (Admit m find) input.now }
+    ensures { result ≡ false → (m : ℕ) (find : Find) → IsUnlawful (Admit m find) input.now }
 {
     matches!(
         input,
@@ -182,14 +163,14 @@ fn is_forgotten(input: &Input) -> bool
 
 /// Whether a book may reply this to a sweep. A fault of the book is ignored.
 fn is_sweep_passed(input: &Input) -> bool
-    ensures { result ≡ false → (m : ℕ) → Suits (Book (Sweep m)) input.now → IsMisanswered (Sweep m) input.now }
+    ensures { result ≡ false → (m : ℕ) → IsUnlawful (Sweep m) input.now }
 {
     matches!(input, Input::Refused(_) | Input::Reply(Reply::Swept))
 }
 
 /// Whether a book may reply this to a look for the name to forget first. A fault of the book is ignored.
 fn is_look_passed(input: &Input) -> bool
-    ensures { result ≡ false → (m : ℕ) → Suits (Book (Look m AskedOldest)) input.now → IsMisanswered (Look m AskedOldest) input.now }
+    ensures { result ≡ false → (m : ℕ) → IsUnlawful (Look m AskedOldest) input.now }
 {
     matches!(
         input,
@@ -199,8 +180,7 @@ fn is_look_passed(input: &Input) -> bool
 
 /// Whether a book may reply this to the forgetting of a name. A fault of the book is ignored.
 fn is_forget_passed(input: &Input) -> bool
-    ensures { result ≡ false → (m : ℕ) (owner : Labels) → Suits (Book (Forget m owner)) input.now
-        → IsMisanswered (Forget m owner) input.now }
+    ensures { result ≡ false → (m : ℕ) (owner : Labels) → IsUnlawful (Forget m owner) input.now }
 {
     matches!(input, Input::Refused(_) | Input::Reply(Reply::Forgotten))
 }

@@ -1,26 +1,18 @@
 //! The answer, denial or referral of a response, acted on.
 
-ghost use Rattle.std.specs.Prelude.{◌≡◌, ◌<◌, [], ℕ, List, Option, IfOk, length};
-ghost use Rattle.std.specs.List.{AllByRecursion};
-ghost use Rattle.dns_text.specs.declared.record.Question.{Question};
-ghost use Rattle.dns_query.specs.declared.verdict.Referral.{Referral as ReferralValue};
+ghost use Rattle.std.specs.Prelude.{◌≡◌, ◌<◌, [], ℕ, IfOk, length};
 ghost use Rattle.dns_query.specs.Query.{address_question};
-ghost use Rattle.ranked.specs.declared.find.Find.{Find};
-ghost use Rattle.iterate.specs.Exchanges.{Exchange};
-ghost use Rattle.iterate.specs.Following.{FollowsHarvest, IsHarvestOf, TellsDenial};
-ghost use Rattle.iterate.specs.Going.{Concludes, FollowsReferral};
-ghost use Rattle.iterate.specs.Hunting.{AreReferred, IsSmaller, Supplies};
-ghost use Rattle.iterate.specs.Judged.{IsAddressOf};
+ghost use Rattle.iterate.specs.Following.{FollowsHarvest};
+ghost use Rattle.iterate.specs.Going.{Concludes, FollowsReferral, FollowsDenial, SmallerOnceHeard};
+ghost use Rattle.iterate.specs.Going.{TakesAnswer, TakesReferral, TellsAddresses};
+ghost use Rattle.iterate.specs.Hunting.{Supplies};
 ghost use Rattle.iterate.specs.Known.{servers_referred};
-ghost use Rattle.iterate.specs.Measure.{left_of_hearing};
-ghost use Rattle.iterate.specs.Phase.{IsHearing, drawing};
-ghost use Rattle.iterate.specs.Searching.{hunt_of, question_of};
+ghost use Rattle.iterate.specs.Phase.{drawing};
 
 use crate::addresses::addresses;
 use crate::finishing::denied;
 use crate::following::{follow_answer, harvested};
 use crate::innermost::address_question;
-use crate::limits::MOST_SENDS;
 use crate::phase::Advance;
 use crate::search::{Search, close, go_on, refer_base, refer_frame};
 use dns_name::{Name, NoMemory};
@@ -58,8 +50,7 @@ fn addresses_harvested(
     target: &Name,
     harvest: &Harvest,
 ) -> Result<Vec<Addr>, NoMemory>
-    ensures each { (log : List Exchange) → IsHarvestOf port log harvest.now
-        → IfOk result (λ addrs. AllByRecursion (IsAddressOf port log target.now) addrs.items) }
+    ensures each { TellsAddresses port harvest.now target.now result }
     ensures all { IfOk result (λ addrs. Supplies port harvest.now (address_question target.now) addrs.items) }
 {
     match harvested(harvest, &address_question(target)?)? {
@@ -78,8 +69,7 @@ fn conclude_last<R: Rng>(
 ) -> Result<Advance, NoMemory>
     requires { search.frames.items ≡ [] }
     ensures answers { heard.says ≡ Says.Answers → IfOk result (λ next. FollowsHarvest heard.harvest search.path moment next.want) }
-    ensures denies { (rcode : ℕ) (negative : Option Find) → heard.says ≡ Says.Denies rcode negative
-        → IfOk result (λ next. TellsDenial search.path rcode negative next.want) }
+    ensures denies { FollowsDenial search heard result }
     ensures refers { FollowsReferral search heard result }
     ensures goes { (port : ℕ) → Concludes search heard port moment (drawing (R.stream ids.old) (R.stream ids.new)) result }
 {
@@ -101,13 +91,10 @@ fn conclude_last<R: Rng>(
 /// referral names the next servers to ask.
 fn search_behind(alloc: Global, port: u16, search: Search, heard: Heard) -> Result<Search, NoMemory>
     requires { 0 < length search.frames.items }
-    ensures answers { heard.says ≡ Says.Answers
-        → IfOk result (λ after. Supplies port heard.harvest (question_of search) (hunt_of after).addrs.items) }
-    ensures refers { (referral : ReferralValue) → heard.says ≡ Says.Refers referral
-        → IfOk result (λ after. AreReferred search.frames.items (servers_referred referral) after.frames.items) }
+    ensures answers { TakesAnswer port search heard result }
+    ensures refers { TakesReferral search heard result }
     ensures path { IfOk result (λ after. after.path ≡ search.path) }
-    ensures smaller { (question : Question) (log : List Exchange) (allowed : ℕ) → IsHearing port question log search heard allowed
-        → IfOk result (IsSmaller port question log (left_of_hearing search.path 1)) }
+    ensures smaller { SmallerOnceHeard port search heard result }
 {
     let Heard { harvest, says } = heard;
     match says {

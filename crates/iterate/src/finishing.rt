@@ -1,20 +1,15 @@
 //! Endings of a question.
 
-ghost use Rattle.std.specs.Prelude.{◌≡◌, ◌<◌, [], true, false, ℕ, List, Some, None, IfOk, MatchOption};
+ghost use Rattle.std.specs.Prelude.{◌≡◌, [], true, false, Some, None, IfOk};
 ghost use Rattle.std.specs.Option.{option_map};
 ghost use Rattle.dns_text.specs.declared.record.Question.{Question};
 ghost use Rattle.history.specs.declared.event.Seen.TheVariants.{Held as SeenHeld, Local as SeenLocal};
 ghost use Rattle.iterate.specs.declared.answer.Soa.TheVariants.{Find as FindSoa, Local as LocalSoa};
-ghost use Rattle.iterate.specs.Exchanges.{Exchange};
-ghost use Rattle.iterate.specs.Known.{Known, Had};
-ghost use Rattle.iterate.specs.Measure.{left_in};
-ghost use Rattle.iterate.specs.Phase.{Advances, idle};
-ghost use Rattle.iterate.specs.Resolved.{IsBarred, IsDenied};
-ghost use Rattle.iterate.specs.Searching.{IsPath, IsAskable};
+ghost use Rattle.iterate.specs.Going.{EndsWithDenial, EndsWithSet};
 ghost use Rattle.iterate.specs.Looked.{EndsSo};
+ghost use Rattle.iterate.specs.Narrowed.{EndsOrBars};
 ghost use Rattle.iterate.specs.Shown.{IsShownFor, IsLocalFor};
 ghost use Rattle.iterate.specs.Told.{soa_whole};
-ghost use Rattle.rand_core.specs.Stream.{Stream};
 
 use crate::answer::{Answer, AnswerSet, Soa};
 use crate::lookup_reply::{copy_set, held_set};
@@ -89,9 +84,7 @@ pub(crate) fn refusal(alloc: Global) -> Answer
 /// Ends the path with a set.
 pub(crate) fn found(path: Path, told: AnswerSet) -> Advance
     ensures want { result.want ≡ Want.Finish (Answer.Reply 0 false path.sets.items (Some told) None) }
-    ensures goes { (port moment : ℕ) (ids : Stream) (left : ℕ) (question : Question) (log : List Exchange)
-        → left_in Phase.Ended < left → IsAskable port question log path → Known port log (Had path.last told)
-        → Advances port question log moment (idle ids) left result }
+    ensures goes { EndsWithSet path told result }
 {
     let Path { sets, .. } = path;
     finished(Rcode::NO_ERROR, false, sets, Some(told), None)
@@ -113,10 +106,7 @@ fn soa_told(negative: Option<SharedFind>) -> Option<Soa>
 /// Ends the path with the negative answer of a response.
 pub(crate) fn denied(path: Path, rcode: Rcode, negative: Option<SharedFind>) -> Advance
     ensures want { result.want ≡ Want.Finish (Answer.Reply rcode false path.sets.items None (option_map soa_whole negative)) }
-    ensures goes { (port moment : ℕ) (ids : Stream) (left : ℕ) (question : Question) (log : List Exchange)
-        → left_in Phase.Ended < left → IsPath port question log path
-        → IsDenied port log path.last rcode (option_map soa_whole negative)
-        → Advances port question log moment (idle ids) left result }
+    ensures goes { EndsWithDenial path rcode (option_map soa_whole negative) result }
 {
     let Path { sets, .. } = path;
     finished(rcode, false, sets, None, soa_told(negative))
@@ -184,8 +174,7 @@ pub(crate) fn local_ending(
     alloc: Global,
     answer: &Local<Items<SeenRecord>, LocalRecord>,
 ) -> Result<Option<Ending>, NoMemory>
-    ensures { (question : Question) → IsLocalFor question answer.now
-        → IfOk result (λ ending. MatchOption ending (IsBarred (SeenLocal answer.now)) (EndsSo question (SeenLocal answer.now))) }
+    ensures { (question : Question) → IsLocalFor question answer.now → IfOk result (EndsOrBars question (SeenLocal answer.now)) }
 {
     match answer {
         Local::Data(records) => Ok(Some(set_ending(copy_set(alloc, records)?))),

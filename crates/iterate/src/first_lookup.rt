@@ -1,19 +1,13 @@
 //! The first lookup, of the question itself.
 
-ghost use Rattle.std.specs.Prelude.{◌≡◌, [], ℕ, List, IfOk, MatchOption};
+ghost use Rattle.std.specs.Prelude.{◌≡◌, [], ℕ, IfOk};
 ghost use Rattle.history.specs.declared.event.Ask.TheVariants.{Answer as Asked};
 ghost use Rattle.history.specs.declared.event.Event.TheVariants.{Look};
-ghost use Rattle.history.specs.declared.event.Reply.TheVariants.{Seen as SeenReply};
-ghost use Rattle.history.specs.declared.event.Seen.TheVariants.{Unknown as SeenUnknown, Held as SeenHeld, Local as SeenLocal};
-ghost use Rattle.iterate.specs.declared.want.Input.{Input as InputValue};
-ghost use Rattle.iterate.specs.declared.want.Input.TheVariants.{Reply as Replied};
-ghost use Rattle.iterate.specs.declared.want.Want.TheVariants.{Book};
-ghost use Rattle.iterate.specs.Exchanges.{Exchange, AddsLook};
-ghost use Rattle.iterate.specs.Looked.{seen_of, IsReplied};
+ghost use Rattle.iterate.specs.FirstLookup.{GoesOnFirst, GoesOnFirstSeeing, IsSettledBy, ResolvesBarred};
+ghost use Rattle.iterate.specs.FirstLookup.{ResolvesHeld, ResolvesLocal, ResolvesSeen};
+ghost use Rattle.iterate.specs.Looked.{seen_of};
 ghost use Rattle.iterate.specs.Measure.{left_in};
-ghost use Rattle.iterate.specs.Phase.{Advances, Suits, idle};
-ghost use Rattle.iterate.specs.Resolved.{IsBarred, IsNoAnswer, IsResolved};
-ghost use Rattle.iterate.specs.Shown.{IsShownFor, IsLocalFor};
+ghost use Rattle.iterate.specs.Phase.{Advances, idle};
 ghost use Rattle.rand_core.specs.Stream.{Stream};
 
 use crate::answer::Answer;
@@ -65,9 +59,7 @@ fn start(alloc: Global, question: &Question) -> Result<Path, NoMemory>
 
 /// The answer if a local zone refuses or drops the question.
 fn barred(alloc: Global, answer: &Local<Items<SeenRecord>, LocalRecord>) -> Answer
-    ensures { (port m : ℕ) (question : Question) (log : List Exchange) → IsBarred (SeenLocal answer.now)
-        → AddsLook [] m (Asked question) (Replied (SeenReply (SeenLocal answer.now))) log
-        → IsResolved port question log result }
+    ensures { ResolvesBarred answer.now result }
 {
     match answer {
         Local::Drop => Answer::Silent,
@@ -80,9 +72,7 @@ fn answer_local(
     alloc: Global,
     answer: &Local<Items<SeenRecord>, LocalRecord>,
 ) -> Result<Answer, NoMemory>
-    ensures { (port m : ℕ) (question : Question) (log : List Exchange) → IsLocalFor question answer.now
-        → AddsLook [] m (Asked question) (Replied (SeenReply (SeenLocal answer.now))) log
-        → IfOk result (IsResolved port question log) }
+    ensures { ResolvesLocal answer.now result }
 {
     match local_ending(alloc, answer)? {
         Some(ending) => Ok(answer_with(true, Vec::new(alloc), ending)),
@@ -92,9 +82,7 @@ fn answer_local(
 
 /// The answer if the first lookup found a cached set or negative answer.
 fn answer_held(alloc: Global, shown: &Shown<SharedFind>) -> Result<Answer, NoMemory>
-    ensures { (port m : ℕ) (question : Question) (log : List Exchange) → IsShownFor question shown.now
-        → AddsLook [] m (Asked question) (Replied (SeenReply (SeenHeld shown.now))) log
-        → IfOk result (IsResolved port question log) }
+    ensures { ResolvesHeld shown.now result }
 {
     let ending = held_ending(shown)?;
     Ok(answer_with(false, Vec::new(alloc), ending))
@@ -102,9 +90,7 @@ fn answer_held(alloc: Global, shown: &Shown<SharedFind>) -> Result<Answer, NoMem
 
 /// The answer by the reply to the first lookup. None if it found nothing.
 fn answer_seen(alloc: Global, what: Looked<'_>) -> Result<Option<Answer>, NoMemory>
-    ensures { (port m : ℕ) (question : Question) (input : InputValue) (log : List Exchange) → IsReplied question input (seen_of what.entry)
-        → AddsLook [] m (Asked question) input log
-        → IfOk result (λ answer. MatchOption answer (input ≡ Replied (SeenReply SeenUnknown)) (IsResolved port question log)) }
+    ensures { ResolvesSeen (seen_of what.entry) result }
 {
     match what {
         Looked::Unknown => Ok(None),
@@ -120,9 +106,7 @@ fn seen_first(
     moment: u64,
     what: Looked<'_>,
 ) -> Result<Advance, NoMemory>
-    ensures { (port m : ℕ) (ids : Stream) (input : InputValue) (log : List Exchange) → IsReplied question.now input (seen_of what.entry)
-        → AddsLook [] m (Asked question.now) input log
-        → IfOk result (Advances port question.now log moment (idle ids) (left_in Phase.First)) }
+    ensures { GoesOnFirstSeeing question.now (seen_of what.entry) moment result }
 {
     match answer_seen(alloc, what)? {
         Some(answer) => Ok(finish(answer)),
@@ -137,9 +121,7 @@ pub(crate) fn looked_first(
     moment: u64,
     input: &Input,
 ) -> Result<Advance, NoMemory>
-    ensures { (port m : ℕ) (ids : Stream) (log : List Exchange) → AddsLook [] m (Asked question.now) input.now log
-        → Suits (Book (Look m (Asked question.now))) input.now
-        → IfOk result (Advances port question.now log moment (idle ids) (left_in Phase.First)) }
+    ensures { GoesOnFirst question.now input.now moment result }
 {
     match replied(input, &question.owner, question.kind) {
         Some(what) => seen_first(alloc, question, moment, what),
@@ -154,9 +136,7 @@ pub fn settled(
     question: &Question,
     input: &Input,
 ) -> Result<Option<Answer>, NoMemory>
-    ensures { (port m : ℕ) (log : List Exchange) → AddsLook [] m (Asked question.now) input.now log
-        → Suits (Book (Look m (Asked question.now))) input.now
-        → IfOk result (λ answer. MatchOption answer (IsNoAnswer question.now input.now) (IsResolved port question.now log)) }
+    ensures { IsSettledBy question.now input.now result }
 {
     match replied(input, &question.owner, question.kind) {
         Some(what) => answer_seen(alloc, what),

@@ -1,23 +1,17 @@
 //! Aliases inside a response.
 
-ghost use Rattle.std.specs.Prelude.{◌≡◌, ◌<◌, ◌≤◌, ℕ, List, length, IfOk};
-ghost use Rattle.dns_name.specs.Labels.{Labels};
+ghost use Rattle.std.specs.Prelude.{◌≡◌, ◌<◌, ℕ, List, length, IfOk};
 ghost use Rattle.dns_query.specs.Query.{alias_question};
-ghost use Rattle.harvest.specs.declared.harvest_type.Harvest.{Harvest as HarvestValue};
 ghost use Rattle.history.specs.declared.event.Ask.TheVariants.{Answer as Asked};
 ghost use Rattle.history.specs.declared.event.Event.TheVariants.{Look};
 ghost use Rattle.iterate.specs.declared.want.Want.TheVariants.{Book};
-ghost use Rattle.iterate.specs.Come.{HasCome};
 ghost use Rattle.iterate.specs.Exchanges.{Exchange};
-ghost use Rattle.iterate.specs.Following.{told_by, IsHarvestOf, IsHadIfSome, IsToldBy, HasTold};
-ghost use Rattle.iterate.specs.Following.{IsAliasHop, IsHop, IsAnswering, FollowsHarvest};
-ghost use Rattle.iterate.specs.Going.{GoesOnBehind, GoesOnByHarvest, GoesOnSeeing, IsFollowing};
-ghost use Rattle.iterate.specs.Told.{IsTarget};
+ghost use Rattle.iterate.specs.Following.{told_by, IsHarvestOf, IsHadIfSome, HasTold};
+ghost use Rattle.iterate.specs.Following.{IsAliasHop, IsHop, FollowsHarvest};
+ghost use Rattle.iterate.specs.Going.{GoesOnBehind, GoesOnByHarvest, GoesOnSeeing, IsFollowing, GoesAlongAlias, GoesOnByAnswer, HopsBy};
 ghost use Rattle.iterate.specs.Looked.{seen_of};
-ghost use Rattle.iterate.specs.Measure.{left_of_hearing, left_of_path};
-ghost use Rattle.iterate.specs.Phase.{Advances, LooksAt, idle};
-ghost use Rattle.iterate.specs.Searching.{IsAskable, IsBehind, IsUnasked};
-ghost use Rattle.rand_core.specs.Stream.{Stream};
+ghost use Rattle.iterate.specs.Phase.{LooksAt};
+ghost use Rattle.iterate.specs.Searching.{IsBehind, IsUnasked};
 
 use crate::answer::AnswerSet;
 use crate::finishing::{failed, found};
@@ -80,8 +74,7 @@ fn harvested_alias(harvest: &Harvest, name: &Name) -> Result<Option<AnswerSet>, 
 
 /// The hop along a set of aliases.
 fn hop_by(told: AnswerSet) -> Result<Hop, NoMemory>
-    ensures { (harvest : HarvestValue) (name : Labels) → IsToldBy harvest (alias_question name) told
-        → IfOk result (IsAliasHop harvest name) }
+    ensures { HopsBy told result }
 {
     match first_target(&told)? {
         Some(to) => Ok(Hop::Alias(told, to)),
@@ -135,10 +128,7 @@ fn follow_alias(
     moment: u64,
 ) -> Result<Advance, NoMemory>
     ensures looks { length path.sets.items < MOST_ALIASES → IfOk result (LooksAt path to moment) }
-    ensures goes { (port : ℕ) (ids : Stream) (left : ℕ) (question : Question) (log : List Exchange) → left_of_path path 4 ≤ left
-        → IsHarvestOf port log harvest.value → IsAskable port question log path
-        → IsToldBy harvest.value (alias_question path.last.owner) told → IsTarget told to → HasCome port question log to
-        → IfOk result (Advances port question log moment (idle ids) left) }
+    ensures goes { GoesAlongAlias harvest.value path told to moment result }
 {
     match follow(path, told, to)? {
         Some(next) => look_behind(next, harvest, moment),
@@ -172,8 +162,7 @@ pub(crate) fn follow_answer(
     moment: u64,
 ) -> Result<Advance, NoMemory>
     ensures follows { IfOk result (λ next. FollowsHarvest harvest.value path moment next.want) }
-    ensures goes { (port : ℕ) (ids : Stream) (question : Question) (log : List Exchange) → IsAnswering port log path.last harvest.value
-        → IsAskable port question log path → IfOk result (Advances port question log moment (idle ids) (left_of_hearing path 1)) }
+    ensures goes { GoesOnByAnswer harvest.value path moment result }
 {
     match next_hop(&harvest, &path.last)? {
         Hop::Set(told) => Ok(found(path, told)),

@@ -1,23 +1,14 @@
 //! Consequences of the definitions.
 
-ghost use Rattle.std.specs.Prelude.{◌≡◌, ◌≤◌, ℕ, Bool, List, Option, [], ◌∷◌, ◌++◌};
-ghost use Rattle.dns_text.specs.declared.record.Question.{Question};
+ghost use Rattle.std.specs.Prelude.{◌≡◌, ◌≤◌, ℕ, List, []};
 ghost use Rattle.harvest.specs.declared.choosing.TheConstants.{MOST_MEMORY};
 ghost use Rattle.ranked.specs.Memory.{body_memory};
 ghost use Rattle.ranked.specs.declared.find.Find.{Find};
-ghost use Rattle.iterate.specs.declared.answer.Answer.{Answer};
-ghost use Rattle.iterate.specs.declared.answer.Answer.TheVariants.{Reply as Replies};
-ghost use Rattle.iterate.specs.declared.answer.AnswerSet.{AnswerSet};
-ghost use Rattle.iterate.specs.declared.answer.Soa.{Soa};
 ghost use Rattle.iterate.specs.declared.phase.Phase.{Phase};
-ghost use Rattle.iterate.specs.declared.want.Input.{Input};
 ghost use Rattle.iterate.specs.declared.want.Input.TheVariants.{Begin};
-ghost use Rattle.iterate.specs.declared.want.Step.{Step};
 ghost use Rattle.iterate.specs.Exchanges.{Exchange};
-ghost use Rattle.iterate.specs.Phase.{Suits};
-ghost use Rattle.iterate.specs.Resolved.{Began, IsNoAnswer, IsResolved};
+ghost use Rattle.iterate.specs.Laws.{OutcomeIsDue, ResolvingIsFit, ServfailIsUnanswered};
 ghost use Rattle.iterate.specs.Task.{IsDueAt};
-ghost use Rattle.iterate.specs.Told.{IsFit};
 ghost use Rattle.iterate.specs.Wanted.{IsHarvested};
 
 use crate::limits::{
@@ -29,24 +20,20 @@ use harvest::chosen_law;
 /// An answer that resolves a question can be written.
 #[tactic(auto, using(crate::proofs::FitLaws::resolved_is_fit))]
 pub fn resolved_law()
-    ensures { (port : ℕ) (question : Question) (log : List Exchange) (answer : Answer) → IsResolved port question log answer
-        → IsFit answer }
+    ensures { ResolvingIsFit }
 {}
 
 /// The first input of a task is `Begin`; each later one is the outcome of the last want.
 #[tactic(auto, using(crate::proofs::DueLaws::first_is_due, crate::proofs::DueLaws::next_is_due))]
 pub fn due_law()
     ensures first { (phase : Phase) → IsDueAt phase [] Begin }
-    ensures next { (phase : Phase) (steps : List Step) (step : Step) (input : Input) → Suits step.want input
-        → IsDueAt phase (steps ++ step ∷ []) input }
+    ensures next { OutcomeIsDue }
 {}
 
 /// SERVFAIL never answers a question that its first lookup settled: that lookup found neither a cached answer nor a local one.
 #[tactic(auto, using(crate::proofs::FailLaws::fails_unanswered))]
 pub fn servfail_law()
-    ensures { (port : ℕ) (question : Question) (input : Input) (log : List Exchange) (aa : Bool) (aliases : List AnswerSet)
-        (last : Option AnswerSet) (authority : Option Soa) → IsResolved port question log (Replies 2 aa aliases last authority)
-        → Began question input log → IsNoAnswer question input }
+    ensures { ServfailIsUnanswered }
 {}
 
 /// The data of each find that a task hands to the book take little memory.

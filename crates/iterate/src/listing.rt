@@ -1,19 +1,12 @@
 //! The servers that the book names for a zone.
 
-ghost use Rattle.std.specs.Prelude.{◌≡◌, ℕ, List, IfOk, MatchOption};
-ghost use Rattle.dns_text.specs.declared.record.Question.{Question};
-ghost use Rattle.history.specs.declared.event.Ask.TheVariants.{Servers as ServersFor};
-ghost use Rattle.history.specs.declared.event.Event.TheVariants.{Look};
+ghost use Rattle.std.specs.Prelude.{◌≡◌, MatchOption};
 ghost use Rattle.history.specs.declared.event.Reply.TheVariants.{Seen as SeenReply};
 ghost use Rattle.history.specs.declared.event.Seen.TheVariants.{Servers as SeenServers};
 ghost use Rattle.iterate.specs.declared.want.Input.TheVariants.{Reply as Replied};
-ghost use Rattle.iterate.specs.declared.want.Want.TheVariants.{Book};
-ghost use Rattle.iterate.specs.Exchanges.{Exchange, AddsLook};
+ghost use Rattle.iterate.specs.Going.{GoesOnToServers};
 ghost use Rattle.iterate.specs.Hunting.{IsUnlisted, IsUnnamed, Names};
-ghost use Rattle.iterate.specs.Measure.{left_of_path};
-ghost use Rattle.iterate.specs.Phase.{Advances, Suits, drawing};
-ghost use Rattle.iterate.specs.Searching.{IsAskable};
-ghost use Rattle.iterate.specs.Served.{served_name};
+ghost use Rattle.iterate.specs.Phase.{drawing};
 
 use crate::finishing::failed;
 use crate::path::Path;
@@ -60,10 +53,7 @@ pub(crate) fn listed<R: Rng>(
     moment: u64,
     input: &Input,
 ) -> Result<Advance, NoMemory>
-    ensures { (port m : ℕ) (question : Question) (before log : List Exchange) → IsAskable port question before path
-        → AddsLook before m (ServersFor (served_name path.last)) input.now log
-        → Suits (Book (Look m (ServersFor (served_name path.last)))) input.now
-        → IfOk result (Advances port question log moment (drawing (R.stream ids.old) (R.stream ids.new)) (left_of_path path 1)) }
+    ensures { GoesOnToServers path input.now moment (drawing (R.stream ids.old) (R.stream ids.new)) result }
 {
     let name = served_name(alloc, &path.last)?;
     match servers_for(&name, input) {

@@ -1,22 +1,19 @@
 //! The reply to a lookup, narrowed to what is valid for it.
 
-ghost use Rattle.std.specs.Prelude.{◌≡◌, ◌↔◌, ◌∷◌, [], ℕ, List, IfOk, IsTrue, MatchOption};
+ghost use Rattle.std.specs.Prelude.{◌≡◌, ◌↔◌, ◌∷◌, [], List, IfOk, IsTrue, MatchOption};
 ghost use Rattle.std.specs.List.{AllByRecursion};
 ghost use Rattle.dns_text.specs.declared.record.Data.{Data};
 ghost use Rattle.dns_text.specs.declared.record.Data.TheVariants.{One};
 ghost use Rattle.dns_name.specs.Labels.{Labels};
 ghost use Rattle.ranked.specs.Body.{data_of};
 ghost use Rattle.iterate.specs.declared.answer.AnswerSet.TheVariants.{Local as LocalTold};
-ghost use Rattle.history.specs.declared.event.Ask.TheVariants.{Answer as Asked};
-ghost use Rattle.history.specs.declared.event.Event.TheVariants.{Look};
 ghost use Rattle.history.specs.declared.event.Reply.TheVariants.{Seen as SeenReply};
 ghost use Rattle.history.specs.declared.event.Seen.TheVariants.{Held as SeenHeld, Local as SeenLocal};
 ghost use Rattle.iterate.specs.declared.want.Input.TheVariants.{Reply as Replied};
-ghost use Rattle.iterate.specs.declared.want.Want.TheVariants.{Book};
-ghost use Rattle.iterate.specs.Phase.{Suits};
-ghost use Rattle.iterate.specs.Shown.{IsShownFor, IsLocalRecord, IsLocalSet, IsSoaFormed, IsLocalFor, IsLookReply, IsMisanswered};
+ghost use Rattle.iterate.specs.Narrowed.{NarrowsReply, NarrowsSeen};
+ghost use Rattle.iterate.specs.Shown.{IsShownFor, IsLocalRecord, IsLocalSet, IsSoaFormed, IsLocalFor};
 ghost use Rattle.iterate.specs.Told.{data_told, local_data, told_of, IsTarget};
-ghost use Rattle.iterate.specs.Looked.{seen_of, IsReplied, IsSetIn, IsUnseen};
+ghost use Rattle.iterate.specs.Looked.{seen_of, IsSetIn, IsUnseen};
 
 use crate::answer::AnswerSet;
 use crate::want::Input;
@@ -107,8 +104,7 @@ pub(crate) fn is_local_for(
 
 /// What was seen, if it is a valid reply to the lookup.
 fn looked_in<'a>(seen: &'a Seen, owner: &Name, kind: u16) -> Option<Looked<'a>>
-    ensures { MatchOption result (¬ (IsLookReply (Asked (record { owner = owner.now; kind = kind })) (SeenReply seen.now)))
-        (λ what. (seen.now ≡ seen_of what) × IsLookReply (Asked (record { owner = owner.now; kind = kind })) (SeenReply (seen_of what))) }
+    ensures { NarrowsSeen (record { owner = owner.now; kind = kind }) seen.now result }
 {
     match seen {
         Seen::Unknown => Some(Looked::Unknown),
@@ -141,9 +137,7 @@ fn seen_in(input: &Input) -> Option<&Seen>
 
 /// What the lookup of the question of this name and type found. None if the reply is not valid for it.
 pub(crate) fn replied<'a>(input: &'a Input, owner: &Name, kind: u16) -> Option<Looked<'a>>
-    ensures { (m : ℕ) → Suits (Book (Look m (Asked (record { owner = owner.now; kind = kind })))) input.now
-        → MatchOption result (IsMisanswered (Look m (Asked (record { owner = owner.now; kind = kind }))) input.now)
-        (λ what. IsReplied (record { owner = owner.now; kind = kind }) input.now (seen_of what)) }
+    ensures { NarrowsReply (record { owner = owner.now; kind = kind }) input.now result }
 {
     match seen_in(input) {
         Some(seen) => looked_in(seen, owner, kind),

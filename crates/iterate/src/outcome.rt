@@ -1,24 +1,17 @@
 //! The outcome of a query.
 
-ghost use Rattle.std.specs.Prelude.{◌≡◌, ◌+◌, ◌<◌, ℕ, List, IfOk, length};
-ghost use Rattle.dns_text.specs.declared.addr.Addr.{Addr};
-ghost use Rattle.dns_text.specs.declared.record.Question.{Question};
-ghost use Rattle.iterate.specs.declared.want.Want.{Want};
-ghost use Rattle.iterate.specs.declared.want.Want.TheVariants.{Send as SendWant};
-ghost use Rattle.iterate.specs.Exchanges.{Exchange, exchange, Adds};
-ghost use Rattle.iterate.specs.Hunting.{ActsOn, AsksOver, one_vain};
-ghost use Rattle.iterate.specs.Judged.{IsJudged};
+ghost use Rattle.std.specs.Prelude.{◌≡◌, ◌<◌, IfOk};
+ghost use Rattle.iterate.specs.Going.{ActsOnOutcome, AsksAgain, GoesOnByOutcome, HasUnasked};
+ghost use Rattle.iterate.specs.Going.{IsOrderlyOnceStruck, IsSearchOnceStruck, JudgesOutcome};
+ghost use Rattle.iterate.specs.Hunting.{AsksOver, one_vain};
 ghost use Rattle.iterate.specs.Room.{allowed_for, allowed_in};
-ghost use Rattle.iterate.specs.Measure.{left_in, left_of_sending};
-ghost use Rattle.iterate.specs.Phase.{Advances, IsWaiting, Suits, drawing};
-ghost use Rattle.iterate.specs.Resolved.{Struck};
-ghost use Rattle.iterate.specs.Searching.{IsSearch, IsNextServer, IsOrderly, Turn, hunt_of, question_of};
-ghost use Rattle.iterate.specs.Wanted.{WasTruncated};
+ghost use Rattle.iterate.specs.Phase.{drawing};
+ghost use Rattle.iterate.specs.Searching.{hunt_of};
 
 use crate::admitting::admit;
 use crate::finishing::failed;
 use crate::limits::MOST_SENDS;
-use crate::phase::{Advance, Phase};
+use crate::phase::Advance;
 use crate::search::{Hunt, Nested, Search, go_on};
 use crate::sending::send;
 use crate::want::{Allowance, Input};
@@ -39,8 +32,7 @@ fn judged(
     question: &Question,
     input: &Input,
 ) -> Result<Verdict, NoMemory>
-    ensures { (server : Addr) (bytes : List ℕ) → Suits (SendWant server over bytes) input.now
-        → IfOk result (IsJudged port over zone.now id question.now input.now) }
+    ensures { JudgesOutcome port over zone.now id question.now input.now result }
 {
     match input {
         Input::Came { octets, .. } => {
@@ -72,7 +64,7 @@ fn allowed_in(input: &Input, says: &Says) -> usize
 
 /// These servers, with one more of them asked in vain.
 fn asked_once_more(hunt: Hunt) -> Hunt
-    ensures { hunt.asked < length hunt.addrs.items → result ≡ record hunt { asked = hunt.asked + 1 } }
+    ensures { HasUnasked hunt → result ≡ one_vain hunt }
 {
     let Hunt {
         servers,
@@ -96,14 +88,9 @@ fn asked_once_more(hunt: Hunt) -> Hunt
 /// Strikes the server that was asked last.
 fn strike(search: Search) -> Result<Search, NoMemory>
     ensures path { IfOk result (λ after. after.path ≡ search.path) }
-    ensures vain { (hunt_of search).asked < length (hunt_of search).addrs.items
-        → IfOk result (λ after. hunt_of after ≡ one_vain (hunt_of search)) }
-    ensures further { (port : ℕ) (question : Question) (log : List Exchange) (server : Addr) (rest : List Addr)
-        → (s : IsSearch port question log search) → IsNextServer search server rest
-        → Struck port s.since (hunt_of search).servers.zone (question_of search) server
-        → IfOk result (IsSearch port question log) }
-    ensures orderly { (port : ℕ) (log : List Exchange) (server : Addr) (rest : List Addr) → IsNextServer search server rest
-        → IsOrderly port log search Turn.heard → IfOk result (λ after. IsOrderly port log after Turn.unasked) }
+    ensures vain { HasUnasked (hunt_of search) → IfOk result (λ after. hunt_of after ≡ one_vain (hunt_of search)) }
+    ensures further { IsSearchOnceStruck search result }
+    ensures orderly { IsOrderlyOnceStruck search result }
 {
     let Search {
         path,
@@ -136,11 +123,7 @@ fn again<R: Rng>(
     server: Addr,
 ) -> Result<Advance, NoMemory>
     ensures tcp { search.path.sent < MOST_SENDS → IfOk result (λ next. AsksOver server Over.Tcp next.want) }
-    ensures goes { (port moment left : ℕ) (question : Question) (log : List Exchange) (rest : List Addr)
-        → IsSearch port question log search → IsNextServer search server rest → IsOrderly port log search Turn.cut
-        → WasTruncated log server (question_of search)
-        → (search.path.sent < MOST_SENDS → left_of_sending search.path < left) → left_in Phase.Ended < left
-        → IfOk result (Advances port question log moment (drawing (R.stream ids.old) (R.stream ids.new)) left) }
+    ensures goes { AsksAgain search server (drawing (R.stream ids.old) (R.stream ids.new)) result }
 {
     if search.path.sent >= MOST_SENDS {
         return Ok(failed(alloc));
@@ -160,12 +143,8 @@ pub(crate) fn came<R: Rng>(
     over: Over,
     input: &Input,
 ) -> Result<Advance, NoMemory>
-    ensures acts { (bytes : List ℕ) → Suits (SendWant server over bytes) input.now → search.path.sent + 1 < MOST_SENDS
-        → IfOk result (λ next. ActsOn port search server id over input.now next.want) }
-    ensures goes { (question : Question) (before log : List Exchange) (want : Want)
-        → IsWaiting port question before want search server id over → Suits want input.now
-        → Adds before (exchange want input.now) log
-        → IfOk result (Advances port question log moment (drawing (R.stream ids.old) (R.stream ids.new)) (left_of_sending search.path)) }
+    ensures acts { ActsOnOutcome port search server id over input.now result }
+    ensures goes { GoesOnByOutcome port search server id over input.now moment (drawing (R.stream ids.old) (R.stream ids.new)) result }
 {
     one_meaning();
     let question = search.question()?;

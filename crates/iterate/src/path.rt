@@ -1,25 +1,18 @@
 //! The aliases so far, and the question to which they lead.
 
-ghost use Rattle.std.specs.Prelude.{◌≡◌, ◌<◌, ◌≤◌, ℕ, List, length, IfOk, MatchOption};
+ghost use Rattle.std.specs.Prelude.{◌≡◌, ◌<◌, ◌≤◌, length, IfOk, MatchOption};
 ghost use Rattle.dns_name.specs.Labels.{Labels};
 ghost use Rattle.history.specs.declared.event.Ask.TheVariants.{Answer as Asked};
 ghost use Rattle.history.specs.declared.event.Event.TheVariants.{Look};
-ghost use Rattle.history.specs.declared.event.Reply.TheVariants.{Seen as SeenReply};
-ghost use Rattle.history.specs.declared.event.Seen.TheVariants.{Local as SeenLocal};
-ghost use Rattle.iterate.specs.declared.want.Input.TheVariants.{Reply as Replied};
 ghost use Rattle.iterate.specs.declared.want.Want.TheVariants.{Book};
 ghost use Rattle.dns_query.specs.Query.{alias_question};
-ghost use Rattle.iterate.specs.Exchanges.{Exchange, AddsLook};
-ghost use Rattle.iterate.specs.Going.{GoesOnBehind, GoesOnFrom, GoesOnSeeing};
-ghost use Rattle.iterate.specs.Known.{Known, Had};
-ghost use Rattle.iterate.specs.Looked.{seen_of, IsSetSeen};
-ghost use Rattle.iterate.specs.Measure.{left_of_path};
-ghost use Rattle.iterate.specs.Phase.{Advances, LooksAt, idle};
+ghost use Rattle.iterate.specs.Going.{GoesOnBehind, GoesOnFrom, GoesOnSeeing, GoesOnByAlias};
+ghost use Rattle.iterate.specs.Going.{GoesOnByLocal, GoesOnToTarget, LooksAtTargetSeen};
+ghost use Rattle.iterate.specs.Looked.{seen_of};
+ghost use Rattle.iterate.specs.Phase.{LooksAt};
 ghost use Rattle.iterate.specs.Room.{LeadsOn};
 ghost use Rattle.iterate.specs.Searching.{IsBehind, IsUnasked, IsLonger};
-ghost use Rattle.iterate.specs.Shown.{IsLocalFor};
 ghost use Rattle.iterate.specs.Told.{IsTarget};
-ghost use Rattle.rand_core.specs.Stream.{Stream};
 
 use crate::answer::AnswerSet;
 use crate::finishing::{ended, failed, held_ending, local_ending};
@@ -129,9 +122,7 @@ fn go_behind(
     moment: u64,
 ) -> Result<Advance, NoMemory>
     ensures looks { length path.sets.items < MOST_ALIASES → IfOk result (LooksAt path to moment) }
-    ensures goes { (port : ℕ) (ids : Stream) (question : Question) (log : List Exchange) → IsUnasked port question log path
-        → Known port log (Had (alias_question path.last.owner) told) → IsTarget told to
-        → IfOk result (Advances port question log moment (idle ids) (left_of_path path 2)) }
+    ensures goes { GoesOnToTarget path told to moment result }
 {
     match follow(path, told, to)? {
         Some(next) => look_on(next, moment),
@@ -142,9 +133,7 @@ fn go_behind(
 /// Continues after a set of aliases.
 fn alias_told(alloc: Global, path: Path, told: AnswerSet, moment: u64) -> Result<Advance, NoMemory>
     ensures looks { (to : Labels) → IsTarget told to → length path.sets.items < MOST_ALIASES → IfOk result (LooksAt path to moment) }
-    ensures goes { (port : ℕ) (ids : Stream) (question : Question) (log : List Exchange) → IsUnasked port question log path
-        → Known port log (Had (alias_question path.last.owner) told)
-        → IfOk result (Advances port question log moment (idle ids) (left_of_path path 2)) }
+    ensures goes { GoesOnByAlias path told moment result }
 {
     match first_target(&told)? {
         Some(to) => go_behind(alloc, path, told, to, moment),
@@ -154,8 +143,7 @@ fn alias_told(alloc: Global, path: Path, told: AnswerSet, moment: u64) -> Result
 
 /// Continues with what the lookup of an alias found.
 fn alias_seen(alloc: Global, path: Path, moment: u64, what: Looked<'_>) -> Result<Advance, NoMemory>
-    ensures follows { (told : AnswerSet) (to : Labels) → IsSetSeen (seen_of what.entry) told → IsTarget told to
-        → length path.sets.items < MOST_ALIASES → IfOk result (LooksAt path to moment) }
+    ensures follows { LooksAtTargetSeen path (seen_of what.entry) moment result }
     ensures goes { GoesOnSeeing IsUnasked path (alias_question path.last.owner) (seen_of what.entry) moment 2 result }
 {
     match set_in(alloc, what)? {
@@ -186,10 +174,7 @@ fn local_on(
     path: Path,
     answer: &Local<Items<SeenRecord>, LocalRecord>,
 ) -> Result<Advance, NoMemory>
-    ensures { (port m moment : ℕ) (ids : Stream) (question : Question) (before log : List Exchange)
-        → IsBehind port question before path → IsLocalFor path.last answer.now
-        → AddsLook before m (Asked path.last) (Replied (SeenReply (SeenLocal answer.now))) log
-        → IfOk result (Advances port question log moment (idle ids) (left_of_path path 3)) }
+    ensures { GoesOnByLocal path answer.now result }
 {
     match local_ending(alloc, answer)? {
         Some(ending) => Ok(ended(false, path.sets, ending)),

@@ -1,10 +1,8 @@
 //! The phases of a task, and the step from one to the next.
 
-ghost use Rattle.std.specs.Prelude.{◌≡◌, [], List, IfOk, IsErr};
-ghost use Rattle.iterate.specs.declared.want.Want.{Want};
-ghost use Rattle.iterate.specs.Exchanges.{Exchange, exchange, Adds};
-ghost use Rattle.iterate.specs.Measure.{left_in};
-ghost use Rattle.iterate.specs.Phase.{Remembers, Advances, Suits, drawing};
+ghost use Rattle.std.specs.Prelude.{◌≡◌, IfOk, IsErr};
+ghost use Rattle.iterate.specs.Going.{BeginsIfFresh, StepsFrom};
+ghost use Rattle.iterate.specs.Phase.{drawing};
 ghost use Rattle.iterate.specs.Room.{AsksOn};
 
 use crate::admitting::admitted;
@@ -128,11 +126,8 @@ pub(crate) fn step_on<R: Rng>(
     ids: &mut R,
     input: &Input,
 ) -> Result<Advance, NoMemory>
-    ensures goes { (before log : List Exchange) (want : Want) → Remembers port question.now before want phase
-        → Suits want input.now → Adds before (exchange want input.now) log
-        → IfOk result (Advances port question.now log moment (drawing (R.stream ids.old) (R.stream ids.new)) (left_in phase)) }
-    ensures fresh { phase ≡ Phase.Fresh
-        → IfOk result (Advances port question.now [] moment (drawing (R.stream ids.old) (R.stream ids.new)) (left_in phase)) }
+    ensures goes { StepsFrom port question.now phase moment input.now (drawing (R.stream ids.old) (R.stream ids.new)) result }
+    ensures fresh { BeginsIfFresh port question.now phase moment (drawing (R.stream ids.old) (R.stream ids.new)) result }
     ensures asks { IfOk result (λ next. AsksOn phase moment input.now next.want) }
     ensures broken { phase ≡ Phase.Broken → IsErr result }
 {

@@ -1,19 +1,14 @@
 //! The servers that are asked in turn, and nested questions for their addresses.
 
-ghost use Rattle.std.specs.Prelude.{◌≡◌, ◌<◌, ◌≤◌, [], ℕ, List, IsTrue, MatchOption, IfOk, false, length, drop, ◌↔◌};
-ghost use Rattle.dns_name.specs.Labels.{Labels};
-ghost use Rattle.dns_text.specs.declared.addr.Addr.{Addr as AddrValue};
-ghost use Rattle.dns_text.specs.declared.record.Question.{Question};
-ghost use Rattle.dns_query.specs.declared.over.Over.TheVariants.{Udp};
+ghost use Rattle.std.specs.Prelude.{◌≡◌, ◌<◌, ◌≤◌, [], IsTrue, MatchOption, IfOk, false, length, drop, ◌↔◌};
 ghost use Rattle.dns_query.specs.Query.{address_question};
-ghost use Rattle.iterate.specs.declared.limits.TheConstants.{MOST_SENDS};
-ghost use Rattle.iterate.specs.Exchanges.{Exchange};
-ghost use Rattle.iterate.specs.Going.{ReachesServers};
-ghost use Rattle.iterate.specs.Hunting.{AllServe, IsReached, IsFresh, AreReferred, IsSupplied, AreSupplied, IsTried, IsSmaller};
-ghost use Rattle.iterate.specs.Hunting.{IsAt, IsNextStep, AreOpened, MayBeSought, AsksOver};
-ghost use Rattle.iterate.specs.Measure.{hunts_left, left_of_path, left_of_search, left_of_seek, left_of_hearing};
-ghost use Rattle.iterate.specs.Phase.{Advances, IsSeeking, drawing};
-ghost use Rattle.iterate.specs.Searching.{IsAskable, IsSearch, IsNextServer, IsOrderly, IsOther, Turn, hunt_of, hunt_behind, question_of};
+ghost use Rattle.iterate.specs.Going.{ReachesServers, GoesOnSearching, IsNextMissing, IsNoneMissing, OpensQuestion};
+ghost use Rattle.iterate.specs.Going.{SaysIfOpen, SendsToNext, SmallerOnceClosed, SmallerOnceReferred, SmallerOnceSupplied};
+ghost use Rattle.iterate.specs.Hunting.{IsFresh, AreReferred, IsSupplied, AreSupplied};
+ghost use Rattle.iterate.specs.Hunting.{IsAt, IsNextStep, AreOpened, MayBeSought};
+ghost use Rattle.iterate.specs.Measure.{hunts_left, left_of_path, left_of_hearing};
+ghost use Rattle.iterate.specs.Phase.{drawing};
+ghost use Rattle.iterate.specs.Searching.{IsAskable, IsSearch, IsOther};
 
 use crate::finishing::failed;
 use crate::joining::join_addrs;
@@ -118,9 +113,7 @@ pub(crate) fn refer_frame(
     ensures fresh { IfOk result (λ after. AreReferred search.frames.items servers after.frames.items) }
     ensures path { IfOk result (λ after. after.path ≡ search.path) }
     ensures base { IfOk result (λ after. after.base ≡ search.base) }
-    ensures reached { (port : ℕ) (question : Question) (log since : List Exchange) (turn : Turn) → IsSearch port question log search
-        → IsOrderly port log search turn → IsReached port log (question_of search) since servers
-        → IfOk result (IsSmaller port question log (left_of_hearing search.path 1)) }
+    ensures reached { SmallerOnceReferred search servers result }
 {
     let hunt = begin_hunt(alloc, servers)?;
     let Search {
@@ -143,8 +136,7 @@ pub(crate) fn open(
     ensures path { IfOk result (λ after. after.path ≡ search.path) }
     ensures base { IfOk result (λ after. after.base ≡ search.base) }
     ensures opened { IfOk result (λ after. AreOpened search.frames.items target servers after.frames.items) }
-    ensures reached { ReachesServers (λ port question log s. IsSeeking port question log s target Stage.Servers) search
-        (address_question target) servers (left_of_seek search Stage.Servers) result }
+    ensures reached { OpensQuestion search target servers result }
 {
     let hunt = begin_hunt(alloc, servers)?;
     let Search {
@@ -201,9 +193,7 @@ fn supply_innermost(alloc: Global, search: Search, found: &[Addr]) -> Result<Sea
 pub(crate) fn supply(alloc: Global, search: Search, found: &[Addr]) -> Result<Search, NoMemory>
     ensures path { IfOk result (λ after. after.path ≡ search.path) }
     ensures supplied { IfOk result (λ after. AreSupplied search.frames.items search.base found.now after.frames.items after.base) }
-    ensures further { (port : ℕ) (question : Question) (log : List Exchange) (target : Labels)
-        → IsTried port question log search target found.now
-        → AllServe port log (hunt_of search).servers found.now → IfOk result (IsSmaller port question log (left_of_search search 0)) }
+    ensures further { SmallerOnceSupplied search found.now result }
 {
     let after = supply_innermost(alloc, search, found)?;
     Ok(after)
@@ -215,9 +205,7 @@ pub(crate) fn close(alloc: Global, search: Search, found: &[Addr]) -> Result<Sea
     ensures path { IfOk result (λ after. after.path ≡ search.path) }
     ensures supplied { IfOk result (λ after. AreSupplied (drop 1 search.frames.items) search.base found.now after.frames.items after.base) }
     ensures fewer { IfOk result (λ after. hunts_left after < hunts_left search) }
-    ensures further { (port : ℕ) (question : Question) (log : List Exchange) (turn : Turn) → IsSearch port question log search
-        → IsOrderly port log search turn → AllServe port log (hunt_behind (drop 1 search.frames.items) search.base).servers found.now
-        → IfOk result (IsSmaller port question log (left_of_search search 0)) }
+    ensures further { SmallerOnceClosed search found.now result }
 {
     let Search {
         path,
@@ -252,8 +240,7 @@ fn asks_address(question: &Question, target: &Name) -> bool
 
 /// Whether one of these questions is for the address of this server.
 fn is_open(frames: &[Nested], target: &Name) -> bool
-    ensures { (last : Question) → ¬ (address_question target.now ≡ last)
-        → (result ≡ false) ↔ IsOther (address_question target.now) frames.now last }
+    ensures { SaysIfOpen frames.now target.now result }
 {
     for frame in frames {
         if is_name(&frame.target, target) {
@@ -304,8 +291,7 @@ fn name_at(names: &[Name], place: usize) -> Option<&Name>
 
 /// The next server without an address.
 fn next_missing(hunt: &Hunt) -> Option<&Name>
-    ensures { MatchOption result (length hunt.now.servers.missing ≤ hunt.now.sought)
-        (λ name. IsAt hunt.now.servers.missing hunt.now.sought name.now) }
+    ensures { MatchOption result (IsNoneMissing hunt.now) (λ name. IsNextMissing hunt.now name.now) }
 {
     name_at(hunt.servers.get().missing.as_slice(), hunt.sought)
 }
@@ -347,11 +333,8 @@ pub(crate) fn go_on<R: Rng>(
     moment: u64,
     search: Search,
 ) -> Result<Advance, NoMemory>
-    ensures asks { (server : AddrValue) (rest : List AddrValue) → IsNextServer search server rest → search.path.sent < MOST_SENDS
-        → IfOk result (λ next. AsksOver server Udp next.want) }
-    ensures goes { (port : ℕ) (question : Question) (log : List Exchange) → IsSearch port question log search
-        → IsOrderly port log search Turn.unasked
-        → IfOk result (Advances port question log moment (drawing (R.stream ids.old) (R.stream ids.new)) (left_of_search search 4)) }
+    ensures asks { SendsToNext search result }
+    ensures goes { GoesOnSearching search moment (drawing (R.stream ids.old) (R.stream ids.new)) result }
 {
     let mut current = search;
     'going: loop {

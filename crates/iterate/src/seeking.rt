@@ -1,30 +1,20 @@
 //! Lookups for servers without an address.
 
-ghost use Rattle.std.specs.Prelude.{◌≡◌, ◌<◌, ◌↔◌, [], false, ℕ, List, IfOk, IsTrue};
+ghost use Rattle.std.specs.Prelude.{◌≡◌, ◌<◌, ◌↔◌, IfOk, IsTrue};
 ghost use Rattle.std.specs.List.{AllByRecursion, Contains};
 ghost use Rattle.dns_text.specs.declared.addr.Addr.{Addr as AddrValue};
-ghost use Rattle.dns_text.specs.declared.record.Question.{Question};
-ghost use Rattle.dns_query.specs.Query.{address_question, alias_question};
-ghost use Rattle.history.specs.declared.event.Ask.TheVariants.{Answer as Asked, Servers as ServersFor};
-ghost use Rattle.history.specs.declared.event.Seen.{Seen as SeenValue};
-ghost use Rattle.history.specs.declared.servers.Servers.{Servers as ServersValue};
 ghost use Rattle.history.specs.declared.event.Event.TheVariants.{Look};
-ghost use Rattle.history.specs.declared.event.Reply.TheVariants.{Seen as SeenReply};
-ghost use Rattle.iterate.specs.declared.want.Input.TheVariants.{Reply as Replied};
 ghost use Rattle.iterate.specs.declared.want.Want.TheVariants.{Book};
-ghost use Rattle.iterate.specs.Exchanges.{Exchange, AddsLook};
-ghost use Rattle.iterate.specs.Going.{SeeksOn};
-ghost use Rattle.iterate.specs.Hunting.{AreSpent, AsksOneOf, AsksSeen, IsAddressSeen, IsTried, Names, is_set_seen};
+ghost use Rattle.iterate.specs.Going.{SeeksOn, AsksNamed, AsksNewAddress, BeginsSeeking, LooksForAlias};
+ghost use Rattle.iterate.specs.Going.{LooksForServers, SeeksFurther, SeeksOnAtAnyPort, SeeksOnSeeing};
+ghost use Rattle.iterate.specs.Hunting.{IsAddressSeen, is_set_seen};
 ghost use Rattle.iterate.specs.Looked.{seen_of};
-ghost use Rattle.iterate.specs.Measure.{left_of_search, left_of_seek};
-ghost use Rattle.iterate.specs.Phase.{Advances, IsSeeking, ask_at, drawing, idle};
+ghost use Rattle.iterate.specs.Phase.{ask_at, drawing};
 ghost use Rattle.iterate.specs.Searching.{hunt_of};
-ghost use Rattle.iterate.specs.Shown.{IsLookReply};
-ghost use Rattle.rand_core.specs.Stream.{Stream};
 
 use crate::addresses::addresses;
 use crate::finishing::failed;
-use crate::limits::{MOST_BEGUN, MOST_SENDS, MOST_TARGETS};
+use crate::limits::{MOST_BEGUN, MOST_TARGETS};
 use crate::listing::servers_for;
 use crate::lookup_reply::{Looked, replied, set_in};
 use crate::phase::{Advance, Phase, Stage};
@@ -60,9 +50,7 @@ pub(crate) fn seek(
     stage: Stage,
 ) -> Result<Advance, NoMemory>
     ensures want { IfOk result (λ next. next.want ≡ Book (Look moment (ask_at stage target))) }
-    ensures goes { (port : ℕ) (ids : Stream) (left : ℕ) (question : Question) (log : List Exchange)
-        → IsSeeking port question log search target stage → left_of_seek search stage < left
-        → IfOk result (Advances port question log moment (idle ids) left) }
+    ensures goes { BeginsSeeking search target stage moment result }
 {
     let ask = ask_at(stage, &target)?;
     Ok(Advance {
@@ -102,11 +90,8 @@ fn seek_on<R: Rng>(
     search: Search,
     target: Name,
 ) -> Result<Advance, NoMemory>
-    ensures begins { search.path.begun < MOST_BEGUN → (hunt_of search).sought < MOST_TARGETS
-        → IfOk result (λ next. next.want ≡ Book (Look moment (Asked (alias_question target)))) }
-    ensures goes { (port : ℕ) (question : Question) (log : List Exchange) → IsTried port question log search target []
-        → ((hunt_of search).sought < MOST_TARGETS → IsSeeking port question log search target Stage.Alias)
-        → IfOk result (Advances port question log moment (drawing (R.stream ids.old) (R.stream ids.new)) (left_of_search search 3)) }
+    ensures begins { LooksForAlias search target moment result }
+    ensures goes { SeeksFurther search target moment (drawing (R.stream ids.old) (R.stream ids.new)) result }
 {
     if may_begin(&search) {
         return seek(alloc, moment, search.begun(), target, Stage::Alias);
@@ -125,12 +110,8 @@ fn address_seen<R: Rng>(
     target: Name,
     what: Looked<'_>,
 ) -> Result<Advance, NoMemory>
-    ensures asks { (addr : AddrValue) → IsAddressSeen port (seen_of what.entry) addr → ¬ (Contains (hunt_of search).addrs.items addr)
-        → AreSpent (hunt_of search) → search.path.sent < MOST_SENDS → IfOk result (λ next. AsksSeen port (seen_of what.entry) next.want) }
-    ensures goes { (m : ℕ) (question : Question) (before log : List Exchange) → IsSeeking port question before search target Stage.Address
-        → AddsLook before m (Asked (address_question target)) (Replied (SeenReply (seen_of what.entry))) log
-        → IsLookReply (Asked (address_question target)) (SeenReply (seen_of what.entry))
-        → IfOk result (Advances port question log moment (drawing (R.stream ids.old) (R.stream ids.new)) (left_of_search search 3)) }
+    ensures asks { AsksNewAddress port search (seen_of what.entry) result }
+    ensures goes { SeeksOnSeeing search target port (seen_of what.entry) moment (drawing (R.stream ids.old) (R.stream ids.new)) result }
 {
     match what {
         Looked::Unknown => seek_on(alloc, ids, moment, search, target),
@@ -180,11 +161,8 @@ fn alias_came<R: Rng>(
     target: Name,
     input: &Input,
 ) -> Result<Advance, NoMemory>
-    ensures asks { (seen : SeenValue) → input.now ≡ Replied (SeenReply seen)
-        → IsLookReply (Asked (alias_question target)) (SeenReply seen) → is_set_seen seen ≡ false
-        → IfOk result (λ next. next.want ≡ Book (Look moment (ServersFor target))) }
-    ensures goes { (port : ℕ) → SeeksOn search target Stage.Alias port input.now moment
-        (drawing (R.stream ids.old) (R.stream ids.new)) result }
+    ensures asks { LooksForServers target input.now moment result }
+    ensures goes { SeeksOnAtAnyPort search target Stage.Alias input.now moment (drawing (R.stream ids.old) (R.stream ids.new)) result }
 {
     match replied(input, &target, CNAME) {
         Some(what) => {
@@ -208,10 +186,8 @@ fn servers_came<R: Rng>(
     target: Name,
     input: &Input,
 ) -> Result<Advance, NoMemory>
-    ensures asks { (list : ServersValue) → Names target input.now list → search.path.sent < MOST_SENDS
-        → IfOk result (λ next. AsksOneOf list.addrs next.want) }
-    ensures goes { (port : ℕ) → SeeksOn search target Stage.Servers port input.now moment
-        (drawing (R.stream ids.old) (R.stream ids.new)) result }
+    ensures asks { AsksNamed search target input.now result }
+    ensures goes { SeeksOnAtAnyPort search target Stage.Servers input.now moment (drawing (R.stream ids.old) (R.stream ids.new)) result }
 {
     match servers_for(&target, input) {
         Some(servers) => {

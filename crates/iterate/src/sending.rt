@@ -1,14 +1,9 @@
 //! Queries to send.
 
-ghost use Rattle.std.specs.Prelude.{◌<◌, ℕ, List, IfOk};
-ghost use Rattle.dns_text.specs.declared.addr.Addr.{Addr};
-ghost use Rattle.dns_text.specs.declared.record.Question.{Question};
-ghost use Rattle.iterate.specs.Exchanges.{Exchange};
+ghost use Rattle.std.specs.Prelude.{◌<◌, IfOk};
+ghost use Rattle.iterate.specs.Going.{AsksFirst, SendsTo};
 ghost use Rattle.iterate.specs.Hunting.{AsksOver};
-ghost use Rattle.iterate.specs.Measure.{left_of_search, left_of_sending};
-ghost use Rattle.iterate.specs.Phase.{Advances, drawing};
-ghost use Rattle.iterate.specs.Searching.{IsSearch, IsNextServer, IsOrderly, Turn, question_of, turn_of};
-ghost use Rattle.iterate.specs.Wanted.{MayGo};
+ghost use Rattle.iterate.specs.Phase.{drawing};
 
 use crate::finishing::failed;
 use crate::limits::MOST_SENDS;
@@ -30,10 +25,7 @@ pub(crate) fn send<R: Rng>(
     over: Over,
 ) -> Result<Advance, NoMemory>
     ensures query { IfOk result (λ next. AsksOver server over next.want) }
-    ensures goes { (port moment left : ℕ) (question : Question) (log : List Exchange) (rest : List Addr)
-        → IsSearch port question log search → search.path.sent < MOST_SENDS → IsNextServer search server rest
-        → IsOrderly port log search (turn_of over) → MayGo log server (question_of search) over → left_of_sending search.path < left
-        → IfOk result (Advances port question log moment (drawing (R.stream ids.old) (R.stream ids.new)) left) }
+    ensures goes { SendsTo search server over (drawing (R.stream ids.old) (R.stream ids.new)) result }
 {
     let id = (ids.next_u32() % 65536) as u16;
     let bytes = query(alloc, id, &search.question()?)?;
@@ -60,9 +52,7 @@ pub(crate) fn ask<R: Rng>(
     server: Addr,
 ) -> Result<Advance, NoMemory>
     ensures query { search.path.sent < MOST_SENDS → IfOk result (λ next. AsksOver server Over.Udp next.want) }
-    ensures goes { (port moment : ℕ) (question : Question) (log : List Exchange) (rest : List Addr) → IsSearch port question log search
-        → IsNextServer search server rest → IsOrderly port log search Turn.unasked
-        → IfOk result (Advances port question log moment (drawing (R.stream ids.old) (R.stream ids.new)) (left_of_search search 4)) }
+    ensures goes { AsksFirst search server (drawing (R.stream ids.old) (R.stream ids.new)) result }
 {
     if search.path.sent >= MOST_SENDS {
         return Ok(failed(alloc));
