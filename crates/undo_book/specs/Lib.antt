@@ -16,6 +16,7 @@ pub use Rattle.history.specs.EndingLaws
 pub use Rattle.history.specs.OldestLaws
 pub use Rattle.history.specs.Servers
 pub use Rattle.history.specs.Reply
+pub use Rattle.history.specs.Previews
 pub use Rattle.history.specs.PreviewLaws
 pub use Rattle.history.specs.Answers
 pub use Rattle.history.specs.Desk
