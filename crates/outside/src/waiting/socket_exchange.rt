@@ -14,6 +14,7 @@ ghost use Rattle.system.specs.declared.device.DeviceFault.TheVariants.{Device};
 
 use crate::fault_line::{WITHHELD, log_exchange};
 use crate::fitting::{MOST_MISFITS, fits};
+use crate::framed_reply::read_on;
 use crate::own::{check_host, check_other, may_be_own};
 use crate::waiting::server_net::ServerNet;
 use crate::waiting::timed::Timed;
@@ -24,7 +25,7 @@ use dns_text::{Addr, NoMemory, Octets};
 use iterate::Hunt;
 use log::Log;
 use plain_workers::Exchange;
-use replies::{MOST_FRAMED, MOST_MESSAGE, frame, is_dear, size_of};
+use replies::{BegunMessage, MOST_FRAMED, MOST_MESSAGE, frame, is_dear};
 use std::alloc::Global;
 use std::io;
 use std::io::{ErrorKind, Read, Write};
@@ -42,7 +43,8 @@ use system::{AddressRange, DeviceFault, MOST_CALLS, cause_of, place_of};
 ///
 /// An exchange fails if the reply would take too long to read. One with an address that belongs to no host, with the service itself,
 /// or with a server that is withheld (`is_withheld`), fails at once. Each exchange that fails is logged with its cause, server and
-/// question. Once the stop flag is set each exchange fails, one under way soon after, unless it is still connecting.
+/// question, unless it lacked memory. Once the stop flag is set each exchange fails, one under way soon after, unless it is still
+/// connecting.
 #[derive(Drop)]
 pub struct SocketExchange<'a, R, F: StopFlag> {
     rt: &'a R,
@@ -154,19 +156,29 @@ fn send_framed<W: Write>(alloc: Global, stream: &mut W, message: &[u8]) -> io::R
     stream.write_all(&out)
 }
 
+/// Copies octets to the front of the room: their number.
+fn copy_front(room: &mut [u8], octets: &[u8]) -> usize
+    requires { length octets.now ≤ length room.old }
+    ensures count { result ≡ length octets.now }
+    ensures copied { take result room.new ≡ octets.now }
+{
+    room[..octets.len()].copy_from_slice(octets);
+    octets.len()
+}
+
 /// Reads a message preceded by its length: the number of octets at the front of the room that it fills.
-// A `BegunMessage` would take memory as octets come. This fills the room that the client has from its start.
-fn read_framed<S: Read>(stream: &mut S, room: &mut [u8]) -> io::Result<usize>
+fn read_framed<S: Read>(alloc: Global, stream: &mut S, room: &mut [u8]) -> io::Result<usize>
     requires { length room.old ≡ MOST_FRAMED }
     ensures few { IfOk result (λ count. count ≤ MOST_MESSAGE) }
     ensures came { IfOk result (λ count. Consumes (S.remaining stream.old) (S.remaining stream.new) (framed (take count room.new))) }
 {
-    let mut length = [0u8; 2];
-    stream.read_exact(&mut length)?;
-    let [high, low] = length;
-    let count = size_of(high, low);
-    stream.read_exact(&mut room[..count])?;
-    Ok(count)
+    let mut reply = BegunMessage::new(alloc);
+    read_on(&mut reply, stream, room)?;
+    match reply.message() {
+        Some(message) => Ok(copy_front(room, message)),
+        // A call would have waited, and is not made again: the stop flag is set.
+        None => Err(io::Error::from(ErrorKind::WouldBlock)),
+    }
 }
 
 /// One exchange over TCP: the number of octets at the front of the room that the reply fills.
@@ -197,7 +209,7 @@ fn ask_tcp<R: ServerNet + Clock, F: StopFlag>(
         deadline,
     };
     send_framed(alloc, &mut stream, query)?;
-    let count = read_framed(&mut stream, room)?;
+    let count = read_framed(alloc, &mut stream, room)?;
     if !fits(query, &room[..count]) || is_dear(&room[..count]) {
         return Err(io::Error::from(ErrorKind::InvalidData));
     }
@@ -266,7 +278,13 @@ impl<'a, R: ServerNet + Clock + Log, F: StopFlag> Exchange for SocketExchange<'a
                 Ok(reply) => Ok(Octets::new(reply)),
                 Err(_) => Err(DeviceFault::NoMemory),
             },
-            Err(error) => Err(self.fail(cause_of(&error), server, query)),
+            Err(error) => {
+                // Nothing of the server or of the network failed.
+                if error.kind() == ErrorKind::OutOfMemory {
+                    return Err(DeviceFault::NoMemory);
+                }
+                Err(self.fail(cause_of(&error), server, query))
+            }
         }
     }
 }
