@@ -91,6 +91,12 @@ def check_refused(checks, folder):
         (b"at 5\n", 1, b"error unknown: at 5"),
         (b"stop", 1, b"error unknown: stop"),
         (f"{ZONE}\nstop\r\n{RECORD}\n".encode(), 2, b"error unknown: stop"),
+        # What only a service answers, with and without a word too many.
+        (b"status\n", 1, b"error unknown: status"),
+        (b" status  x\t\n", 1, b"error unknown:  status  x?"),
+        (b"stats stats", 1, b"error unknown: stats stats"),
+        (b"statuss x", 1, b"error unknown: statuss x"),
+        (b"stop x\n", 1, b"error bad_data: stop x"),
         # A line is as long as 1,024 octets at most. What is longer is shown in part.
         (long, 1, b"error unknown: " + long),
         (b"\n" + long + b"x\n", 2, b"error too_long: " + long + b"x"),

@@ -12,7 +12,8 @@ use crate::lookout::Lookout;
 use crate::replies::is_refusal;
 use crate::watched_fifo::WatchedFifo;
 use clock::Clock;
-use command_text::{obey_said, read_control};
+use command_text::{Line, LineFault, obey_said, read_control};
+use dns_text::next_word;
 use history::Desk;
 use std::alloc::{AllocError, Global};
 use std::fmt::Display;
@@ -23,8 +24,8 @@ use std::thread::Threads;
 use std::{fs, io};
 use streams::{CountedWriter, Ended, LineReply, Obeyer, ScriptFault, Source, Text, run_lines};
 
-/// The reply to `stop`, as in a script: no file ends the service.
-const NO_STOP: &[u8] = b"error unknown";
+/// The reply to `stop`, `status` and `stats`, as in a script: no file ends the service, and none has their answers.
+const NO_COMMAND: &[u8] = b"error unknown";
 
 /// The reply if there was no memory for a reply.
 const LOST: &[u8] = b"fault reply_lost";
@@ -117,7 +118,18 @@ fn refusal_text(
     Ok(text)
 }
 
-/// Obeys a line as one of an operator, and returns its reply. The error is the reply to `stop`.
+/// Whether the first word of a line is `status` or `stats`, which only an operator's service answers.
+fn asks_service(alloc: Global, line: &[u8]) -> bool {
+    match next_word(line) {
+        Some((word, _)) => matches!(
+            read_control(alloc, word),
+            Ok(Line::Status | Line::Stats)
+        ),
+        None => false,
+    }
+}
+
+/// Obeys a line as one of an operator, and returns its reply. The error is the reply to a line that no file may have.
 fn reply_to<D: Desk, C: Clock>(
     alloc: Global,
     desk: &mut D,
@@ -128,9 +140,13 @@ fn reply_to<D: Desk, C: Clock>(
         IsRepliedTo C.ticks D.calls clock.old desk.old line.now (octets_in reply) clock.new desk.new) }
 {
     let said = read_control(alloc, line);
+    // With a word too many, these two are as unknown as without one.
+    if matches!(said, Err(LineFault::BadData)) && asks_service(alloc, line) {
+        return Err(NO_COMMAND);
+    }
     let reply = obey_said(alloc, clock, desk, said);
     if reply.stops {
-        return Err(NO_STOP);
+        return Err(NO_COMMAND);
     }
     Ok(reply.text)
 }
