@@ -12,7 +12,6 @@ use history::{
 };
 use ranked::Rank;
 use std::alloc::Global;
-use std::io;
 
 fn question(alloc: Global) -> anyhow::Result<Question> {
     Ok(Question {
@@ -66,7 +65,8 @@ pub fn left<B: Book>(book: &B, asked: &Question, moment: u64) -> Option<u32> {
     left
 }
 
-fn settings_have_ranges(checks: &mut Checks, alloc: Global) -> anyhow::Result<()> {
+/// The journal and the cells have ranges.
+pub fn settings_have_ranges(checks: &mut Checks, alloc: Global) -> anyhow::Result<()> {
     for (journal, cells) in [(1, 1), (MOST_COMMANDS, MOST_CELLS)] {
         checks.that(plain_book(alloc, journal, cells).err() == None);
     }
@@ -89,7 +89,8 @@ fn put_back<B: Book>(checks: &mut Checks, alloc: Global, mut book: B) -> anyhow:
     Ok(())
 }
 
-fn redo_puts_back(checks: &mut Checks, alloc: Global) -> anyhow::Result<()> {
+/// A redo hides again what its undo showed.
+pub fn redo_puts_back(checks: &mut Checks, alloc: Global) -> anyhow::Result<()> {
     put_back(checks, alloc, plain_book(alloc, 64, 100)?)
 }
 
@@ -103,7 +104,8 @@ fn no_redo<B: Book>(checks: &mut Checks, alloc: Global, mut book: B) -> anyhow::
     Ok(())
 }
 
-fn nothing_to_redo(checks: &mut Checks, alloc: Global) -> anyhow::Result<()> {
+/// A new command leaves nothing to redo.
+pub fn nothing_to_redo(checks: &mut Checks, alloc: Global) -> anyhow::Result<()> {
     no_redo(checks, alloc, plain_book(alloc, 64, 100)?)
 }
 
@@ -138,7 +140,7 @@ fn admit_and_look<B: Book>(checks: &mut Checks, alloc: Global, mut book: B) -> a
 }
 
 /// Looks from outside read every moment, and move no clock.
-fn looks_take_every_moment(checks: &mut Checks, alloc: Global) -> anyhow::Result<()> {
+pub fn looks_take_every_moment(checks: &mut Checks, alloc: Global) -> anyhow::Result<()> {
     admit_and_look(checks, alloc, plain_book(alloc, 64, 100)?)
 }
 
@@ -154,7 +156,7 @@ fn filled<B: Book>(checks: &mut Checks, alloc: Global, mut book: B) -> anyhow::R
 }
 
 /// What is outranked is stored too, and what meets a fault is not.
-fn stored_counts(checks: &mut Checks, alloc: Global) -> anyhow::Result<()> {
+pub fn stored_counts(checks: &mut Checks, alloc: Global) -> anyhow::Result<()> {
     filled(checks, alloc, plain_book(alloc, 64, 2)?)
 }
 
@@ -183,22 +185,6 @@ fn stopped<B: Book>(checks: &mut Checks, alloc: Global, mut book: B) -> anyhow::
 }
 
 /// The replies before a fault are there, and what comes after it is not taken.
-fn run_stops_at_a_fault(checks: &mut Checks, alloc: Global) -> anyhow::Result<()> {
+pub fn run_stops_at_a_fault(checks: &mut Checks, alloc: Global) -> anyhow::Result<()> {
     stopped(checks, alloc, plain_book(alloc, 64, 100)?)
-}
-
-/// Runs the tests of this file.
-pub fn tests<R: Print + Eprint>(rt: &R, checks: &mut Checks, alloc: Global) -> io::Result<()> {
-    let ended = settings_have_ranges(checks, alloc);
-    checks.end(rt, "books::settings_have_ranges", ended)?;
-    let ended = redo_puts_back(checks, alloc);
-    checks.end(rt, "books::redo_puts_back", ended)?;
-    let ended = nothing_to_redo(checks, alloc);
-    checks.end(rt, "books::nothing_to_redo", ended)?;
-    let ended = looks_take_every_moment(checks, alloc);
-    checks.end(rt, "books::looks_take_every_moment", ended)?;
-    let ended = stored_counts(checks, alloc);
-    checks.end(rt, "books::stored_counts", ended)?;
-    let ended = run_stops_at_a_fault(checks, alloc);
-    checks.end(rt, "books::run_stops_at_a_fault", ended)
 }

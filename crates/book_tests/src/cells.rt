@@ -7,7 +7,6 @@ use dns_name::Name;
 use dns_text::Items;
 use ranked::{Cell, Fate, Find, LONGEST_TTL, Rank, SharedFind};
 use std::alloc::Global;
-use std::io;
 use std::sync::Arc;
 
 /// A set of the address 192.0.2.1. None if the TTL is 0.
@@ -26,7 +25,8 @@ fn held_ttl(alloc: Global, ttl: u32) -> anyhow::Result<Option<u32>> {
     Ok(one(alloc, ttl)?.map(|find| find.ttl))
 }
 
-fn times_to_live(checks: &mut Checks, alloc: Global) -> anyhow::Result<()> {
+/// A find keeps its time to live up to the longest there is. With a time of 0 there is no find.
+pub fn times_to_live(checks: &mut Checks, alloc: Global) -> anyhow::Result<()> {
     for (ttl, held) in [
         (0, None),
         (1, Some(1)),
@@ -39,7 +39,8 @@ fn times_to_live(checks: &mut Checks, alloc: Global) -> anyhow::Result<()> {
     Ok(())
 }
 
-fn no_data(checks: &mut Checks, alloc: Global) -> anyhow::Result<()> {
+/// A set without data is no find.
+pub fn no_data(checks: &mut Checks, alloc: Global) -> anyhow::Result<()> {
     let data = Items::new(Vec::new(alloc));
     let find = Find::new(Name::root(alloc), 1, Rank::Answer, 60, data);
     checks.that(find.map(|find| find.ttl) == None);
@@ -47,7 +48,7 @@ fn no_data(checks: &mut Checks, alloc: Global) -> anyhow::Result<()> {
 }
 
 /// A cell holds to the last moment there is, and reads an earlier one as its own.
-fn last_moment(checks: &mut Checks, alloc: Global) -> anyhow::Result<()> {
+pub fn last_moment(checks: &mut Checks, alloc: Global) -> anyhow::Result<()> {
     let high = address(alloc, b"a.test", Rank::Answer, 60)?;
     let low = address(alloc, b"a.test", Rank::Additional, 60)?;
     let mut cell = Cell::empty();
@@ -58,7 +59,8 @@ fn last_moment(checks: &mut Checks, alloc: Global) -> anyhow::Result<()> {
     Ok(())
 }
 
-fn end_of_life(checks: &mut Checks, alloc: Global) -> anyhow::Result<()> {
+/// A cell shows its find up to the last second of its life.
+pub fn end_of_life(checks: &mut Checks, alloc: Global) -> anyhow::Result<()> {
     let find = address(alloc, b"a.test", Rank::Answer, 60)?;
     let mut cell = Cell::empty();
     checks.that(cell.admit(find.find(), 7, 0) == Fate::Taken);
@@ -74,7 +76,8 @@ fn by_arc(alloc: Global) -> anyhow::Result<SharedFind> {
     Ok(SharedFind::from(Arc::new(alloc, find)?))
 }
 
-fn owners(checks: &mut Checks, alloc: Global) -> anyhow::Result<()> {
+/// A find is the same whoever shares it.
+pub fn owners(checks: &mut Checks, alloc: Global) -> anyhow::Result<()> {
     let shared = address(alloc, b"a.test", Rank::Answer, 60)?;
     let other = shared.share()?;
     let again = SharedFind::from(shared.into_arc());
@@ -84,18 +87,4 @@ fn owners(checks: &mut Checks, alloc: Global) -> anyhow::Result<()> {
     checks.that(!again.find().touches(&Name::root(alloc), 1));
     checks.that(made == other);
     Ok(())
-}
-
-/// Runs the tests of this file.
-pub fn tests<R: Print + Eprint>(rt: &R, checks: &mut Checks, alloc: Global) -> io::Result<()> {
-    let ended = times_to_live(checks, alloc);
-    checks.end(rt, "cells::times_to_live", ended)?;
-    let ended = no_data(checks, alloc);
-    checks.end(rt, "cells::no_data", ended)?;
-    let ended = last_moment(checks, alloc);
-    checks.end(rt, "cells::last_moment", ended)?;
-    let ended = end_of_life(checks, alloc);
-    checks.end(rt, "cells::end_of_life", ended)?;
-    let ended = owners(checks, alloc);
-    checks.end(rt, "cells::owners", ended)
 }

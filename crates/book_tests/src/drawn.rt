@@ -13,7 +13,6 @@ use dns_text::{Question, types};
 use ranked::{Flush, Rank, Reach, SharedFind};
 use shelf::Shelf;
 use std::alloc::Global;
-use std::io;
 
 /// Numbers by chance, from a seed.
 #[derive(Drop)]
@@ -384,17 +383,11 @@ fn course(checks: &mut Checks, alloc: Global, seed: u64, names: u16) -> anyhow::
 }
 
 /// Caches of fewer than 256 mixed names and of more.
-fn flushes_that_go_leave_the_same(checks: &mut Checks, alloc: Global) -> anyhow::Result<()> {
+pub fn flushes_that_go_leave_the_same(checks: &mut Checks, alloc: Global) -> anyhow::Result<()> {
     for seed in 0..5u64 {
         for names in [60, 200, 320, 380] {
             course(checks, alloc, seed, names)?;
         }
     }
     Ok(())
-}
-
-/// Runs the tests of this file.
-pub fn tests<R: Print + Eprint>(rt: &R, checks: &mut Checks, alloc: Global) -> io::Result<()> {
-    let ended = flushes_that_go_leave_the_same(checks, alloc);
-    checks.end(rt, "drawn::flushes_that_go_leave_the_same", ended)
 }

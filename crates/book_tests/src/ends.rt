@@ -3,10 +3,13 @@
 use crate::checks::Checks;
 use anyhow::anyhow;
 use std::alloc::Global;
-use std::io;
 use winner_tree::WinnerTree;
 
-fn finds_the_positions_that_have_ended(checks: &mut Checks, alloc: Global) -> anyhow::Result<()> {
+/// The tree finds the first position that has ended, after each change of it.
+pub fn finds_the_positions_that_have_ended(
+    checks: &mut Checks,
+    alloc: Global,
+) -> anyhow::Result<()> {
     let mut tree = WinnerTree::new(alloc);
     for end in [50, 20, 70, 40, 60] {
         tree.push(end)?;
@@ -31,10 +34,4 @@ fn finds_the_positions_that_have_ended(checks: &mut Checks, alloc: Global) -> an
     tree.end_all();
     checks.that(tree.first_ended(0) == Some(0));
     Ok(())
-}
-
-/// Runs the tests of this file.
-pub fn tests<R: Print + Eprint>(rt: &R, checks: &mut Checks, alloc: Global) -> io::Result<()> {
-    let ended = finds_the_positions_that_have_ended(checks, alloc);
-    checks.end(rt, "ends::finds_the_positions_that_have_ended", ended)
 }

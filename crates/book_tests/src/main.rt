@@ -34,9 +34,10 @@ mod turns; // tests: a sweep in turns, after a flush has gone
 mod drawn; // tests: drawn calls to two caches, one of which is swept whole
 mod books; // tests: the plain book
 mod shared; // tests: one book for two callers
+mod all_tests; // every test, in the order in which they run
 mod drawn_calls; // drawn calls of books
 
-use checks::Checks;
+use all_tests::run_tests;
 use dns_text::Shared;
 use drawn_calls::both::both;
 use drawn_calls::callers::eight;
@@ -55,23 +56,6 @@ use std::thread::Threads;
 use std::{env, io};
 use stop::Stop;
 use undo_book::{PlainBook, ShelfBook};
-
-/// Runs all tests.
-fn run_tests<R: Print + Eprint + Threads + Wait + Sync>(
-    rt: &R,
-    alloc: Global,
-) -> anyhow::Result<()> {
-    let mut checks = Checks::new();
-    cells::tests(rt, &mut checks, alloc)?;
-    ends::tests(rt, &mut checks, alloc)?;
-    shelves::tests(rt, &mut checks, alloc)?;
-    oldest::tests(rt, &mut checks, alloc)?;
-    turns::tests(rt, &mut checks, alloc)?;
-    drawn::tests(rt, &mut checks, alloc)?;
-    books::tests(rt, &mut checks, alloc)?;
-    shared::tests(rt, &mut checks, alloc)?;
-    checks.conclude(rt)
-}
 
 /// What closing a book comes to, whose window can have so many calls. None if it is not closed.
 fn one_book<B: Book + Send + Sync, L: CallLedger + Send + Sync, R: Threads + Wait + Sync>(

@@ -10,7 +10,6 @@ use dns_text::types;
 use ranked::{Flush, Rank, Reach};
 use shelf::Shelf;
 use std::alloc::Global;
-use std::io;
 
 fn is_oldest(shelf: &Shelf, moment: u64, owner: &Name) -> bool
     requires { IsShelf shelf.now }
@@ -43,7 +42,10 @@ fn alive_without_a_flush(
 }
 
 /// A name that only an undo would bring back is there to be forgotten.
-fn a_name_that_is_alive_without_a_flush(checks: &mut Checks, alloc: Global) -> anyhow::Result<()> {
+pub fn a_name_that_is_alive_without_a_flush(
+    checks: &mut Checks,
+    alloc: Global,
+) -> anyhow::Result<()> {
     alive_without_a_flush(checks, alloc, &mut Shelf::new(alloc, 1))
 }
 
@@ -68,7 +70,7 @@ fn in_order(checks: &mut Checks, alloc: Global, shelf: &mut Shelf) -> anyhow::Re
 }
 
 /// Of names that end in the same second the first in their order comes first, whenever they came.
-fn names_in_the_order_of_their_ends(checks: &mut Checks, alloc: Global) -> anyhow::Result<()> {
+pub fn names_in_the_order_of_their_ends(checks: &mut Checks, alloc: Global) -> anyhow::Result<()> {
     in_order(checks, alloc, &mut Shelf::new(alloc, 3))
 }
 
@@ -97,7 +99,7 @@ fn in_one_second(checks: &mut Checks, alloc: Global, shelf: &mut Shelf) -> anyho
 }
 
 /// Names that end in the same second go in their order, also once a sweep has noted the second.
-fn names_that_end_in_one_second(checks: &mut Checks, alloc: Global) -> anyhow::Result<()> {
+pub fn names_that_end_in_one_second(checks: &mut Checks, alloc: Global) -> anyhow::Result<()> {
     in_one_second(checks, alloc, &mut Shelf::new(alloc, 5))
 }
 
@@ -124,7 +126,7 @@ fn short_and_long(checks: &mut Checks, alloc: Global, shelf: &mut Shelf) -> anyh
 }
 
 /// The last find of a name counts, whatever else it has that ends sooner.
-fn short_and_long_data_of_one_name(checks: &mut Checks, alloc: Global) -> anyhow::Result<()> {
+pub fn short_and_long_data_of_one_name(checks: &mut Checks, alloc: Global) -> anyhow::Result<()> {
     short_and_long(checks, alloc, &mut Shelf::new(alloc, 3))
 }
 
@@ -148,7 +150,7 @@ fn in_turn(checks: &mut Checks, alloc: Global, shelf: &mut Shelf) -> anyhow::Res
 }
 
 /// However the names came, each is the next to go once those before it have gone: by its second, and then by its letter.
-fn names_that_go_one_by_one(checks: &mut Checks, alloc: Global) -> anyhow::Result<()> {
+pub fn names_that_go_one_by_one(checks: &mut Checks, alloc: Global) -> anyhow::Result<()> {
     in_turn(checks, alloc, &mut Shelf::new(alloc, 26))
 }
 
@@ -181,22 +183,6 @@ fn flushed_and_undone(checks: &mut Checks, alloc: Global, shelf: &mut Shelf) -> 
 }
 
 /// A flush that can be undone leaves the find that it hides alive. Once it is permanent, the find is gone.
-fn a_name_that_is_flushed_for_good(checks: &mut Checks, alloc: Global) -> anyhow::Result<()> {
+pub fn a_name_that_is_flushed_for_good(checks: &mut Checks, alloc: Global) -> anyhow::Result<()> {
     flushed_and_undone(checks, alloc, &mut Shelf::new(alloc, 2))
-}
-
-/// Runs the tests of this file.
-pub fn tests<R: Print + Eprint>(rt: &R, checks: &mut Checks, alloc: Global) -> io::Result<()> {
-    let ended = a_name_that_is_alive_without_a_flush(checks, alloc);
-    checks.end(rt, "oldest::a_name_that_is_alive_without_a_flush", ended)?;
-    let ended = names_in_the_order_of_their_ends(checks, alloc);
-    checks.end(rt, "oldest::names_in_the_order_of_their_ends", ended)?;
-    let ended = names_that_end_in_one_second(checks, alloc);
-    checks.end(rt, "oldest::names_that_end_in_one_second", ended)?;
-    let ended = short_and_long_data_of_one_name(checks, alloc);
-    checks.end(rt, "oldest::short_and_long_data_of_one_name", ended)?;
-    let ended = names_that_go_one_by_one(checks, alloc);
-    checks.end(rt, "oldest::names_that_go_one_by_one", ended)?;
-    let ended = a_name_that_is_flushed_for_good(checks, alloc);
-    checks.end(rt, "oldest::a_name_that_is_flushed_for_good", ended)
 }

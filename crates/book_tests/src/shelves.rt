@@ -11,7 +11,6 @@ use dns_text::{Question, types};
 use ranked::{Flush, Rank, Reach, SharedFind};
 use shelf::{Shelf, StoreFault};
 use std::alloc::Global;
-use std::io;
 
 /// The address of a name, which lives for 60 seconds.
 fn find(alloc: Global, owner: &[u8]) -> anyhow::Result<SharedFind> {
@@ -46,7 +45,7 @@ fn undone_and_redone(checks: &mut Checks, alloc: Global, shelf: &mut Shelf) -> a
 }
 
 /// An undo of a flush brings back what it emptied, and a redo empties it again.
-fn a_flush_is_undone_and_redone(checks: &mut Checks, alloc: Global) -> anyhow::Result<()> {
+pub fn a_flush_is_undone_and_redone(checks: &mut Checks, alloc: Global) -> anyhow::Result<()> {
     undone_and_redone(checks, alloc, &mut Shelf::new(alloc, 1))
 }
 
@@ -71,7 +70,7 @@ fn cached_in_both(checks: &mut Checks, alloc: Global, shelf: &mut Shelf) -> anyh
 }
 
 /// What came between a flush and its undo is there with the flush and without it.
-fn a_find_is_cached_in_both_versions(checks: &mut Checks, alloc: Global) -> anyhow::Result<()> {
+pub fn a_find_is_cached_in_both_versions(checks: &mut Checks, alloc: Global) -> anyhow::Result<()> {
     cached_in_both(
         checks,
         alloc,
@@ -94,7 +93,7 @@ fn full_for_new(checks: &mut Checks, alloc: Global, shelf: &mut Shelf) -> anyhow
 }
 
 /// A new name is one too many, and the one that is there is not.
-fn full_for_a_new_name_alone(checks: &mut Checks, alloc: Global) -> anyhow::Result<()> {
+pub fn full_for_a_new_name_alone(checks: &mut Checks, alloc: Global) -> anyhow::Result<()> {
     full_for_new(checks, alloc, &mut Shelf::new(alloc, 1))
 }
 
@@ -129,7 +128,7 @@ fn kept_after_flushes(checks: &mut Checks, alloc: Global, shelf: &mut Shelf) -> 
 }
 
 /// Versions that are empty alike are one cell, and so are those that hold one find.
-fn equal_neighbours_are_one_cell(checks: &mut Checks, alloc: Global) -> anyhow::Result<()> {
+pub fn equal_neighbours_are_one_cell(checks: &mut Checks, alloc: Global) -> anyhow::Result<()> {
     kept_after_flushes(checks, alloc, &mut Shelf::new(alloc, 1))
 }
 
@@ -167,7 +166,10 @@ fn reached_later(checks: &mut Checks, alloc: Global, shelf: &mut Shelf) -> anyho
 }
 
 /// A permanent flush of everything is seen at once. It reaches 256 names then, and as many at each later admission.
-fn a_permanent_flush_reaches_names_later(checks: &mut Checks, alloc: Global) -> anyhow::Result<()> {
+pub fn a_permanent_flush_reaches_names_later(
+    checks: &mut Checks,
+    alloc: Global,
+) -> anyhow::Result<()> {
     reached_later(checks, alloc, &mut Shelf::new(alloc, 301))
 }
 
@@ -187,29 +189,9 @@ fn swept_in_turns(checks: &mut Checks, alloc: Global, shelf: &mut Shelf) -> anyh
 }
 
 /// A turn of a sweep visits 256 names at most. The last turn says that no more is left.
-fn a_sweep_in_turns_removes_what_a_sweep_does(
+pub fn a_sweep_in_turns_removes_what_a_sweep_does(
     checks: &mut Checks,
     alloc: Global,
 ) -> anyhow::Result<()> {
     swept_in_turns(checks, alloc, &mut Shelf::new(alloc, 300))
-}
-
-/// Runs the tests of this file.
-pub fn tests<R: Print + Eprint>(rt: &R, checks: &mut Checks, alloc: Global) -> io::Result<()> {
-    let ended = a_flush_is_undone_and_redone(checks, alloc);
-    checks.end(rt, "shelves::a_flush_is_undone_and_redone", ended)?;
-    let ended = a_find_is_cached_in_both_versions(checks, alloc);
-    checks.end(rt, "shelves::a_find_is_cached_in_both_versions", ended)?;
-    let ended = full_for_a_new_name_alone(checks, alloc);
-    checks.end(rt, "shelves::full_for_a_new_name_alone", ended)?;
-    let ended = equal_neighbours_are_one_cell(checks, alloc);
-    checks.end(rt, "shelves::equal_neighbours_are_one_cell", ended)?;
-    let ended = a_permanent_flush_reaches_names_later(checks, alloc);
-    checks.end(rt, "shelves::a_permanent_flush_reaches_names_later", ended)?;
-    let ended = a_sweep_in_turns_removes_what_a_sweep_does(checks, alloc);
-    checks.end(
-        rt,
-        "shelves::a_sweep_in_turns_removes_what_a_sweep_does",
-        ended,
-    )
 }

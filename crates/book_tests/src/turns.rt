@@ -15,7 +15,6 @@ use history::{Ask, Book, Command, Event, Seen, StepFault};
 use ranked::{Flush, Rank, Reach};
 use shelf::{Shelf, StoreFault};
 use std::alloc::Global;
-use std::io;
 
 /// The place of the name that expires first. A turn comes to it after 256 names that wait for a visit.
 const SHORT: u16 = 254;
@@ -98,7 +97,10 @@ fn flush_of_another_name(
 }
 
 /// A flush that is dropped has each name with several versions visited, also if it covers none of them.
-fn a_flush_that_is_dropped_fills_a_turn(checks: &mut Checks, alloc: Global) -> anyhow::Result<()> {
+pub fn a_flush_that_is_dropped_fills_a_turn(
+    checks: &mut Checks,
+    alloc: Global,
+) -> anyhow::Result<()> {
     flush_of_another_name(checks, alloc, &mut Shelf::new(alloc, 301))
 }
 
@@ -114,7 +116,7 @@ fn no_flush(checks: &mut Checks, alloc: Global, shelf: &mut Shelf) -> anyhow::Re
 }
 
 /// A number of which no flush is kept leaves no name in doubt.
-fn a_number_that_is_not_kept_leaves_no_name_in_doubt(
+pub fn a_number_that_is_not_kept_leaves_no_name_in_doubt(
     checks: &mut Checks,
     alloc: Global,
 ) -> anyhow::Result<()> {
@@ -230,20 +232,6 @@ fn full_between_turns<B: Book>(
 }
 
 /// Between two turns the book is full, since the turn visited other names than the one that has expired.
-fn a_book_is_full_between_turns(checks: &mut Checks, alloc: Global) -> anyhow::Result<()> {
+pub fn a_book_is_full_between_turns(checks: &mut Checks, alloc: Global) -> anyhow::Result<()> {
     full_between_turns(checks, alloc, shelf_book(alloc, 64, 281)?)
-}
-
-/// Runs the tests of this file.
-pub fn tests<R: Print + Eprint>(rt: &R, checks: &mut Checks, alloc: Global) -> io::Result<()> {
-    let ended = a_flush_that_is_dropped_fills_a_turn(checks, alloc);
-    checks.end(rt, "turns::a_flush_that_is_dropped_fills_a_turn", ended)?;
-    let ended = a_number_that_is_not_kept_leaves_no_name_in_doubt(checks, alloc);
-    checks.end(
-        rt,
-        "turns::a_number_that_is_not_kept_leaves_no_name_in_doubt",
-        ended,
-    )?;
-    let ended = a_book_is_full_between_turns(checks, alloc);
-    checks.end(rt, "turns::a_book_is_full_between_turns", ended)
 }

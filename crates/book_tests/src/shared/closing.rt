@@ -11,7 +11,6 @@ use anyhow::anyhow;
 use history::{Book, Reply};
 use shared_book::{Blank, CallLedger, CloseFault, Kept, NotClosed, Pass, Receipt, SharedBook};
 use std::alloc::Global;
-use std::io;
 use std::marker::Brand;
 use std::sync::Wait;
 use std::thread::Threads;
@@ -210,7 +209,8 @@ fn closed_as<R: Threads + Wait + Sync>(
 /// The passes are given up when closing is asked first, so all six calls are missing then.
 const GIVEN_UP: Option<CloseFault> = Some(CloseFault::Missing { count: 6 });
 
-fn receipts_come_in_any_order<R: Threads + Wait + Sync>(
+/// A book is closed whatever the order of the receipts.
+pub fn receipts_come_in_any_order<R: Threads + Wait + Sync>(
     rt: &R,
     checks: &mut Checks,
     alloc: Global,
@@ -223,7 +223,8 @@ fn receipts_come_in_any_order<R: Threads + Wait + Sync>(
     Ok(())
 }
 
-fn some_are_missing<R: Threads + Wait + Sync>(
+/// Closing says how many receipts are missing.
+pub fn some_are_missing<R: Threads + Wait + Sync>(
     rt: &R,
     checks: &mut Checks,
     alloc: Global,
@@ -236,7 +237,8 @@ fn some_are_missing<R: Threads + Wait + Sync>(
     Ok(())
 }
 
-fn one_is_not_in_the_record<R: Threads + Wait + Sync>(
+/// Closing names the first receipt that is not in the window.
+pub fn one_is_not_in_the_record<R: Threads + Wait + Sync>(
     rt: &R,
     checks: &mut Checks,
     alloc: Global,
@@ -253,18 +255,4 @@ fn one_is_not_in_the_record<R: Threads + Wait + Sync>(
         checks.that(told == (Some(CloseFault::Mismatch { number }), 6, GIVEN_UP));
     }
     Ok(())
-}
-
-/// Runs the tests of this file.
-pub fn tests<R: Print + Eprint + Threads + Wait + Sync>(
-    rt: &R,
-    checks: &mut Checks,
-    alloc: Global,
-) -> io::Result<()> {
-    let ended = receipts_come_in_any_order(rt, checks, alloc);
-    checks.end(rt, "shared::closing::receipts_come_in_any_order", ended)?;
-    let ended = some_are_missing(rt, checks, alloc);
-    checks.end(rt, "shared::closing::some_are_missing", ended)?;
-    let ended = one_is_not_in_the_record(rt, checks, alloc);
-    checks.end(rt, "shared::closing::one_is_not_in_the_record", ended)
 }

@@ -6,7 +6,6 @@ use crate::new_books::plain_books;
 use history::{Book, MakeFault};
 use shared_book::{Blank, CallLedger, MOST_RECORDED, SharedBook};
 use std::alloc::Global;
-use std::io;
 use std::marker::Brand;
 use std::sync::Wait;
 use undo_book::PlainBook;
@@ -32,7 +31,12 @@ fn made_as<R: Wait>(rt: &R, alloc: Global, parts: u64, limit: u64) -> Result<boo
     made::<PlainBook, Brand, R>(rt, alloc, Blank::new(parts), book, opening, limit)
 }
 
-fn settings_have_ranges<R: Wait>(rt: &R, checks: &mut Checks, alloc: Global) -> anyhow::Result<()> {
+/// The parts and the window have ranges.
+pub fn settings_have_ranges<R: Wait>(
+    rt: &R,
+    checks: &mut Checks,
+    alloc: Global,
+) -> anyhow::Result<()> {
     for (parts, limit) in [(2, 0), (2, MOST_RECORDED + 1), (0, 1)] {
         checks.that(made_as(rt, alloc, parts, limit) == Err(MakeFault::BadSettings));
     }
@@ -40,23 +44,12 @@ fn settings_have_ranges<R: Wait>(rt: &R, checks: &mut Checks, alloc: Global) -> 
     Ok(())
 }
 
-fn one_part_is_not_split<R: Wait>(
+/// A pass of one part is not split.
+pub fn one_part_is_not_split<R: Wait>(
     rt: &R,
     checks: &mut Checks,
     alloc: Global,
 ) -> anyhow::Result<()> {
     checks.that(made_as(rt, alloc, 1, 1) == Ok(false));
     Ok(())
-}
-
-/// Runs the tests of this file.
-pub fn tests<R: Print + Eprint + Wait>(
-    rt: &R,
-    checks: &mut Checks,
-    alloc: Global,
-) -> io::Result<()> {
-    let ended = settings_have_ranges(rt, checks, alloc);
-    checks.end(rt, "shared::limits::settings_have_ranges", ended)?;
-    let ended = one_part_is_not_split(rt, checks, alloc);
-    checks.end(rt, "shared::limits::one_part_is_not_split", ended)
 }

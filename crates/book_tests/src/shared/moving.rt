@@ -12,7 +12,6 @@ use history::Book;
 use local_zone::ZoneType;
 use shared_book::{Blank, CallLedger, CloseFault, Kept, NotClosed, Receipt, SharedBook};
 use std::alloc::Global;
-use std::io;
 use std::marker::Brand;
 use std::sync::Wait;
 use undo_book::PlainBook;
@@ -94,7 +93,12 @@ fn closed_as<R: Wait>(rt: &R, alloc: Global, case: Case) -> anyhow::Result<Found
     closed::<PlainBook, Brand, R>(rt, alloc, Blank::new(1), book, opening, case)
 }
 
-fn a_window_moves_on<R: Wait>(rt: &R, checks: &mut Checks, alloc: Global) -> anyhow::Result<()> {
+/// Calls that the window has moved on past need no receipt. Those in it do.
+pub fn a_window_moves_on<R: Wait>(
+    rt: &R,
+    checks: &mut Checks,
+    alloc: Global,
+) -> anyhow::Result<()> {
     let cases = [
         (Case::All, None),
         (Case::ThirdAndFourth, None),
@@ -111,14 +115,4 @@ fn a_window_moves_on<R: Wait>(rt: &R, checks: &mut Checks, alloc: Global) -> any
         checks.that(told == expected);
     }
     Ok(())
-}
-
-/// Runs the tests of this file.
-pub fn tests<R: Print + Eprint + Wait>(
-    rt: &R,
-    checks: &mut Checks,
-    alloc: Global,
-) -> io::Result<()> {
-    let ended = a_window_moves_on(rt, checks, alloc);
-    checks.end(rt, "shared::moving::a_window_moves_on", ended)
 }

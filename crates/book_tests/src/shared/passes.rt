@@ -10,7 +10,6 @@ use crate::shared::closing::{Told, told};
 use history::{Book, StepFault};
 use shared_book::{Blank, CallFault, CallLedger, CloseFault, SharedBook};
 use std::alloc::Global;
-use std::io;
 use std::marker::Brand;
 use std::sync::Wait;
 use undo_book::PlainBook;
@@ -43,7 +42,8 @@ fn refused_and_taken_as<R: Wait>(
     refused_and_taken::<PlainBook, Brand, R>(rt, alloc, Blank::new(1), book, opening)
 }
 
-fn a_refused_call_is_not_recorded<R: Wait>(
+/// A call that the book refuses is not in the window.
+pub fn a_refused_call_is_not_recorded<R: Wait>(
     rt: &R,
     checks: &mut Checks,
     alloc: Global,
@@ -86,7 +86,8 @@ fn seen_by_both_as<R: Wait>(rt: &R, alloc: Global, in_order: bool) -> anyhow::Re
     seen_by_both::<PlainBook, Brand, R>(rt, alloc, Blank::new(2), book, opening, in_order)
 }
 
-fn a_joined_pass_has_seen_what_either_had<R: Wait>(
+/// Two passes that are joined have seen what either had.
+pub fn a_joined_pass_has_seen_what_either_had<R: Wait>(
     rt: &R,
     checks: &mut Checks,
     alloc: Global,
@@ -96,20 +97,4 @@ fn a_joined_pass_has_seen_what_either_had<R: Wait>(
         checks.that(seen == 2);
     }
     Ok(())
-}
-
-/// Runs the tests of this file.
-pub fn tests<R: Print + Eprint + Wait>(
-    rt: &R,
-    checks: &mut Checks,
-    alloc: Global,
-) -> io::Result<()> {
-    let ended = a_refused_call_is_not_recorded(rt, checks, alloc);
-    checks.end(rt, "shared::passes::a_refused_call_is_not_recorded", ended)?;
-    let ended = a_joined_pass_has_seen_what_either_had(rt, checks, alloc);
-    checks.end(
-        rt,
-        "shared::passes::a_joined_pass_has_seen_what_either_had",
-        ended,
-    )
 }

@@ -8,7 +8,6 @@ use history::{Book, Desk, Event, Reply};
 use ranked::Rank;
 use shared_book::{Blank, CallLedger, Seat, SharedBook};
 use std::alloc::Global;
-use std::io;
 use std::marker::Brand;
 use std::sync::Wait;
 use undo_book::ShelfBook;
@@ -60,7 +59,8 @@ fn refilled_shelf<R: Wait>(rt: &R, alloc: Global, is_thorough: bool) -> anyhow::
     refilled::<ShelfBook, Brand, R>(rt, alloc, Blank::new(1), book, opening, is_thorough)
 }
 
-fn a_worker_sweeps_until_there_is_room<R: Wait>(
+/// A worker's sweep ends as soon as there is room.
+pub fn a_worker_sweeps_until_there_is_room<R: Wait>(
     rt: &R,
     checks: &mut Checks,
     alloc: Global,
@@ -69,27 +69,12 @@ fn a_worker_sweeps_until_there_is_room<R: Wait>(
     Ok(())
 }
 
-fn an_operator_sweeps_everything<R: Wait>(
+/// An operator's sweep ends when nothing is left.
+pub fn an_operator_sweeps_everything<R: Wait>(
     rt: &R,
     checks: &mut Checks,
     alloc: Global,
 ) -> anyhow::Result<()> {
     checks.that(refilled_shelf(rt, alloc, true)? == u32::from(ROOM));
     Ok(())
-}
-
-/// Runs the tests of this file.
-pub fn tests<R: Print + Eprint + Wait>(
-    rt: &R,
-    checks: &mut Checks,
-    alloc: Global,
-) -> io::Result<()> {
-    let ended = a_worker_sweeps_until_there_is_room(rt, checks, alloc);
-    checks.end(
-        rt,
-        "shared::sweeping::a_worker_sweeps_until_there_is_room",
-        ended,
-    )?;
-    let ended = an_operator_sweeps_everything(rt, checks, alloc);
-    checks.end(rt, "shared::sweeping::an_operator_sweeps_everything", ended)
 }
