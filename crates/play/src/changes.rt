@@ -1,17 +1,25 @@
 //! Changes of a table that a line keeps, or takes back.
 
-ghost use Rattle.std.specs.Prelude.{IfOk, IfSome};
+ghost use Rattle.std.specs.Prelude.{IfOk};
 
+use crate::lines::{Obeys, obey_input};
+use crate::stop::Stop;
 use dns_name::NoMemory;
+use dns_text::next_word;
 use std::alloc::Global;
+use std::fmt::Display;
+use std::io::{BufRead, Write};
 
 /// A table that lines change.
-pub trait Changing {
+pub trait Changing: Drop {
     /// The change that a line asks for.
     type Change: Drop;
 
     /// What takes a change back.
     type Saved: Drop;
+
+    /// Why the table does not allow a change.
+    type Fault: Display + Drop;
 
     /// The saved value takes back the last change of this table.
     ghost takes_back: { Self.Saved → Self → Type 0 };
@@ -19,14 +27,9 @@ pub trait Changing {
     /// The change that a text asks for.
     fn change_in(alloc: Global, text: &[u8]) -> Option<Self::Change>;
 
-    /// Makes a change. If the table does not allow it, it writes why, and returns None.
-    fn make(
-        &mut self,
-        alloc: Global,
-        new: Self::Change,
-        out: &mut Vec<u8>,
-    ) -> Result<Option<Self::Saved>, NoMemory>
-        ensures { IfOk result (λ made. IfSome made (λ saved. takes_back saved self.new)) };
+    /// Makes a change.
+    fn make(&mut self, new: Self::Change) -> Result<Self::Saved, Self::Fault>
+        ensures { IfOk result (λ saved. takes_back saved self.new) };
 
     /// Takes the last change back.
     fn take_back(&mut self, saved: Self::Saved) -> Result<(), NoMemory>
@@ -34,55 +37,106 @@ pub trait Changing {
 
     /// Writes what the table has.
     fn push_rows(&self, alloc: Global, out: &mut Vec<u8>) -> Result<(), NoMemory>;
+
+    /// Obeys a line of this table alone, by its first word.
+    fn obey_own(
+        &mut self,
+        alloc: Global,
+        word: &[u8],
+        rest: &[u8],
+        out: &mut Vec<u8>,
+    ) -> Result<(), NoMemory>;
 }
 
-/// Makes a change and keeps it.
-fn keep<T: Changing>(
+/// Writes why a change is not made.
+fn push_fault<F: Display + Drop>(
     alloc: Global,
-    table: &mut T,
-    new: T::Change,
+    fault: F,
     out: &mut Vec<u8>,
 ) -> Result<(), NoMemory> {
-    // A call drops it: the prover follows any other drop variant by variant.
-    drop(table.make(alloc, new, out)?);
-    Ok(())
+    let text = format!(in alloc; "{fault}\n")?;
+    out.extend_from_slice(text.as_str().as_bytes())
 }
 
-/// Makes a change, writes what the table has, and takes the change back.
-fn try_out<T: Changing>(
+/// Writes what the table has, and takes the last change back.
+fn show_and_take_back<T: Changing>(
     alloc: Global,
     table: &mut T,
-    new: T::Change,
+    saved: T::Saved,
     out: &mut Vec<u8>,
-) -> Result<(), NoMemory> {
-    match table.make(alloc, new, out)? {
-        Some(saved) => match table.push_rows(alloc, out) {
-            Ok(()) => table.take_back(saved),
-            Err(fault) => {
-                drop(saved);
-                Err(fault)
-            }
-        },
-        None => Ok(()),
+) -> Result<(), NoMemory>
+    requires { T.takes_back saved table.old }
+{
+    match table.push_rows(alloc, out) {
+        Ok(()) => table.take_back(saved),
+        Err(fault) => {
+            drop(saved);
+            Err(fault)
+        }
     }
 }
 
 /// Makes the change that a text asks for. It is taken back at once unless it is `kept`.
-pub fn obey_change<T: Changing>(
+fn obey_change<T: Changing>(
     alloc: Global,
     table: &mut T,
     kept: bool,
     text: &[u8],
     out: &mut Vec<u8>,
 ) -> Result<(), NoMemory> {
-    match T::change_in(alloc, text) {
-        Some(new) => {
+    let Some(new) = T::change_in(alloc, text) else {
+        return out.extend_from_slice(b"what?\n");
+    };
+    match table.make(new) {
+        Ok(saved) => {
             if kept {
-                keep(alloc, table, new, out)
-            } else {
-                try_out(alloc, table, new, out)
+                // A call drops it: the prover follows any other drop variant by variant.
+                drop(saved);
+                return Ok(());
             }
+            show_and_take_back(alloc, table, saved, out)
         }
-        None => out.extend_from_slice(b"what?\n"),
+        Err(fault) => push_fault(alloc, fault, out),
     }
+}
+
+/// Does what a line says, and writes what became of it.
+fn obey_line<T: Changing>(
+    alloc: Global,
+    table: &mut T,
+    line: &[u8],
+    out: &mut Vec<u8>,
+) -> Result<(), NoMemory> {
+    let Some((word, rest)) = next_word(line) else {
+        return Ok(());
+    };
+    match word {
+        b"#" => Ok(()),
+        b"do" => obey_change(alloc, table, true, rest, out),
+        b"undo" => obey_change(alloc, table, false, rest, out),
+        b"list" => table.push_rows(alloc, out),
+        _ => table.obey_own(alloc, word, rest, out),
+    }
+}
+
+/// A table whose lines come from standard input.
+#[derive(Drop)]
+struct Played<T> {
+    table: T,
+}
+
+impl<T: Changing> Obeys for Played<T> {
+    fn obey<I: BufRead>(&mut self, rt: &HostRuntime, _: &mut I, line: &[u8]) -> Result<(), Stop> {
+        let mut out = Vec::new(rt.alloc());
+        obey_line(rt.alloc(), &mut self.table, line, &mut out)?;
+        Ok(rt.stdout().write_all(out.as_slice())?)
+    }
+}
+
+/// Obeys lines over a table.
+pub fn play_changes<T: Changing>(rt: &HostRuntime, table: T) -> Result<(), Stop> {
+    let mut played = Played { table };
+    let done = obey_input(rt, &mut played);
+    drop(played);
+    done
 }

@@ -10,23 +10,13 @@
 
 pub mod change; // the change that a line asks for, and making it
 pub mod shown; // stubs as text
-pub mod lines; // a line, obeyed
+pub mod lines; // the table, as lines change it
 
-use crate::lines::{Obeys, obey_input};
+use crate::changes::play_changes;
 use crate::stop::Stop;
-use crate::stubs::lines::obey_stubs;
-use std::io::{BufRead, Write};
 use stub_table::StubTable;
-
-impl Obeys for StubTable {
-    fn obey<I: BufRead>(&mut self, rt: &HostRuntime, _: &mut I, line: &[u8]) -> Result<(), Stop> {
-        let mut out = Vec::new(rt.alloc());
-        obey_stubs(rt.alloc(), self, line, &mut out)?;
-        Ok(rt.stdout().write_all(out.as_slice())?)
-    }
-}
 
 /// Obeys lines over stubs.
 pub fn play_stubs(rt: &HostRuntime) -> Result<(), Stop> {
-    obey_input(rt, &mut StubTable::new(rt.alloc()))
+    play_changes(rt, StubTable::new(rt.alloc()))
 }

@@ -12,23 +12,13 @@
 pub mod change; // the change that a line asks for, and making it
 pub mod full; // a table of as many zones as there may be
 pub mod shown; // tables and answers as text
-pub mod lines; // a line, obeyed
+pub mod lines; // the table, as lines change it
 
-use crate::lines::{Obeys, obey_input};
+use crate::changes::play_changes;
 use crate::stop::Stop;
-use crate::zones::lines::obey_zones;
 use local_zone::ZoneTable;
-use std::io::{BufRead, Write};
-
-impl Obeys for ZoneTable {
-    fn obey<I: BufRead>(&mut self, rt: &HostRuntime, _: &mut I, line: &[u8]) -> Result<(), Stop> {
-        let mut out = Vec::new(rt.alloc());
-        obey_zones(rt.alloc(), self, line, &mut out)?;
-        Ok(rt.stdout().write_all(out.as_slice())?)
-    }
-}
 
 /// Obeys lines over local zones.
 pub fn play_zones(rt: &HostRuntime) -> Result<(), Stop> {
-    obey_input(rt, &mut ZoneTable::new(rt.alloc()))
+    play_changes(rt, ZoneTable::new(rt.alloc()))
 }

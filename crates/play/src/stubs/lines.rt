@@ -1,60 +1,13 @@
-//! A line, obeyed.
+//! Stubs, as a table that lines change.
 
-use crate::changes::{Changing, obey_change};
+use crate::changes::Changing;
 use crate::questions::name_in;
 use crate::stubs::change::{Change, change_in, fill, made};
 use crate::stubs::shown::{push_list, push_stub};
 use dns_name::{Name, NoMemory};
-use dns_text::next_word;
 use std::alloc::Global;
 use std::mem;
 use stub_table::{SavedStubs, StubFault, StubTable};
-
-fn push_fault(alloc: Global, fault: StubFault, out: &mut Vec<u8>) -> Result<(), NoMemory> {
-    let text = format!(in alloc; "{fault}\n")?;
-    out.extend_from_slice(text.as_str().as_bytes())
-}
-
-impl Changing for StubTable {
-    ghost use Rattle.stub_table.specs.Saved.{TakesBack};
-    ghost use Rattle.stub_table.specs.Stubs.{Stubs};
-
-    type Change = Change;
-
-    type Saved = SavedStubs;
-
-    ghost takes_back = { λ saved table. (before : Stubs) × TakesBack saved table before };
-
-    fn change_in(alloc: Global, text: &[u8]) -> Option<Change> {
-        change_in(alloc, text)
-    }
-
-    fn make(
-        &mut self,
-        alloc: Global,
-        new: Change,
-        out: &mut Vec<u8>,
-    ) -> Result<Option<SavedStubs>, NoMemory> {
-        match made(self, new) {
-            Ok(saved) => Ok(Some(saved)),
-            Err(fault) => {
-                push_fault(alloc, fault, out)?;
-                Ok(None)
-            }
-        }
-    }
-
-    fn take_back(&mut self, saved: SavedStubs) -> Result<(), NoMemory> {
-        let mut saved = saved;
-        let done = self.back(&mut saved);
-        drop(saved);
-        done
-    }
-
-    fn push_rows(&self, _: Global, out: &mut Vec<u8>) -> Result<(), NoMemory> {
-        push_list(self, out)
-    }
-}
 
 fn push_closest(table: &StubTable, name: &Name, out: &mut Vec<u8>) -> Result<(), NoMemory> {
     match table.closest(name) {
@@ -69,49 +22,59 @@ fn push_full(alloc: Global, table: &mut StubTable, out: &mut Vec<u8>) -> Result<
     out.extend_from_slice(text.as_str().as_bytes())
 }
 
-fn obey_word(
-    alloc: Global,
-    table: &mut StubTable,
-    word: &[u8],
-    out: &mut Vec<u8>,
-) -> Result<(), NoMemory> {
-    if word == b"list".as_slice() {
-        return push_list(table, out);
-    }
-    if word == b"new".as_slice() {
-        drop(mem::replace(table, StubTable::new(alloc)));
-        return Ok(());
-    }
-    if word == b"fill".as_slice() {
-        return push_full(alloc, table, out);
-    }
-    out.extend_from_slice(b"what?\n")
-}
+impl Changing for StubTable {
+    ghost use Rattle.stub_table.specs.Saved.{TakesBack};
+    ghost use Rattle.stub_table.specs.Stubs.{Stubs};
 
-/// Does what a line says, and writes what became of it.
-pub fn obey_stubs(
-    alloc: Global,
-    table: &mut StubTable,
-    line: &[u8],
-    out: &mut Vec<u8>,
-) -> Result<(), NoMemory> {
-    let Some((word, rest)) = next_word(line) else {
-        return Ok(());
-    };
-    if word == b"#".as_slice() {
-        return Ok(());
+    type Change = Change;
+
+    type Saved = SavedStubs;
+
+    type Fault = StubFault;
+
+    ghost takes_back = { λ saved table. (before : Stubs) × TakesBack saved table before };
+
+    fn change_in(alloc: Global, text: &[u8]) -> Option<Change> {
+        change_in(alloc, text)
     }
-    if word == b"do".as_slice() {
-        return obey_change(alloc, table, true, rest, out);
+
+    fn make(&mut self, new: Change) -> Result<SavedStubs, StubFault> {
+        // An arm each, so that the prover sees what the saved value takes back.
+        match made(self, new) {
+            Ok(saved) => Ok(saved),
+            Err(fault) => Err(fault),
+        }
     }
-    if word == b"undo".as_slice() {
-        return obey_change(alloc, table, false, rest, out);
+
+    fn take_back(&mut self, saved: SavedStubs) -> Result<(), NoMemory> {
+        let mut saved = saved;
+        let done = self.back(&mut saved);
+        drop(saved);
+        done
     }
-    if word == b"closest".as_slice() {
-        return match name_in(alloc, rest) {
-            Some(name) => push_closest(table, &name, out),
-            None => out.extend_from_slice(b"what?\n"),
-        };
+
+    fn push_rows(&self, _: Global, out: &mut Vec<u8>) -> Result<(), NoMemory> {
+        push_list(self, out)
     }
-    obey_word(alloc, table, word, out)
+
+    fn obey_own(
+        &mut self,
+        alloc: Global,
+        word: &[u8],
+        rest: &[u8],
+        out: &mut Vec<u8>,
+    ) -> Result<(), NoMemory> {
+        match word {
+            b"new" => {
+                drop(mem::replace(self, StubTable::new(alloc)));
+                Ok(())
+            }
+            b"fill" => push_full(alloc, self, out),
+            b"closest" => match name_in(alloc, rest) {
+                Some(name) => push_closest(self, &name, out),
+                None => out.extend_from_slice(b"what?\n"),
+            },
+            _ => out.extend_from_slice(b"what?\n"),
+        }
+    }
 }
