@@ -4,7 +4,7 @@ ghost use Rattle.shared_book.specs.Fresh.{CanShare, IsKnownAs};
 
 use crate::drawn_calls::callers::joined;
 use crate::drawn_calls::replayed::closed;
-use crate::drawn_calls::texts::{fault_shown, reply_shown};
+use crate::drawn_calls::texts::{Shows, text_of};
 use crate::events::{of_the_first, of_the_second};
 use crate::handed::{Handed, keep};
 use crate::stop::Stop;
@@ -105,8 +105,8 @@ fn mark<R: Print>(rt: &R, line: &[u8]) -> Result<(), Stop> {
 /// What a call gave, on one line.
 fn answer_shown(alloc: Global, answer: &Answer) -> Result<String, Stop> {
     match answer {
-        Ok(receipt) => reply_shown(alloc, &receipt.reply),
-        Err(CallFault::Step(fault)) => fault_shown(alloc, fault),
+        Ok(receipt) => text_of(alloc, Shows::Reply(&receipt.reply)),
+        Err(CallFault::Step(fault)) => text_of(alloc, Shows::Fault(fault)),
         Err(CallFault::Behind { .. }) => Err(Stop),
     }
 }

@@ -2,7 +2,7 @@
 ghost use Rattle.shared_book.specs.Fresh.{CanShare, IsKnownAs};
 
 use crate::drawn_calls::draws::shared_event;
-use crate::drawn_calls::texts::{entry_shown, fault_shown, reply_shown};
+use crate::drawn_calls::texts::{Shows, text_of};
 use crate::stop::Stop;
 use dns_text::Shared;
 use history::{Book, Event, Reply, StepFault};
@@ -43,8 +43,8 @@ fn show<B: Book, L: CallLedger, R: Print>(
     told: &Result<Reply, StepFault>,
 ) -> Result<(), Stop> {
     let text = match told {
-        Ok(reply) => reply_shown(alloc, reply)?,
-        Err(fault) => fault_shown(alloc, fault)?,
+        Ok(reply) => text_of(alloc, Shows::Reply(reply))?,
+        Err(fault) => text_of(alloc, Shows::Fault(fault))?,
     };
     let shown = println!(rt;
         "{} entries, {} calls, {} cells, seen {}, made {}: {text}",
@@ -102,7 +102,7 @@ pub fn steps<B: Book, L: CallLedger, R: Print>(
         }
     }
     for entry in kept.window() {
-        let text = entry_shown(alloc, entry)?;
+        let text = text_of(alloc, Shows::Entry(entry))?;
         if rt.println(format_args!("{text}")).is_err() {
             return Err(Stop);
         }

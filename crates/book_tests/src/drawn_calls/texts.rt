@@ -112,6 +112,15 @@ fn push_event(alloc: Global, event: &Event, out: &mut Vec<u8>) -> Result<(), NoM
     }
 }
 
+/// What is shown on a line.
+#[derive(Clone, Copy)]
+pub enum Shows<'a> {
+    Reply(&'a Reply),
+    Fault(&'a StepFault),
+    /// A call of the window: its number, its caller, the event and the reply.
+    Entry(&'a Receipt),
+}
+
 fn reply_line(alloc: Global, reply: &Reply) -> Result<Vec<u8>, NoMemory> {
     let mut out = Vec::new(alloc);
     push_reply(alloc, reply, &mut out)?;
@@ -126,6 +135,14 @@ fn entry_line(alloc: Global, entry: &Receipt) -> Result<Vec<u8>, NoMemory> {
     Ok(out)
 }
 
+fn line_of(alloc: Global, shows: Shows<'_>) -> Result<Vec<u8>, NoMemory> {
+    match shows {
+        Shows::Reply(reply) => reply_line(alloc, reply),
+        Shows::Fault(fault) => Ok(format!(in alloc; "{fault}")?.into_bytes()),
+        Shows::Entry(entry) => entry_line(alloc, entry),
+    }
+}
+
 fn as_text(line: Vec<u8>) -> Result<String, Stop> {
     match String::from_utf8(line) {
         Ok(text) => Ok(text),
@@ -133,35 +150,12 @@ fn as_text(line: Vec<u8>) -> Result<String, Stop> {
     }
 }
 
-/// A reply on one line. A text for which there is no memory is made once more.
-pub fn reply_shown(alloc: Global, reply: &Reply) -> Result<String, Stop> {
-    if let Ok(line) = reply_line(alloc, reply) {
+/// What is shown, on one line. A text for which there is no memory is made once more.
+pub fn text_of(alloc: Global, shows: Shows<'_>) -> Result<String, Stop> {
+    if let Ok(line) = line_of(alloc, shows) {
         return as_text(line);
     }
-    match reply_line(alloc, reply) {
-        Ok(line) => as_text(line),
-        Err(_) => Err(Stop),
-    }
-}
-
-/// The words of a fault. If there is no memory for them they are made once more.
-pub fn fault_shown(alloc: Global, fault: &StepFault) -> Result<String, Stop> {
-    if let Ok(text) = format!(in alloc; "{fault}") {
-        return Ok(text);
-    }
-    match format!(in alloc; "{fault}") {
-        Ok(text) => Ok(text),
-        Err(_) => Err(Stop),
-    }
-}
-
-/// A call of the window on one line: its number, its caller, the event and the reply. A text for which there is no memory is
-/// made once more.
-pub fn entry_shown(alloc: Global, entry: &Receipt) -> Result<String, Stop> {
-    if let Ok(line) = entry_line(alloc, entry) {
-        return as_text(line);
-    }
-    match entry_line(alloc, entry) {
+    match line_of(alloc, shows) {
         Ok(line) => as_text(line),
         Err(_) => Err(Stop),
     }
