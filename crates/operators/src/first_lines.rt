@@ -121,10 +121,7 @@ fn refusal_text(
 /// Whether the first word of a line is `status` or `stats`, which only an operator's service answers.
 fn asks_service(alloc: Global, line: &[u8]) -> bool {
     match next_word(line) {
-        Some((word, _)) => matches!(
-            read_control(alloc, word),
-            Ok(Line::Status | Line::Stats)
-        ),
+        Some((word, _)) => matches!(read_control(alloc, word), Ok(Line::Status | Line::Stats)),
         None => false,
     }
 }
