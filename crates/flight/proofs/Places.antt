@@ -104,10 +104,10 @@ module _ (now : ℕ) (origin : Origin) (asker : Asker) (exchanges : List (Option
   )
 
 -- No zone and no network takes places that others need: where nothing changes,
-pub kept_same : (old new : FlightState) → new ≡ old → KeepsPlaces old new
+pub kept_same : (old new : FlightState) → new.exchanges ≡ old.exchanges → KeepsPlaces old new
 kept_same old new same = record {
-  zones = λ zone. inl (omega (arith, ap (waiting_for (is_in_zone zone)) same));
-  networks = λ network. inl (omega (arith, ap (waiting_for (is_in_network network)) same));
+  zones = λ zone. inl (omega (arith, ap (count_for (is_in_zone zone)) same));
+  networks = λ network. inl (omega (arith, ap (count_for (is_in_network network)) same));
 }
 
 -- and where an exchange begins for which there was a place.
@@ -149,7 +149,9 @@ none_at (Some one) is = absurd (cc is)
 -- A question of this origin waits, or nothing changes: it is counted once at most.
 joined : (now : ℕ) (origin : Origin) (old new : FlightState) → WaitsFrom now (λ o. o ≡ origin) old new → (test : Origin → Bool) → waiting_for test new ≤ waiting_for test old + one_if (test origin)
 joined now origin old new waits test = elim waits [
-  | inl same ↦ omega (arith, ap (waiting_for test) same)
+  | inl stays ↦
+      let same : waiting_for test new ≡ waiting_for test old = ap (waiting_for test) stays.same in
+      omega (arith, same)
   | inr begins ↦
       let one = some_at (exchange_at new begins.key) _ begins.begins in
       let more = one_counted test old.exchanges new.exchanges begins.key one.0 (none_at (exchange_at old begins.key) begins.vacant) one.1 begins.others in

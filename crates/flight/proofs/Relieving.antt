@@ -6,7 +6,7 @@ use Rattle.flight.specs.Leaving.{End, Ends}
 use Rattle.flight.specs.Told.{Keeps}
 use Rattle.flight.specs.Waiting.{FlightState, IsAccounted}
 use Rattle.flight.proofs.Accounting.{accounted_then}
-use Rattle.flight.proofs.Flights.{on_or_begun_then, origins_on}
+use Rattle.flight.proofs.Flights.{attempts_on, on_or_begun_then, origins_on}
 use Rattle.flight.proofs.Leaving.{ends_then, one_left}
 use Rattle.flight.proofs.Places.{joins_none_on}
 
@@ -41,6 +41,7 @@ loses_none_then now old between new first mid last before after = record {
   no_more = omega (arith, before.no_more, after.no_more);
   origins = origins_on old between new before.origins after.origins;
   joins_none = joins_none_on old between new before.joins_none after.joins_none;
+  attempts = attempts_on now old between new before.origins before.attempts after.attempts;
   bounded = λ few. after.bounded (before.bounded few);
   limit = after.limit ∙ before.limit;
 }

@@ -1,11 +1,13 @@
 -- Whether a question may begin an exchange, for contracts inside the crate.
-use Rattle.std.specs.Prelude.{◌<◌, ◌+◌, ℕ, max, Option, List, Result, IfErr, OnOk}
+use Rattle.std.specs.Prelude.{◌≡◌, ◌<◌, ◌+◌, ℕ, max, Option, List, Result, IfErr, OnOk}
 use Rattle.flight.specs.declared.asking.Asking.{Asking}
-use Rattle.flight.specs.declared.cause.Unserved.{Unserved}
-use Rattle.flight.specs.declared.cause.Unserved.TheVariants as told
+use Rattle.flight.specs.declared.table.cause.Cause.{Cause}
+use Rattle.flight.specs.declared.table.cause.Unserved.{Unserved}
+use Rattle.flight.specs.declared.table.cause.Unserved.TheVariants as told
 use Rattle.flight.specs.declared.table.Asker.{Asker}
 use Rattle.flight.specs.declared.table.Denied.{Denied}
 use Rattle.flight.specs.declared.table.Denied.TheVariants.{NoMemory, TooLarge, TooLong, TooMany}
+use Rattle.flight.specs.declared.table.MadeRoom.{MadeRoom}
 use Rattle.flight.specs.declared.table.TheConstants.{LAST_BEGINNING}
 use Rattle.flight.specs.Asking.{origin_in}
 use Rattle.flight.specs.Bounds.{KeepsTooMuch}
@@ -42,3 +44,16 @@ BeginsIfItMay result network now asking latest asker exchanges limit = OnOk resu
 -- If a question may not wait, the reason was shown to be so.
 abbrev pub DeniesForReason : {A G K : Type 0} → Result A Denied → (K → ℕ) → ℕ → Asking G K → ℕ → Asker → List (Option UnderWay) → ℕ → Type 0
 DeniesForReason result network now asking latest asker exchanges limit = IfErr result (IsShown network now asking latest asker exchanges limit)
+
+-- A cause has the client of a question that may not wait now, and its reason was shown to be so.
+pub record IsCauseOf {G K : Type 0} (network : K → ℕ) (now : ℕ) (asking : Asking G K) (latest : ℕ) (asker : Asker) (exchanges : List (Option UnderWay)) (limit : ℕ) (cause : Cause K) : Type 0 where
+  pub client : cause.client ≡ asking.client
+  pub reason : Denied
+  pub why : cause.why ≡ why_of reason
+  pub shown : IsShown network now asking latest asker exchanges limit reason
+
+-- Room was made for a question with the octets of its client, and the question is as it was.
+pub record IsRoomFor {G K : Type 0} (octets : List ℕ) (asking : Asking G K) (room : MadeRoom) (asking' : Asking G K) : Type 0 where
+  pub octets_are : room.octets ≡ octets
+  pub kept : room.kept ≡ kept_in asking.task.steps.items
+  pub same : asking' ≡ asking

@@ -58,6 +58,7 @@ pub record EndsLargest (old new : FlightState) : Type 0 where
   pub begun : new.begun ≡ old.begun
   pub latest : new.latest ≡ old.latest
   pub limit : new.limit ≡ old.limit
+  pub tried : new.tried ≡ old.tried
 
 -- As long as those that wait keep more than so much, the one that keeps most ends. Nothing else happens.
 pub data Relieves (most : ℕ) (old : FlightState) : FlightState → Type 0 where

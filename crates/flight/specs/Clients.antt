@@ -11,7 +11,7 @@ use Rattle.flight.specs.Leaving.{Ends, Leaves}
 use Rattle.flight.specs.Origin.{Origin, IsOriginOf}
 use Rattle.flight.specs.Places.{KeepsPlaces}
 use Rattle.flight.specs.Told.{IsGiven}
-use Rattle.flight.specs.Waiting.{FlightState, KeepsOrigins, GoesOnOrBegins, IsAccounted, JoinsNone, WaitsFrom, outstanding}
+use Rattle.flight.specs.Waiting.{Attempts, FlightState, HasQuestion, KeepsOrigins, GoesOnOrBegins, IsAccounted, JoinsNone, WaitsFrom, outstanding}
 
 -- One client is settled: this reply leaves, or none, and nothing else does. No other counter changes, and the port of name servers is the same.
 pub record Settles {W O K : Type 0} (server_port : W → ℕ) (counts : W → Counts) (outbox : W → O) (posts : O → K → List ℕ → O → Type 0) (client : K) (reply : Option (List ℕ))
@@ -49,7 +49,7 @@ abbrev pub SettlesOctets : {W O K : Type 0} → (K → List ℕ → Type 0) → 
 SettlesOctets sent network server_port counts outbox posts now client octets flight old flight' new =
     SettlesOrWaits sent server_port counts outbox posts now client (IsOriginOf octets (max now flight.latest) (network client)) flight old flight' new
 
--- No client is lost, and none is answered twice: each that waited is settled, or still waits. Nothing leaves but the replies of those that are settled. Each exchange under way was under way before or begins now, for a question that waited before. There are no more of them. The bound of what questions keep holds if it held before.
+-- No client is lost, and none is answered twice: each that waited is settled, or still waits. Nothing leaves but the replies of those that are settled. Each exchange under way was under way before or begins now, for a question that waited before. There are no more of them. So it is with each attempt to begin one. The bound of what questions keep holds if it held before.
 pub record LosesNone {W O K : Type 0} (sent : K → List ℕ → Type 0) (server_port : W → ℕ) (counts : W → Counts) (outbox : W → O) (posts : O → K → List ℕ → O → Type 0) (now : ℕ)
     (flight : FlightState) (old : W) (flight' : FlightState) (new : W) : Type 0 where
   pub port : server_port new ≡ server_port old
@@ -59,6 +59,7 @@ pub record LosesNone {W O K : Type 0} (sent : K → List ℕ → Type 0) (server
   pub no_more : outstanding flight' ≤ outstanding flight
   pub origins : KeepsOrigins flight flight'
   pub joins_none : JoinsNone flight flight'
+  pub attempts : Attempts now (HasQuestion flight) flight flight'
   pub bounded : IsBounded flight → IsBounded flight'
   pub limit : flight'.limit ≡ flight.limit
 

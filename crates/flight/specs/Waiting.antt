@@ -1,6 +1,7 @@
 -- The clients that wait, each for one exchange.
 use Rattle.std.specs.Prelude.{◌≡◌, ◌≢◌, ◌⊎◌, ◌<◌, ◌≤◌, ℕ, ◌+◌, ◌-◌, min, max, Bool, false, Option, Some, None, is_some, count_by, slice_index_or, List, [], ◌∷◌, ◌++◌}
 use Rattle.flight.specs.declared.counts.Counts.{Counts}
+use Rattle.flight.specs.declared.table.Attempt.{Attempt}
 use Rattle.flight.specs.Counted.{NeverFall, IsFull}
 use Rattle.flight.specs.Flight.{Sent}
 use Rattle.flight.specs.Origin.{Origin}
@@ -19,6 +20,11 @@ pub record FlightState : Type 0 where
   pub begun : List ℕ  -- the moments at which exchanges began, in order: those under way, and some that have ended since
   pub latest : ℕ  -- the latest moment at which one began
   pub limit : ℕ  -- how many exchanges may be under way
+  pub tried : Attempt  -- the latest attempt to begin one
+
+-- the same state after this attempt
+abbrev pub attempted : Attempt → FlightState → FlightState
+attempted attempt state = record state { tried = attempt }
 
 -- how many exchanges are under way; one client waits for each
 abbrev pub outstanding : FlightState → ℕ
@@ -72,6 +78,22 @@ pub record IsAccounted (more waiting : ℕ) (old : Counts) (waiting' : ℕ) (new
   pub never_fall : NeverFall old new
   pub add_up : AddUp more waiting old waiting' new ⊎ IsFull new
 
+-- Such a question wanted to begin an exchange at this moment.
+pub record IsAttempt (now : ℕ) (of : Origin → Type 0) (attempt : Attempt) : Type 0 where
+  pub at : attempt.at ≡ now
+  pub origin : Origin
+  pub is : of origin
+  pub began : attempt.began ≡ origin.began
+
+-- The latest attempt to begin an exchange is that before, or such a question makes it now.
+abbrev pub Attempts : ℕ → (Origin → Type 0) → FlightState → FlightState → Type 0
+Attempts now of old new = (new.tried ≡ old.tried) ⊎ IsAttempt now of new.tried
+
+-- Nothing changes, except that such a question may now want to begin an exchange.
+pub record Stays (now : ℕ) (of : Origin → Type 0) (old new : FlightState) : Type 0 where
+  pub same : new ≡ attempted new.tried old
+  pub attempts : Attempts now of old new
+
 -- An exchange of such a question begins under a vacant key, no earlier than those before, and is watched under it. Each other goes on.
 pub record Begins (now : ℕ) (of : Origin → Type 0) (old new : FlightState) : Type 0 where
   pub key : ℕ
@@ -84,10 +106,11 @@ pub record Begins (now : ℕ) (of : Origin → Type 0) (old new : FlightState) :
   pub begun : new.begun ≡ old.begun ++ max now old.latest ∷ []
   pub latest : new.latest ≡ max now old.latest
   pub limit : new.limit ≡ old.limit
+  pub tried : IsAttempt now of new.tried
 
--- One such question more waits for an exchange that begins now, or nothing changes.
+-- One such question more waits for an exchange that begins now, or nothing changes but the latest attempt.
 abbrev pub WaitsFrom : ℕ → (Origin → Type 0) → FlightState → FlightState → Type 0
-WaitsFrom now of old new = (new ≡ old) ⊎ Begins now of old new
+WaitsFrom now of old new = Stays now of old new ⊎ Begins now of old new
 
 -- Each exchange under way was under way before, or begins now, no earlier than those before. Each is watched under its own key.
 pub record GoesOnOrBegins (now : ℕ) (old new : FlightState) : Type 0 where

@@ -7,12 +7,12 @@ ghost use Rattle.flight.specs.Asking.{HasLooked, IsAskedBy, SettlesAsking, Settl
 ghost use Rattle.flight.specs.FirstLook.{HeedsInput, HeedsLook, IsSilence};
 
 use crate::asking::{Asking, ask};
-use crate::cause::Cause;
 use crate::engine::Flight;
 use crate::in_flight::InFlight;
 use crate::numbered::Numbered;
 use crate::refused::{WorkerTask, first_look, settled};
 use crate::sockets::{Client, Sockets};
+use crate::table::Cause;
 use crate::telling::tell;
 use clock::Clock;
 use dns_wire::Query;

@@ -2,23 +2,23 @@
 
 ghost use Rattle.std.specs.Prelude.{◌≡◌, ◌≤◌, ◌+◌, None, IfNone, IfSome, OnSome};
 ghost use Rattle.system.specs.Counts.{Rises};
-ghost use Rattle.flight.specs.Asking.{AwaitsFor, FliesFor, HasHeardFor, IsAskedBy, SettlesAsking};
+ghost use Rattle.flight.specs.Asking.{AwaitsFor, FliesFor, HasHeardFor, IsAskedBy, SettlesAsking, attempt_of};
 ghost use Rattle.flight.specs.Bounds.{IsBounded};
 ghost use Rattle.flight.specs.Clients.{EndsWithOneMore};
 ghost use Rattle.flight.specs.FirstLook.{HearsOut, HeedsAnew};
 ghost use Rattle.flight.specs.Flight.{query_to};
 ghost use Rattle.flight.specs.Told.{listened_of, Keeps};
-ghost use Rattle.flight.specs.Waiting.{IsAccounted, WaitsFrom, outstanding};
+ghost use Rattle.flight.specs.Waiting.{IsAccounted, WaitsFrom, attempted, outstanding};
 ghost use Rattle.iterate.specs.declared.want.Want.{Want};
 
 use crate::asking::{Asking, ask_soon};
-use crate::cause::Cause;
 use crate::engine::Flight;
 use crate::in_flight::InFlight;
 use crate::job::Job;
 use crate::numbered::Numbered;
 use crate::refused::{HeardOrRefused, hear};
 use crate::sockets::{Client, Sockets};
+use crate::table::Cause;
 use crate::telling::{conclude, refuse};
 use clock::Clock;
 use dns_query::Over;
@@ -180,16 +180,15 @@ impl<D: Numbered, L: InFlight, C: Clock, G: Rng, K: Client> Flight<D, L, C, G, K
         requires awaits { AwaitsFor D.calls D.seen L.hears C.ticks K.since asking (query_to server.now over bytes) }
         ensures settles { IfNone result (SettlesAsking K.sent K.network O.server_port O.counts O.outbox O.posts now asking
             self.old sockets.old self.new sockets.new) }
-        ensures unsent { IfSome result (λ unsent. unsent ≡ asking) }
-        ensures failed { OnSome result (L.hears (query_to server.now over bytes) None) }
-        ensures same { OnSome result (self.new ≡ self.old) }
+        ensures unsent { IfSome result (λ unsent. (unsent ≡ asking) × L.hears (query_to server.now over bytes) None) }
+        ensures same { OnSome result (self.new ≡ attempted (attempt_of now asking) self.old) }
+        ensures tried { self.new.tried ≡ attempt_of now asking }
         ensures counts { OnSome result (O.counts sockets.new ≡ O.counts sockets.old) }
         ensures keeps { OnSome result (Keeps O.server_port O.outbox sockets.old sockets.new) }
     {
-        let room = match self.table.make_room(now, &asking, octets) {
-            Ok(room) => room,
-            Err(denied) => {
-                let cause = Cause::denied(&self.table, now, asking, denied);
+        let (room, asking) = match self.table.room_for(now, asking, octets) {
+            Ok(made) => made,
+            Err(cause) => {
                 sockets.fail(cause, octets);
                 return None;
             }

@@ -1,6 +1,6 @@
 //! The questions of one worker that are in flight.
 
-ghost use Rattle.std.specs.Prelude.{◌≡◌, ◌⊎◌, ◌<◌, ◌≤◌, ◌+◌, [], None, IfSome};
+ghost use Rattle.std.specs.Prelude.{◌≡◌, ◌⊎◌, ◌<◌, ◌≤◌, ◌+◌, None, IfSome};
 ghost use Rattle.system.specs.Counts.{Rises};
 ghost use Rattle.flight.specs.Bounds.{AllGoOn, EachIsSmall, EndsLargest, Relieves, kept_all};
 ghost use Rattle.flight.specs.Clients.{LosesNone, LosesNoneAtAnyTime, SettlesOctets};
@@ -8,7 +8,6 @@ ghost use Rattle.flight.specs.FirstLook.{HeedsLookOf, ListensAt, ListensToEach};
 ghost use Rattle.flight.specs.Waiting.{EarlyGoOn, IsPatient, IsPatientUntil, IsTimely, OthersGoOn};
 ghost use Rattle.flight.specs.Waiting.{outstanding, since_at, time_left};
 
-use crate::cause::Cause;
 use crate::in_flight::InFlight;
 use crate::job::Job;
 use crate::kept::{MOST_ALL_KEPT, MOST_AT_REST};
@@ -16,7 +15,7 @@ use crate::numbered::Numbered;
 use crate::refused::{HeardOrRefused, hear, read_question};
 use crate::reply::ReplyOctets;
 use crate::sockets::{Client, Sockets};
-use crate::table::{PATIENCE, QUESTION_PATIENCE, Table};
+use crate::table::{Cause, PATIENCE, QUESTION_PATIENCE, Table};
 use crate::telling::{fault_of, give_up};
 use clock::Clock;
 use dns_wire::{Asked, one_verdict};
@@ -45,22 +44,11 @@ impl<D: Numbered, L: InFlight, C: Clock, G: Rng, K: Client> Model for Flight<D, 
       begun = map (λ wait. wait.since) f.table.waits.items;
       latest = f.table.latest;
       limit = f.table.limit;
+      tried = f.table.tried;
     } };
 }
 
 impl<D: Numbered, L: InFlight, C: Clock, G: Rng, K: Client> Flight<D, L, C, G, K> {
-    /// No question in flight. At most `limit` exchanges may be under way.
-    pub fn new(alloc: Global, clock: C, ids: G, limit: usize) -> Flight<D, L, C, G, K>
-        ensures { result ≡ record { exchanges = []; begun = []; latest = 0; limit = limit } }
-    {
-        Flight {
-            alloc,
-            clock,
-            ids,
-            table: Table::new(alloc, limit),
-        }
-    }
-
     /// The number of exchanges under way. One client waits for each.
     pub fn outstanding(&self) -> usize
         ensures { result ≡ outstanding self.now }

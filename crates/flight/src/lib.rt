@@ -14,8 +14,6 @@ mod counts;
 mod reply;
 // The clients of a worker, and its sockets: those of clients and those of servers.
 mod sockets;
-// The cause of a SERVFAIL that is not the answer to the question.
-mod cause;
 // The zone of a question's name.
 mod zone;
 // The calls of this crate that want memory, and the task of a question in a worker.
@@ -26,7 +24,7 @@ mod asking;
 mod kept;
 // A client's question that waits for the reply to an upstream query.
 mod job;
-// The questions that wait, and when each began to.
+// The questions that wait, when each began to, and the cause for which one may not.
 mod table;
 // The reply to a client.
 mod telling;
@@ -40,7 +38,6 @@ mod driving;
 // Laws of the definitions at a seat of a shared book.
 mod laws;
 
-pub use cause::{Cause, Unserved};
 pub use counts::Counts;
 pub use engine::Flight;
 pub use in_flight::InFlight;
@@ -49,5 +46,5 @@ pub use laws::{fall_law, later_law, rise_law};
 pub use numbered::Numbered;
 pub use reply::ReplyOctets;
 pub use sockets::{Client, Listened, Sockets};
-pub use table::{PATIENCE, QUESTION_PATIENCE, limits_law};
+pub use table::{Cause, PATIENCE, QUESTION_PATIENCE, Unserved, limits_law};
 pub use zone::zone_octets;

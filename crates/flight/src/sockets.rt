@@ -13,10 +13,10 @@ ghost use Rattle.flight.specs.Counted.{CountsAbandoned, CountsExpired, CountsLis
 ghost use Rattle.flight.specs.Flight.{query_to};
 ghost use Rattle.flight.specs.Told.{octets_of, IsHeard, IsToldTo, IsUntold, Keeps};
 
-use crate::cause::Cause;
 use crate::in_flight::InFlight;
 use crate::numbered::Numbered;
 use crate::reply::ReplyOctets;
+use crate::table::Cause;
 use clock::Clock;
 use dns_name::Name;
 use dns_query::Over;

@@ -4,6 +4,7 @@ ghost use Rattle.std.specs.Prelude.{◌≡◌, ◌<◌, ◌≤◌, ◌+◌, ◌�
 ghost use Rattle.std.specs.Prelude.{IfOk, IfSome, IsTrue, OnOk, OnSome};
 ghost use Rattle.slab.specs.Slab.{HasRoomFor, Updates, get, slab_len};
 ghost use Rattle.std.specs.VecDeque.{deque_capacity, deque_len};
+ghost use Rattle.flight.specs.Asking.{attempt_of};
 ghost use Rattle.flight.specs.Beginning.{BeginsIfItMay, DeniesForReason, HasPlaceNow};
 ghost use Rattle.flight.specs.Bounds.{EachIsSmall, IsWithin, KeepsMost, KeepsTooMuch, MayKeep, kept_by, kept_of};
 ghost use Rattle.flight.specs.Kept.{kept_in};
@@ -13,6 +14,7 @@ ghost use Rattle.flight.specs.Table.{AreInTime, AreTimely, CountsOneMore, FreesK
 ghost use Rattle.flight.specs.Waiting.{since_in, time_left};
 
 use crate::asking::Asking;
+use crate::engine::Flight;
 use crate::in_flight::InFlight;
 use crate::job::Job;
 use crate::kept::{MOST_ALL_KEPT, MOST_KEPT, kept_in};
@@ -25,6 +27,11 @@ use rand_core::Rng;
 use slab::Slab;
 use std::alloc::Global;
 use std::collections::VecDeque;
+
+// The cause of a SERVFAIL that is not the answer to the question. It is inside this module, and nothing else may ask the table for room.
+mod cause;
+
+pub use cause::{Cause, Unserved};
 
 /// The milliseconds that an exchange may take.
 pub const PATIENCE: u64 = 1_000 * PATIENCE_SECONDS;
@@ -57,6 +64,13 @@ pub(crate) struct Asker {
 pub(crate) struct Wait {
     pub(crate) key: usize,
     pub(crate) since: u64,
+}
+
+/// A question wanted to begin an exchange: the moment at which it did, and that at which it began, in milliseconds.
+#[derive(Clone, Copy)]
+pub(crate) struct Attempt {
+    at: u64,
+    began: u64,
 }
 
 /// What a question that may wait takes with it.
@@ -92,6 +106,8 @@ pub(crate) struct Table<D: Numbered, L: InFlight, C: Clock, G: Rng, K: Client> {
     latest: u64,
     limit: usize,
     asker: Asker,
+    /// The latest attempt to begin an exchange. Contracts alone read it: at that moment a question was refused, if it was.
+    tried: Attempt,
     /// The octets that the questions keep, together.
     kept: usize,
     ghost queue: { IsQueue jobs.slots waits.items latest },
@@ -100,12 +116,13 @@ pub(crate) struct Table<D: Numbered, L: InFlight, C: Clock, G: Rng, K: Client> {
 }
 
 impl<D: Numbered, L: InFlight, C: Clock, G: Rng, K: Client> Table<D, L, C, G, K> {
-    /// An empty table for at most `limit` questions.
-    pub(crate) fn new(alloc: Global, limit: usize) -> Table<D, L, C, G, K>
+    /// An empty table for at most `limit` questions. Only a new engine has one.
+    fn new(alloc: Global, limit: usize) -> Table<D, L, C, G, K>
         ensures jobs { result.jobs.slots ≡ [] }
         ensures waits { result.waits.items ≡ [] }
         ensures latest { result.latest ≡ 0 }
         ensures limit { result.limit ≡ limit }
+        ensures tried { result.tried ≡ record { at = 0; began = 0 } }
     {
         Table {
             alloc,
@@ -117,18 +134,24 @@ impl<D: Numbered, L: InFlight, C: Clock, G: Rng, K: Client> Table<D, L, C, G, K>
                 network: 0,
                 since: 0,
             },
+            tried: Attempt { at: 0, began: 0 },
             kept: 0,
         }
     }
 
-    /// Notes that a question asks for a place.
+    /// Notes that a question wants to begin an exchange now.
     fn note(&mut self, now: u64, asking: &Asking<G, K>)
         ensures jobs { self.new.jobs ≡ self.old.jobs }
         ensures waits { self.new.waits ≡ self.old.waits }
         ensures latest { self.new.latest ≡ self.old.latest }
         ensures limit { self.new.limit ≡ self.old.limit }
         ensures asker { self.new.asker ≡ asker_after (max now self.old.latest) (K.network asking.now.client) self.old.asker }
+        ensures tried { self.new.tried ≡ attempt_of now asking.now }
     {
+        self.tried = Attempt {
+            at: now,
+            began: asking.began,
+        };
         let network = asking.client.network();
         if self.asker.network != network {
             let since = self.since(now);
@@ -183,8 +206,9 @@ impl<D: Numbered, L: InFlight, C: Clock, G: Rng, K: Client> Table<D, L, C, G, K>
         kept <= MOST_KEPT && kept <= MOST_ALL_KEPT - self.kept
     }
 
-    /// Makes room for a question that begins an exchange now, copies the octets of its client, and counts what its steps keep.
-    pub(crate) fn make_room(
+    /// Makes room for a question that begins an exchange now, and notes that it wants to. Copies the octets of its client, and counts what
+    /// its steps keep.
+    fn make_room(
         &mut self,
         now: u64,
         asking: &Asking<G, K>,
@@ -199,8 +223,8 @@ impl<D: Numbered, L: InFlight, C: Clock, G: Rng, K: Client> Table<D, L, C, G, K>
         ensures takes { IfOk result (λ room. (room.octets ≡ octets.now) × (room.kept ≡ kept_in asking.now.task.steps.items)) }
         ensures jobs { self.new.jobs.slots ≡ self.old.jobs.slots }
         ensures waits { self.new.waits.items ≡ self.old.waits.items }
-        ensures latest { self.new.latest ≡ self.old.latest }
-        ensures limit { self.new.limit ≡ self.old.limit }
+        ensures limits { (self.new.latest ≡ self.old.latest) × (self.new.limit ≡ self.old.limit) }
+        ensures tried { self.new.tried ≡ attempt_of now asking.now }
     {
         self.note(now, asking);
         if self.since(now).saturating_sub(asking.began) > LAST_BEGINNING {
@@ -244,7 +268,7 @@ impl<D: Numbered, L: InFlight, C: Clock, G: Rng, K: Client> Table<D, L, C, G, K>
         ensures one_more { OneMore self.old.jobs self.new.jobs self.old.jobs.vacant_key job }
         ensures waits { self.new.waits.items ≡ self.old.waits.items ++ record { key = self.old.jobs.vacant_key; since = job.since } ∷ [] }
         ensures latest { self.new.latest ≡ job.since }
-        ensures limit { self.new.limit ≡ self.old.limit }
+        ensures rest { (self.new.limit ≡ self.old.limit) × (self.new.tried ≡ self.old.tried) }
     {
         let since = job.since;
         self.kept += job.kept();
@@ -262,7 +286,7 @@ impl<D: Numbered, L: InFlight, C: Clock, G: Rng, K: Client> Table<D, L, C, G, K>
         ensures none { result ≡ None → self.new.jobs ≡ self.old.jobs }
         ensures waits { self.new.waits.items ≡ self.old.waits.items }
         ensures latest { self.new.latest ≡ self.old.latest }
-        ensures limit { self.new.limit ≡ self.old.limit }
+        ensures rest { (self.new.limit ≡ self.old.limit) × (self.new.tried ≡ self.old.tried) }
     {
         let job = self.jobs.get(key)?;
         self.kept -= job.kept();
@@ -278,7 +302,7 @@ impl<D: Numbered, L: InFlight, C: Clock, G: Rng, K: Client> Table<D, L, C, G, K>
         ensures one_more { OneMore self.old.jobs self.new.jobs self.old.jobs.vacant_key job }
         ensures waits { self.new.waits.items ≡ self.old.waits.items }
         ensures latest { self.new.latest ≡ self.old.latest }
-        ensures limit { self.new.limit ≡ self.old.limit }
+        ensures rest { (self.new.limit ≡ self.old.limit) × (self.new.tried ≡ self.old.tried) }
     {
         self.kept += job.kept();
         let _ = self.jobs.insert_reserved(job);
@@ -308,7 +332,7 @@ impl<D: Numbered, L: InFlight, C: Clock, G: Rng, K: Client> Table<D, L, C, G, K>
         ensures counts { IfSome result (λ job. CountsOneMore self.new.jobs self.old.jobs job) }
         ensures none { result ≡ None → self.new.jobs ≡ self.old.jobs }
         ensures latest { self.new.latest ≡ self.old.latest }
-        ensures limit { self.new.limit ≡ self.old.limit }
+        ensures rest { (self.new.limit ≡ self.old.limit) × (self.new.tried ≡ self.old.tried) }
     {
         let _ = self.waits.pop_front();
         let job = self.jobs.get(wait.key)?;
@@ -362,6 +386,20 @@ impl<D: Numbered, L: InFlight, C: Clock, G: Rng, K: Client> Table<D, L, C, G, K>
     {
         let wait = self.waits.front()?;
         Some(PATIENCE.saturating_sub(now.saturating_sub(wait.since)))
+    }
+}
+
+impl<D: Numbered, L: InFlight, C: Clock, G: Rng, K: Client> Flight<D, L, C, G, K> {
+    /// No question in flight. At most `limit` exchanges may be under way.
+    pub fn new(alloc: Global, clock: C, ids: G, limit: usize) -> Flight<D, L, C, G, K>
+        ensures { result ≡ record { exchanges = []; begun = []; latest = 0; limit = limit; tried = record { at = 0; began = 0 } } }
+    {
+        Flight {
+            alloc,
+            clock,
+            ids,
+            table: Table::new(alloc, limit),
+        }
     }
 }
 

@@ -14,7 +14,6 @@ ghost use Rattle.flight.specs.Leaving.{Ends};
 ghost use Rattle.flight.specs.Waiting.{IsAccounted};
 
 use crate::asking::Asking;
-use crate::cause::Cause;
 use crate::in_flight::InFlight;
 use crate::job::Job;
 use crate::kept::MOST_AT_REST;
@@ -22,7 +21,7 @@ use crate::numbered::Numbered;
 use crate::refused::{Refused, write_answer};
 use crate::reply::ReplyOctets;
 use crate::sockets::{Client, Sockets};
-use crate::table::Table;
+use crate::table::{Cause, Table};
 use clock::Clock;
 use dns_wire::{Query, Rcode, fault_reply};
 use iterate::Answer;

@@ -1,5 +1,5 @@
 -- How the counts of a worker go on.
-use Rattle.std.proofs.Common.{◌≡◌, ◌∙◌, ◌≤◌, ◌++◌, ℕ, ◌+◌, max, List, [], inl, inr, refl, subst, sym, arith}
+use Rattle.std.proofs.Common.{◌≡◌, ◌∙◌, ◌≤◌, ◌++◌, ℕ, ◌+◌, ap, max, List, [], inl, inr, refl, subst, sym, arith}
 use Rattle.system.specs.Counts.{Rises}
 use Rattle.plain_workers.specs.Working.{HasFailed}
 use Rattle.flight.specs.declared.counts.Counts.{Counts}
@@ -67,7 +67,9 @@ time_then a b c old mid new before after = record {
 -- The latest exchange is that before, or begins now.
 pub latest_begun : (now : ℕ) (of : Origin → Type 0) (old new : FlightState) → WaitsFrom now of old new → new.latest ≤ max now old.latest
 latest_begun now of old new waits = elim waits [
-  | inl same ↦ rw same (omega arith)
+  | inl stays ↦
+      let same : new.latest ≡ old.latest = ap (λ (state : FlightState). state.latest) stays.same in
+      omega (arith, same)
   | inr begins ↦ omega (arith, begins.latest)
 ]
 

@@ -62,7 +62,7 @@ pub data Runs {S : Type 0} (takes sends : Moves S) (flight : FlightState) (old :
 
 -- no question in flight
 abbrev pub none_in_flight : ℕ → FlightState
-none_in_flight limit = record { exchanges = []; begun = []; latest = 0; limit = limit }
+none_in_flight limit = record { exchanges = []; begun = []; latest = 0; limit = limit; tried = record { at = 0; began = 0 } }
 
 -- A worker ran, at first with no question in flight. What the questions that wait at the end keep is within its bound, and no exchange began later than the clock says.
 abbrev pub RunsFromNone : {S : Type 0} → Moves S → Moves S → ℕ → WorkerState S → WorkerState S → Type 0

@@ -2,7 +2,7 @@ use Rattle.std.proofs.Common.{◌≢◌, ◌∙◌, ℕ, ap, map, refl, subst, s
 use Rattle.flight.specs.Bounds.{KeepsMost, kept_all}
 use Rattle.flight.specs.Waiting.{FlightState, exchange_at, outstanding, waiting_for}
 use Rattle.flight.proofs.Bounds.{most_without, none_kept}
-use Rattle.flight.proofs.Flights.{origins_then, taken_out}
+use Rattle.flight.proofs.Flights.{origins_then, stays_same, taken_out}
 use Rattle.flight.proofs.Places.{joins_none_then}
 use Rattle.flight.proofs.Relieving.{accounted_by, ends_by}
 use Rattle.flight.proofs.engine.Flight.end_largest.Goals as goal
@@ -29,12 +29,13 @@ returns g c =
     let updates = c.in-Some.ensures.updates in
     let frees = c.in-Some.ensures.frees in
     let table = c.take.new.self in
-    let new : FlightState = record { exchanges = table.jobs.slots; begun = map (λ wait. wait.since) table.waits.items; latest = table.latest; limit = table.limit } in
+    let new : FlightState = record { exchanges = table.jobs.slots; begun = map (λ wait. wait.since) table.waits.items; latest = table.latest; limit = table.limit; tried = table.tried } in
     let fewer = frees.len ∙ ap outstanding was in
     let here = ap (λ (state : FlightState). exchange_at state key) (sym was) ∙ sym c.in-Some.ensures.job in
     let others = λ (other : ℕ) (differs : other ≢ key). updates.others other differs ∙ ap (λ (state : FlightState). exchange_at state other) was in
     let latest = c.in-Some.ensures.latest ∙ ap (λ (state : FlightState). state.latest) was in
-    let limit = c.in-Some.ensures.limit ∙ ap (λ (state : FlightState). state.limit) was in
+    let limit = c.in-Some.ensures.rest.0 ∙ ap (λ (state : FlightState). state.limit) was in
+    let tried = c.in-Some.ensures.rest.1 ∙ ap (λ (state : FlightState). state.tried) was in
     let gone = c.give_up.ensures in
     record {
       largest = record {
@@ -46,6 +47,7 @@ returns g c =
         begun = ap (map (λ wait. wait.since)) c.in-Some.ensures.waits ∙ ap (λ (state : FlightState). state.begun) was;
         latest = latest;
         limit = limit;
+        tried = tried;
       };
       fewer = fewer;
       loses_none = λ now. record {
@@ -54,8 +56,9 @@ returns g c =
         accounted = accounted_by (outstanding new) fewer gone.accounted;
         begins = taken_out now key c.args.self.now new updates.changed others latest;
         no_more = omega (arith, fewer);
-        origins = origins_then now key job c.args.self.now new new here updates.changed others (inl refl);
-        joins_none = joins_none_then now job c.args.self.now new new (λ test. ap (waiting_for test) (sym was) ∙ frees.counts test) (inl refl);
+        origins = origins_then now key job c.args.self.now new new here updates.changed others (inl (stays_same now _ new new refl));
+        joins_none = joins_none_then now job c.args.self.now new new (λ test. ap (waiting_for test) (sym was) ∙ frees.counts test) (inl (stays_same now _ new new refl));
+        attempts = inl tried;
         bounded = λ few. omega (arith, table.within.sum, table.within.all);
         limit = limit;
       };

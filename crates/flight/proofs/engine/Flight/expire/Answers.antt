@@ -3,7 +3,7 @@ use Rattle.slab.specs.Slab.{Slab}
 use Rattle.flight.specs.FirstLook.{ListensTo, listens_to, passes, stays}
 use Rattle.flight.specs.Waiting.{FlightState, IsAccounted, UnderWay, exchange_at, outstanding, since_at, since_in, since_of, waiting_for}
 use Rattle.flight.proofs.Accounting.{accounted_then}
-use Rattle.flight.proofs.Flights.{begun_or_not, early_then, less_over, no_more_then, on_or_begun_then, origins_on, origins_then, taken_out}
+use Rattle.flight.proofs.Flights.{attempts_on, attempts_then, begun_or_not, early_then, less_over, no_more_then, on_or_begun_then, origins_on, origins_then, taken_out}
 use Rattle.flight.proofs.Leaving.{ends_of, ends_then}
 use Rattle.flight.proofs.Places.{joins_none_on, joins_none_then}
 use Rattle.flight.proofs.Settling.{loses_as_before, none_lost}
@@ -27,7 +27,8 @@ loop-wait-preserved g c =
       early = λ key since here left. ap (λ (list : List (Option UnderWay)). since_in list key) exchanges ∙ before.early key since here left;
       anew = passes before.anew exchanges;
       so_far = loses_as_before c.args.now c.args.self.now c.loop-wait.self _ c.args.sockets.now c.loop-wait.sockets before.so_far exchanges
-          (c.pass.ensures.latest ∙ ap (λ (state : FlightState). state.latest) was) (c.pass.ensures.limit ∙ ap (λ (state : FlightState). state.limit) was);
+          (c.pass.ensures.latest ∙ ap (λ (state : FlightState). state.latest) was) (c.pass.ensures.rest.0 ∙ ap (λ (state : FlightState). state.limit) was)
+          (c.pass.ensures.rest.1 ∙ ap (λ (state : FlightState). state.tried) was);
     }
 
 pub loop-wait-preserved-in-Some-pass : goal.loop-wait-preserved-in-Some-pass
@@ -42,7 +43,7 @@ loop-wait-preserved-in-Some-pass g c =
     let here = ap (λ (state : FlightState). exchange_at state key) (sym was) ∙ due.0 in
     let waits = c.end.ensures.waits in
     let table = c.pass.new.self in
-    let without : FlightState = record { exchanges = table.jobs.slots; begun = map (λ wait. wait.since) table.waits.items; latest = table.latest; limit = table.limit } in
+    let without : FlightState = record { exchanges = table.jobs.slots; begun = map (λ wait. wait.since) table.waits.items; latest = table.latest; limit = table.limit; tried = table.tried } in
     let there : ListensTo g.D.Desk.calls g.O.Sockets.listens g.O.Sockets.outbox key c.in-Some-pass.job c.loop-wait.desk c.loop-wait.self c.loop-wait.sockets c.end.new.desk c.end.new.self c.end.new.sockets =
     record { without = without; gone = c.in-Some-pass.ensures.taken.changed; others = others; hears = c.end.ensures.anew }
     in
@@ -64,7 +65,9 @@ loop-wait-preserved-in-Some-pass g c =
             (origins_then c.args.now key c.in-Some-pass.job c.loop-wait.self _ c.end.new.self here c.in-Some-pass.ensures.taken.changed others waits);
         joins_none = joins_none_on c.args.self.now c.loop-wait.self c.end.new.self before.so_far.joins_none
             (joins_none_then c.args.now c.in-Some-pass.job c.loop-wait.self _ c.end.new.self (λ test. ap (waiting_for test) (sym was) ∙ c.in-Some-pass.ensures.counts test) waits);
+        attempts = attempts_on c.args.now c.args.self.now c.loop-wait.self c.end.new.self before.so_far.origins before.so_far.attempts
+            (attempts_then c.args.now key c.in-Some-pass.job c.loop-wait.self _ c.end.new.self here (c.in-Some-pass.ensures.rest.1 ∙ ap (λ (state : FlightState). state.tried) was) waits);
         bounded = λ few. c.end.ensures.bounded (omega (arith, c.pass.new.self.within.sum, c.pass.new.self.within.all));
-        limit = c.end.ensures.limit ∙ c.in-Some-pass.ensures.limit ∙ ap (λ (state : FlightState). state.limit) was ∙ before.so_far.limit;
+        limit = c.end.ensures.limit ∙ c.in-Some-pass.ensures.rest.0 ∙ ap (λ (state : FlightState). state.limit) was ∙ before.so_far.limit;
       };
     }

@@ -1,4 +1,4 @@
-use Rattle.std.proofs.Common.{◌≡◌, ◌≢◌, ◌∙◌, ℕ, ap, arith, map, refl, rules, subst, sym}
+use Rattle.std.proofs.Common.{◌≡◌, ◌≢◌, ◌∙◌, ℕ, ap, arith, inl, map, refl, rules, subst, sym}
 use Rattle.slab.specs.Slab.{Slab}
 use Rattle.flight.specs.Bounds.{MayKeep}
 use Rattle.flight.specs.Flight.{Sent}
@@ -9,7 +9,7 @@ use Rattle.flight.specs.Origin.{Origin, zone_of}
 use Rattle.flight.specs.declared.sockets.Listened.TheVariants.{Nothing}
 use Rattle.flight.specs.Waiting.{FlightState, UnderWay, exchange_at, outstanding, waiting_for}
 use Rattle.flight.proofs.Bounds.{may_keep_again}
-use Rattle.flight.proofs.Flights.{as_it_was, begun_or_not, no_more_then, on_or_begun_then, origins_same, origins_then, put_back_same, taken_out, waits_as}
+use Rattle.flight.proofs.Flights.{as_it_was, attempts_then, begun_or_not, no_more_then, on_or_begun_then, origins_same, origins_then, put_back_same, taken_out, waits_as}
 use Rattle.flight.proofs.Leaving.{ends_behind, ends_of, none_ends}
 use Rattle.flight.proofs.Looking.{hears_out, listens_there}
 use Rattle.flight.proofs.Places.{joins_none_then}
@@ -32,7 +32,7 @@ returns-in-Nothing-clause-loses_none g c =
     back.updates
     in
     let table = c.put_back.new.self in
-    let new : FlightState = record { exchanges = table.jobs.slots; begun = map (λ wait. wait.since) table.waits.items; latest = table.latest; limit = table.limit } in
+    let new : FlightState = record { exchanges = table.jobs.slots; begun = map (λ wait. wait.since) table.waits.items; latest = table.latest; limit = table.limit; tried = table.tried } in
     record {
       port = c.hear.ensures.keeps.port;
       ends = none_ends 0 _ _ c.hear.ensures.keeps.silent (omega (arith, back.len, taken.len, ap outstanding was));
@@ -42,8 +42,9 @@ returns-in-Nothing-clause-loses_none g c =
       no_more = omega (arith, back.len, taken.len, ap outstanding was);
       origins = origins_same c.args.self.now new (λ key. same key ∙ ap (λ (state : FlightState). exchange_at state key) was);
       joins_none = λ test. omega (arith, back.counts test, taken.counts test, ap (waiting_for test) was);
+      attempts = inl (c.put_back.ensures.rest.1 ∙ c.in-Some.ensures.rest.1 ∙ ap (λ (state : FlightState). state.tried) was);
       bounded = λ few. omega (arith, table.within.sum, table.within.all);
-      limit = c.put_back.ensures.limit ∙ c.in-Some.ensures.limit ∙ ap (λ (state : FlightState). state.limit) was;
+      limit = c.put_back.ensures.rest.0 ∙ c.in-Some.ensures.rest.0 ∙ ap (λ (state : FlightState). state.limit) was;
     }
 
 pub returns-in_default-hear-clause-loses_none : goal.returns-in_default-hear-clause-loses_none
@@ -65,8 +66,9 @@ returns-in_default-hear-clause-loses_none g c =
       no_more = no_more_then c.args.now (outstanding c.args.self.now) _ _ c.go_on.new.self (taken.len ∙ ap outstanding was) c.go_on.ensures.settles.waits;
       origins = origins_then c.args.now c.args.key c.in-Some.job c.args.self.now _ c.go_on.new.self here updates.changed others waits;
       joins_none = joins_none_then c.args.now c.in-Some.job c.args.self.now _ c.go_on.new.self (λ test. ap (waiting_for test) (sym was) ∙ taken.counts test) waits;
+      attempts = attempts_then c.args.now c.args.key c.in-Some.job c.args.self.now _ c.go_on.new.self here (c.in-Some.ensures.rest.1 ∙ ap (λ (state : FlightState). state.tried) was) waits;
       bounded = λ few. c.go_on.ensures.settles.bounded (omega (arith, c.take.new.self.within.sum, c.take.new.self.within.all));
-      limit = c.go_on.ensures.settles.limit ∙ c.in-Some.ensures.limit ∙ ap (λ (state : FlightState). state.limit) was;
+      limit = c.go_on.ensures.settles.limit ∙ c.in-Some.ensures.rest.0 ∙ ap (λ (state : FlightState). state.limit) was;
     }
 
 pub returns-in_default-clause-loses_none : goal.returns-in_default-clause-loses_none
@@ -76,7 +78,7 @@ returns-in_default-clause-loses_none g c =
     let jobs = taken.none refl in
     none_lost _ _ _ _ (same_state _ _ (ap (λ (slab : Slab UnderWay). slab.slots) jobs ∙ ap (λ (state : FlightState). state.exchanges) was)
     (ap (map (λ wait. wait.since)) taken.waits ∙ ap (λ (state : FlightState). state.begun) was)
-    (taken.latest ∙ ap (λ (state : FlightState). state.latest) was) (taken.limit ∙ ap (λ (state : FlightState). state.limit) was))
+    (taken.latest ∙ ap (λ (state : FlightState). state.latest) was) (taken.rest.0 ∙ ap (λ (state : FlightState). state.limit) was) (taken.rest.1 ∙ ap (λ (state : FlightState). state.tried) was))
 
 pub put_back-requires-clause-in_time : goal.put_back-requires-clause-in_time
 put_back-requires-clause-in_time g c =
@@ -100,9 +102,9 @@ returns-in-Nothing-clause-anew g c =
     let question = c.job.inside.asking.query.question in
     let of : UnderWay → Type 0 = λ job. job.origin.zone ≡ zone_of question.owner in
     let table = c.take.new.self in
-    let without : FlightState = record { exchanges = table.jobs.slots; begun = map (λ wait. wait.since) table.waits.items; latest = table.latest; limit = table.limit } in
+    let without : FlightState = record { exchanges = table.jobs.slots; begun = map (λ wait. wait.since) table.waits.items; latest = table.latest; limit = table.limit; tried = table.tried } in
     let back = c.put_back.new.self in
-    let new : FlightState = record { exchanges = back.jobs.slots; begun = map (λ wait. wait.since) back.waits.items; latest = back.latest; limit = back.limit } in
+    let new : FlightState = record { exchanges = back.jobs.slots; begun = map (λ wait. wait.since) back.waits.items; latest = back.latest; limit = back.limit; tried = back.tried } in
     let outbox = g.O.Sockets.outbox in
     let hears = hears_out g.D.Desk.calls g.O.Sockets.listens outbox c.in-Some.job c.args.desk.now c.args.desk.now without new c.args.sockets.now c.hear.new.sockets c.hear.new.sockets c.hear.new.sockets
     question c.job.inside.line Nothing (subst of c.job.view_is refl) c.in-Nothing.ensures.listens c.hear.ensures.keeps.silent (λ anew. absurd (cc anew))
@@ -118,7 +120,7 @@ returns-in_default-hear-clause-anew g c =
     let question = c.job.inside.asking.query.question in
     let of : UnderWay → Type 0 = λ job. job.origin.zone ≡ zone_of question.owner in
     let table = c.take.new.self in
-    let without : FlightState = record { exchanges = table.jobs.slots; begun = map (λ wait. wait.since) table.waits.items; latest = table.latest; limit = table.limit } in
+    let without : FlightState = record { exchanges = table.jobs.slots; begun = map (λ wait. wait.since) table.waits.items; latest = table.latest; limit = table.limit; tried = table.tried } in
     let outbox = g.O.Sockets.outbox in
     let hears = hears_out g.D.Desk.calls g.O.Sockets.listens outbox c.in-Some.job c.args.desk.now c.go_on.new.desk without c.go_on.new.self c.args.sockets.now c.hear.new.sockets c.hear.new.sockets c.go_on.new.sockets
     question c.job.inside.line _ (subst of c.job.view_is refl) c.hear.ensures.listens c.hear.ensures.keeps.silent c.go_on.ensures.anew

@@ -1,11 +1,13 @@
 //! The cause of a SERVFAIL that is not the answer to the question.
 
-ghost use Rattle.std.specs.Prelude.{◌≡◌, ◌≢◌, ◌⊎◌, ◌<◌, ◌+◌};
-ghost use Rattle.flight.specs.Asking.{WantsSend};
-ghost use Rattle.flight.specs.Beginning.{IsShown, why_of};
+ghost use Rattle.std.specs.Prelude.{◌≡◌, ◌≢◌, ◌⊎◌, ◌<◌, ◌+◌, IfErr, IfOk, OnOk};
+ghost use Rattle.std.specs.VecDeque.{deque_capacity, deque_len};
+ghost use Rattle.slab.specs.Slab.{HasRoomFor};
+ghost use Rattle.flight.specs.Asking.{WantsSend, attempt_of};
+ghost use Rattle.flight.specs.Beginning.{BeginsIfItMay, IsCauseOf, IsRoomFor, IsShown, why_of};
 ghost use Rattle.flight.specs.Bounds.{EachKeepsAtMost, kept_by};
 ghost use Rattle.flight.specs.Kept.{kept_in};
-ghost use Rattle.flight.specs.declared.cause.Unserved.TheVariants.{Elsewhere, NoMemory, TooLarge};
+ghost use Rattle.flight.specs.declared.table.cause.Unserved.TheVariants.{Elsewhere, NoMemory, TooLarge};
 
 use crate::asking::Asking;
 use crate::in_flight::InFlight;
@@ -13,7 +15,7 @@ use crate::kept::MOST_AT_REST;
 use crate::numbered::Numbered;
 use crate::refused::Refused;
 use crate::sockets::{Client, Sockets};
-use crate::table::{Denied, Table};
+use crate::table::{Denied, MadeRoom, Table};
 use clock::Clock;
 use rand_core::Rng;
 
@@ -84,7 +86,7 @@ impl<K: Client> Cause<K> {
     }
 
     /// A question that wants an exchange may not wait for it beside those in the table.
-    pub(crate) fn denied<D: Numbered, L: InFlight, C: Clock, G: Rng>(
+    fn denied<D: Numbered, L: InFlight, C: Clock, G: Rng>(
         table: &Table<D, L, C, G, K>,
         now: u64,
         asking: Asking<G, K>,
@@ -151,6 +153,31 @@ impl<K: Client> Cause<K> {
         Cause {
             client: asking.client,
             why: Unserved::Elsewhere,
+        }
+    }
+}
+
+impl<D: Numbered, L: InFlight, C: Clock, G: Rng, K: Client> Table<D, L, C, G, K> {
+    /// Makes room for a question that begins an exchange now. If it may not wait, it becomes the cause of a SERVFAIL for its client. The
+    /// table notes the attempt, so that callers say at which moment a cause was shown.
+    pub(crate) fn room_for(
+        &mut self,
+        now: u64,
+        asking: Asking<G, K>,
+        octets: &[u8],
+    ) -> Result<(MadeRoom, Asking<G, K>), Cause<K>>
+        requires sends { WantsSend D.calls D.seen L.hears C.ticks K.since asking }
+        ensures room { OnOk result (HasRoomFor self.new.jobs 1 × (deque_len self.new.waits < deque_capacity self.new.waits)) }
+        ensures may_begin { BeginsIfItMay result K.network now asking self.old.latest self.new.asker self.old.jobs.slots self.old.limit }
+        ensures denied { IfErr result (IsCauseOf K.network now asking self.new.latest self.new.asker self.new.jobs.slots self.new.limit) }
+        ensures takes { IfOk result (λ made. IsRoomFor octets.now asking made.0 made.1) }
+        ensures exchanges { (self.new.jobs.slots ≡ self.old.jobs.slots) × (self.new.waits.items ≡ self.old.waits.items) }
+        ensures limits { (self.new.latest ≡ self.old.latest) × (self.new.limit ≡ self.old.limit) }
+        ensures tried { self.new.tried ≡ attempt_of now asking }
+    {
+        match self.make_room(now, &asking, octets) {
+            Ok(room) => Ok((room, asking)),
+            Err(denied) => Err(Cause::denied(self, now, asking, denied)),
         }
     }
 }
