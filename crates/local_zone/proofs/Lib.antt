@@ -20,6 +20,7 @@ pub mod CountsBelowLaws
 pub mod ZonedLaws
 pub mod InPlaceLaws
 pub mod OtherLaws
+pub mod TogetherLaws
 pub mod OtherSetLaws
 pub mod AnswerOverLaws
 pub mod CountsAtLaws

@@ -161,7 +161,7 @@ module _ (test : Labels → Bool) where
   head_passes [] o e h = absurd cc
   head_passes (t ∷ ts) o e h = let is : o ≡ t.item.owner = cc in ap test is ∙ h.0
 
-shorter_without : (name : Labels) (zones : List Zone) → has_zone zones name ≡ true → length (zones_without name zones) < length zones
+pub shorter_without : (name : Labels) (zones : List Zone) → has_zone zones name ≡ true → length (zones_without name zones) < length zones
 shorter_without name [] e = absurd (false≢true e)
 shorter_without name (z ∷ zones) e = by (name_eq z.name name) e (shorter_without name zones)
   where

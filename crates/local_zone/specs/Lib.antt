@@ -19,6 +19,7 @@ pub mod Gaps
 pub mod Count
 pub mod CountsBelow
 pub mod Zoned
+pub mod Together
 pub mod OtherSet
 pub mod OtherSide
 pub mod InPlace

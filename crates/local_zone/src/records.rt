@@ -11,6 +11,7 @@ ghost use Rattle.local_zone.specs.declared.added.RecordTurn.TheVariants as Recor
 ghost use Rattle.local_zone.specs.Tables.{is_of_set};
 ghost use Rattle.local_zone.specs.Change.{is_there, records_with, with_record};
 ghost use Rattle.local_zone.specs.CountsBelow.{AreZoned};
+ghost use Rattle.local_zone.specs.Together.{LieTogether, MoveTogether};
 ghost use Rattle.local_zone.specs.declared.table.TheConstants.{MOST_RECORDS};
 
 use crate::added::{Added, RecordTurn};
@@ -204,7 +205,7 @@ fn add_again(
     }
 }
 
-/// Puts records back in their places, and counts them. If memory is refused, nothing has changed.
+/// Puts records of one zone back in their places, and counts them. If memory is refused, nothing has changed.
 fn put_in(
     alloc: Global,
     zones: &NamedList<Zone>,
@@ -216,7 +217,8 @@ fn put_in(
     ensures ok { OnOk result (records.new ≡ put_back removed.old records.old) }
     ensures gaps { IfOk result (λ gaps. gaps.items ≡ gaps_of removed.old) }
     ensures err { OnErr result ((records.new ≡ records.old) × (removed.new ≡ removed.old)) }
-    ensures zoned { AreZoned zones.now records.old zoned.old → AreZoned zones.now records.new zoned.new }
+    ensures zoned { LieTogether zones.now removed.old → AreZoned zones.now records.old zoned.old →
+        AreZoned zones.now records.new zoned.new }
 {
     count_zones(alloc, zones, zoned, removed.as_slice())?;
     let gaps = records.put_in(alloc, removed);
@@ -238,7 +240,8 @@ fn put_again(
     requires { GoesBack (RecordTurn.Removed removed) records.old }
     ensures turns { OnOk result (TurnsRecords (RecordTurn.Removed removed) records.old turn.new records.new) }
     ensures err { OnErr result ((records.new ≡ records.old) × (turn.new ≡ RecordTurn.Removed removed)) }
-    ensures zoned { AreZoned zones.now records.old zoned.old → AreZoned zones.now records.new zoned.new }
+    ensures zoned { LieTogether zones.now removed → AreZoned zones.now records.old zoned.old →
+        AreZoned zones.now records.new zoned.new }
 {
     let mut removed = removed;
     match put_in(alloc, zones, records, zoned, &mut removed) {
@@ -253,7 +256,7 @@ fn put_again(
     }
 }
 
-/// Takes the records at the gaps out, and counts them no more. If memory is refused, nothing has changed.
+/// Takes the records at the gaps, all of one zone, out, and counts them no more. If memory is refused, nothing has changed.
 fn take_out(
     alloc: Global,
     zones: &NamedList<Zone>,
@@ -266,7 +269,8 @@ fn take_out(
     ensures ok { OnOk result (records.new ≡ rest_of gaps.now records.old) }
     ensures removed { IfOk result (λ removed. removed ≡ at_gaps gaps.now records.old) }
     ensures err { OnErr result (records.new ≡ records.old) }
-    ensures zoned { AreZoned zones.now records.old zoned.old → AreZoned zones.now records.new zoned.new }
+    ensures zoned { LieTogether zones.now (at_gaps gaps.now records.old) → AreZoned zones.now records.old zoned.old →
+        AreZoned zones.now records.new zoned.new }
 {
     let removed = records.take_out(alloc, gaps)?;
     uncount_zones(zones, zoned, removed.as_slice());
@@ -285,7 +289,8 @@ fn take_again(
     requires { GoesBack (RecordTurn.Removes gaps) records.old }
     ensures turns { OnOk result (TurnsRecords (RecordTurn.Removes gaps) records.old turn.new records.new) }
     ensures err { OnErr result ((records.new ≡ records.old) × (turn.new ≡ RecordTurn.Removes gaps)) }
-    ensures zoned { AreZoned zones.now records.old zoned.old → AreZoned zones.now records.new zoned.new }
+    ensures zoned { LieTogether zones.now (at_gaps gaps.items records.old) → AreZoned zones.now records.old zoned.old →
+        AreZoned zones.now records.new zoned.new }
 {
     match take_out(alloc, zones, records, zoned, gaps.as_slice()) {
         Ok(removed) => {
@@ -312,7 +317,8 @@ pub(crate) fn turn_over(
     ensures turns { OnOk result (TurnsRecords turn.old records.old turn.new records.new) }
     ensures err { OnErr result ((records.new ≡ records.old) × (turn.new ≡ turn.old)) }
     ensures free { records_need turn.old ≡ false → IsOk result }
-    ensures zoned { AreZoned zones.now records.old zoned.old → AreZoned zones.now records.new zoned.new }
+    ensures zoned { MoveTogether turn.old zones.now records.old → AreZoned zones.now records.old zoned.old →
+        AreZoned zones.now records.new zoned.new }
 {
     match mem::replace(turn, RecordTurn::Nothing) {
         RecordTurn::Nothing => Ok(()),
@@ -384,7 +390,8 @@ fn take_gaps(
     ensures err { OnErr result (records.new ≡ records.old) }
     ensures free { gaps.now ≡ [] → IsOk result }
     ensures frees { IfOk result (λ turn. gaps.now ≡ [] → records_need turn ≡ false) }
-    ensures zoned { AreZoned zones.now records.old zoned.old → AreZoned zones.now records.new zoned.new }
+    ensures zoned { LieTogether zones.now (at_gaps gaps.now records.old) → AreZoned zones.now records.old zoned.old →
+        AreZoned zones.now records.new zoned.new }
 {
     if gaps.is_empty() {
         return Ok(RecordTurn::Nothing);

@@ -1,12 +1,13 @@
 //! Counts of the records that lie in zones strictly below each name.
 
 ghost use Rattle.std.specs.Option.{option_map};
-ghost use Rattle.std.specs.Prelude.{◌≡◌, List, Some, OnErr, OnOk, if◌then◌else◌};
+ghost use Rattle.std.specs.Prelude.{◌≡◌, List, Some, OnErr, OnOk, length, if◌then◌else◌};
 ghost use Rattle.dns_name.specs.Labels.{Labels};
 ghost use Rattle.local_zone.specs.Closest.{closest};
 ghost use Rattle.local_zone.specs.Count.{count_of};
-ghost use Rattle.local_zone.specs.CountsBelow.{count_zoned, is_below_from, is_zoned, octets_over, AreZoned, CountLessBy, CountMoreBy, CountTheSame};
+ghost use Rattle.local_zone.specs.CountsBelow.{count_zoned, is_below_from, is_zone_below, is_zoned, octets_over, AreZoned, CountLessBy, CountMoreBy, CountTheSame};
 ghost use Rattle.local_zone.specs.Gaps.{records_of};
+ghost use Rattle.local_zone.specs.Together.{LieTogether};
 ghost use Rattle.local_zone.specs.Zoned.{zone_out, CountsIn, CountsOut};
 ghost use Rattle.local_zone.specs.declared.zone.Zone.{Zone};
 ghost use Rattle.named_list.specs.Named.{AreNamed};
@@ -46,31 +47,41 @@ pub(crate) fn uncount_zone(zones: &NamedList<Zone>, zoned: &mut CountsBelow, own
     }
 }
 
-/// Counts records that come back. If memory is refused, no count has changed.
+/// The zone of the first record that was taken, if there is one and a zone covers it.
+fn zone_of_first<'a>(zones: &'a NamedList<Zone>, taken: &[Taken]) -> Option<&'a Zone>
+    ensures { LieTogether zones.now taken.now → (name : Labels) → count_zoned zones.now name (records_of taken.now)
+        ≡ (if is_zone_below name (option_map (λ z. z.now) result) then length taken.now else 0) }
+{
+    match taken.first() {
+        Some(first) => closest(zones, first.item.owner()),
+        None => None,
+    }
+}
+
+/// Counts records that come back, all of one zone. If memory is refused, no count has changed.
 pub(crate) fn count_zones(
     alloc: Global,
     zones: &NamedList<Zone>,
     zoned: &mut CountsBelow,
     taken: &[Taken],
 ) -> Result<(), NoMemory>
-    ensures ok { OnOk result (CountMoreBy (λ name. count_zoned zones.now name (records_of taken.now)) zoned.old zoned.new) }
+    ensures ok { OnOk result (LieTogether zones.now taken.now →
+        CountMoreBy (λ name. count_zoned zones.now name (records_of taken.now)) zoned.old zoned.new) }
     ensures err { OnErr result (CountTheSame zoned.old zoned.new) }
 {
-    for i in 0..taken.len() {
-        if let Err(e) = count_zone(alloc, zones, zoned, taken[i].item.owner()) {
-            uncount_zones(zones, zoned, &taken[..i]);
-            return Err(e);
-        }
+    match zone_of_first(zones, taken) {
+        Some(zone) => zoned.add_from(alloc, &zone.name, 0, taken.len() as u64),
+        None => Ok(()),
     }
-    Ok(())
 }
 
-/// Counts records that were taken no more. It takes no memory.
+/// Counts records that were taken, all of one zone, no more. It takes no memory.
 pub(crate) fn uncount_zones(zones: &NamedList<Zone>, zoned: &mut CountsBelow, taken: &[Taken])
-    ensures { CountLessBy (λ name. count_zoned zones.now name (records_of taken.now)) zoned.old zoned.new }
+    ensures { LieTogether zones.now taken.now →
+        CountLessBy (λ name. count_zoned zones.now name (records_of taken.now)) zoned.old zoned.new }
 {
-    for t in taken {
-        uncount_zone(zones, zoned, t.item.owner());
+    if let Some(zone) = zone_of_first(zones, taken) {
+        zoned.remove_from(&zone.name, 0, taken.len() as u64);
     }
 }
 

@@ -1,5 +1,6 @@
-use Rattle.std.proofs.Common.{◌≡◌, refl, ℕ, List, ap, ◌∙◌}
+use Rattle.std.proofs.Common.{◌≡◌, refl, ℕ, List, ap, sym, subst, ◌∙◌}
 use Rattle.local_zone.specs.Gaps.{at_gaps, rest_of}
+use Rattle.local_zone.specs.Together.{LieTogether}
 use Rattle.local_zone.proofs.GapLaws.{goes_out}
 use Rattle.local_zone.proofs.records.take_again.Goals as goal
 
@@ -13,3 +14,9 @@ returns-in-Ok-clause-turns c =
       gives = back.1;
       turned = record { need = refl; need_after = refl; brings = refl; takes = refl };
     }
+
+pub returns-in-Ok-clause-zoned : goal.returns-in-Ok-clause-zoned
+returns-in-Ok-clause-zoned c it h = c.in-Ok.ensures.zoned (subst (λ (g : List ℕ). LieTogether c.args.zones.now (at_gaps g c.args.records.now)) (sym c.as_slice.ensures.value) it) h
+
+pub returns-in-Err-clause-zoned : goal.returns-in-Err-clause-zoned
+returns-in-Err-clause-zoned c it h = c.in-Err.ensures.zoned (subst (λ (g : List ℕ). LieTogether c.args.zones.now (at_gaps g c.args.records.now)) (sym c.as_slice.ensures.value) it) h

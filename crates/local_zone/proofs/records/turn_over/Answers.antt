@@ -4,6 +4,7 @@ use Rattle.std.proofs.lemmas.Bool.{false≢true}
 use Rattle.dns_text.specs.declared.record.Record.{Record}
 use Rattle.local_zone.specs.declared.added.RecordTurn.{RecordTurn}
 use Rattle.local_zone.specs.Added.{brings_back, records_need, records_need_after, records_other, takes_away, GoesBack, TurnsRecords}
+use Rattle.local_zone.specs.Together.{MoveTogether}
 use Rattle.local_zone.proofs.records.turn_over.Goals as goal
 
 pub returns-in-Nothing-clause-turns : goal.returns-in-Nothing-clause-turns
@@ -45,3 +46,9 @@ returns-in-Removed-clause-free c none = absurd (false≢true (sym none ∙ sym (
 
 pub returns-in-Removes-clause-free : goal.returns-in-Removes-clause-free
 returns-in-Removes-clause-free c none = absurd (false≢true (sym none ∙ sym (ap records_need c.in-Removes.ensures.value)))
+
+pub returns-in-Removed-clause-zoned : goal.returns-in-Removed-clause-zoned
+returns-in-Removed-clause-zoned c it h = c.put_again.ensures.zoned (subst (λ (turn : RecordTurn). MoveTogether turn c.args.zones.now c.args.records.now) (sym c.in-Removed.ensures.value) it) h
+
+pub returns-in-Removes-clause-zoned : goal.returns-in-Removes-clause-zoned
+returns-in-Removes-clause-zoned c it h = c.take_again.ensures.zoned (subst (λ (turn : RecordTurn). MoveTogether turn c.args.zones.now c.args.records.now) (sym c.in-Removes.ensures.value) it) h

@@ -6,7 +6,9 @@ use Rattle.local_zone.specs.Saved.{before_of, IsRemoval}
 use Rattle.local_zone.specs.Tables.{AreTables, Tables}
 use Rattle.named_list.specs.Turn.{other_of, puts_in, takes_out, with_at, HasPlace}
 use Rattle.local_zone.specs.Added.{records_need, records_need_after}
+use Rattle.local_zone.specs.Together.{MoveTogether}
 use Rattle.local_zone.proofs.ImpliedLaws.{get-insert}
+use Rattle.local_zone.proofs.TogetherLaws.{by_parts, moves_in}
 use Rattle.local_zone.proofs.table.ZoneTable.turn_in.Goals as goal
 
 pub invariant_of-self-in-Ok : goal.invariant_of-self-in-Ok
@@ -15,7 +17,9 @@ invariant_of-self-in-Ok c =
     let now : Tables = record { zones = c.put_zone_in.new.zones; records = c.turn_over.new.records } in
     let is : now ≡ other
     = (λ i. record { zones = c.in_ok-put_zone_in.ensures.ok i; records = c.in-Ok.ensures.turns.other i }) ∙ ap (λ (t : Tables). before_of c.args.saved.now t) c.self.view_is ∙ c.requires.takes.1.gives in
-    (subst (λ (t : Tables). AreTables t) (sym is) c.requires.takes.1.sound, c.in-Ok.ensures.zoned (c.in_ok-put_zone_in.ensures.zoned c.self.invariant.1))
+    let moves = moves_in c.args.saved.now c.self.inside.zones c.self.inside.records (by_parts c.args.saved.now c.self.inside.zones c.self.inside.records c.args.self.now c.requires.takes.0 c.self.view_is c.requires.takes.1) c.requires.puts in
+    let together = subst (λ (zs : List Zone). MoveTogether c.args.saved.now.records zs c.self.inside.records) (sym c.in_ok-put_zone_in.ensures.ok) moves in
+    (subst (λ (t : Tables). AreTables t) (sym is) c.requires.takes.1.sound, c.in-Ok.ensures.zoned together (c.in_ok-put_zone_in.ensures.zoned c.self.invariant.1))
 
 pub invariant_of-self-in-Err : goal.invariant_of-self-in-Err
 invariant_of-self-in-Err c =
@@ -23,7 +27,9 @@ invariant_of-self-in-Err c =
     let now : Tables = record { zones = c.turn_zone_out.new.zones; records = c.turn_over.new.records } in
     let zones : c.turn_zone_out.new.zones ≡ c.self.inside.zones = c.turn_zone_out.ensures.list ∙ c.in_ok-put_zone_in.ensures.again.1 in
     let is : now ≡ before = λ i. record { zones = zones i; records = c.in-Err.ensures.err.0 i } in
-    (subst (λ (t : Tables). AreTables t) (sym is) c.self.invariant.0, c.turn_zone_out.ensures.zoned (c.in-Err.ensures.zoned (c.in_ok-put_zone_in.ensures.zoned c.self.invariant.1)))
+    let moves = moves_in c.args.saved.now c.self.inside.zones c.self.inside.records (by_parts c.args.saved.now c.self.inside.zones c.self.inside.records c.args.self.now c.requires.takes.0 c.self.view_is c.requires.takes.1) c.requires.puts in
+    let together = subst (λ (zs : List Zone). MoveTogether c.args.saved.now.records zs c.self.inside.records) (sym c.in_ok-put_zone_in.ensures.ok) moves in
+    (subst (λ (t : Tables). AreTables t) (sym is) c.self.invariant.0, c.turn_zone_out.ensures.zoned (c.in-Err.ensures.zoned together (c.in_ok-put_zone_in.ensures.zoned c.self.invariant.1)))
 
 -- the zone that went in comes out again, and the way is the one that it was
 pub returns-in-Err-clause-err : goal.returns-in-Err-clause-err

@@ -1,13 +1,35 @@
 use Rattle.std.proofs.Common.{◌≡◌, ◌||◌, List, refl, ap, sym, subst, ◌∙◌, rules}
+use Rattle.dns_text.specs.declared.record.Record.{Record}
 use Rattle.local_zone.specs.Saved.{before_of, IsRemoval}
 use Rattle.std.proofs.lemmas.Bool.{false≢true}
 use Rattle.named_list.specs.Turn.{other_of, puts_in, HasPlace, IsWayBack}
 use Rattle.named_list.specs.TurnLaws.{puts_taken, takes_put}
 use Rattle.local_zone.specs.declared.zone.Zone.{Zone}
 use Rattle.local_zone.specs.Added.{records_need}
-use Rattle.local_zone.specs.Tables.{Tables}
+use Rattle.local_zone.specs.Tables.{AreTables, Tables}
 use Rattle.local_zone.proofs.FreeLaws.{second_fails}
+use Rattle.local_zone.proofs.TogetherLaws.{by_parts, moves_out}
 use Rattle.local_zone.proofs.table.ZoneTable.turn_out.Goals as goal
+
+pub invariant_of-self : goal.invariant_of-self
+invariant_of-self c =
+    let zones : List Zone = c.self.inside.zones in
+    let records : List Record = c.self.inside.records in
+    let moves = moves_out c.args.saved.now zones records (by_parts c.args.saved.now zones records c.args.self.now c.requires.takes.0 c.self.view_is c.requires.takes.1) c.requires.puts in (
+      subst (λ (rs : List Record). AreTables (record { zones = zones; records = rs })) (sym c.in_err-turn_over.ensures.err.0) c.self.invariant.0,
+      c.in_err-turn_over.ensures.zoned moves c.self.invariant.1,
+    )
+
+pub invariant_of-self-2 : goal.invariant_of-self-2
+invariant_of-self-2 c =
+    let zones : List Zone = c.self.inside.zones in
+    let records : List Record = c.self.inside.records in
+    let other : Tables = c.requires.takes.0 in
+    let now : Tables = record { zones = c.turn_zone_out.new.zones; records = c.turn_over.new.records } in
+    let is : now ≡ other
+    = (λ i. record { zones = c.turn_zone_out.ensures.list i; records = c.in_ok-turn_over.ensures.turns.other i }) ∙ ap (λ (t : Tables). before_of c.args.saved.now t) c.self.view_is ∙ c.requires.takes.1.gives in
+    let moves = moves_out c.args.saved.now zones records (by_parts c.args.saved.now zones records c.args.self.now c.requires.takes.0 c.self.view_is c.requires.takes.1) c.requires.puts in
+    (subst (λ (t : Tables). AreTables t) (sym is) c.requires.takes.1.sound, c.turn_zone_out.ensures.zoned (c.in_ok-turn_over.ensures.zoned moves c.self.invariant.1))
 
 pub returns-in_err-turn_over-clause-free : goal.returns-in_err-turn_over-clause-free
 returns-in_err-turn_over-clause-free c none =
