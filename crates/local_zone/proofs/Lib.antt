@@ -17,6 +17,7 @@ pub mod TagLaws
 pub mod CountLaws
 pub mod MaskLaws
 pub mod CountsBelowLaws
+pub mod SumLaws
 pub mod ZonedLaws
 pub mod InPlaceLaws
 pub mod OtherLaws

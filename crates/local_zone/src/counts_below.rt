@@ -1,12 +1,11 @@
 //! The number of records strictly below each name, or of those that lie in zones strictly below it. It spares a pass over all records.
 
-ghost use Rattle.std.specs.Prelude.{◌≡◌, ◌+◌, ◌-◌, ◌<◌, ◌≤◌, ℕ, List, None, Some, OnErr, OnOk, MatchOption, IsTrue, false, length, nat_eq, if◌then◌else◌};
+ghost use Rattle.std.specs.Prelude.{◌≡◌, ◌+◌, ◌-◌, ◌<◌, ◌≤◌, ℕ, List, None, Some, OnErr, OnOk, MatchOption, IsTrue, false, length, nat_eq, take, if◌then◌else◌};
 ghost use Rattle.std.specs.Cmp.Lexicographic.{pointwise};
 ghost use Rattle.dns_name.specs.Labels.{octets_of, parent_of, Labels};
 ghost use Rattle.local_zone.specs.CountsBelow.{count_under, is_below_from, AreAboveZero};
 ghost use Rattle.local_zone.specs.Index.{under};
 
-use crate::taken::Taken;
 use dns_name::{Name, NoMemory};
 use indexmap::IndexMap;
 use std::alloc::{AllocError, Global};
@@ -110,6 +109,79 @@ fn lower(counts: &mut IndexMap<Vec<u8>, u64>, octets: &[u8], less: u64)
     }
 }
 
+/// Takes from the counts what other counts have at a place. It takes no memory.
+fn lower_at(counts: &mut IndexMap<Vec<u8>, u64>, less: &IndexMap<Vec<u8>, u64>, place: usize)
+    requires { place < length less.now.entries }
+    ensures count { (other : List ℕ) (all : ℕ) →
+        count_under (λ k. k.items) other counts.old.entries ≡ all - count_under (λ k. k.items) other (take place less.now.entries) →
+        count_under (λ k. k.items) other counts.new.entries ≡ all - count_under (λ k. k.items) other (take (place + 1) less.now.entries) }
+    ensures above_zero { AreAboveZero (λ k. k.items) counts.old.entries → AreAboveZero (λ k. k.items) counts.new.entries }
+{
+    // For its law alone: no two counts are of one name.
+    let _all = less.len();
+    if let Some((octets, count)) = less.get_index(place) {
+        lower(counts, octets.as_slice(), *count);
+    }
+}
+
+/// Takes from the counts what the first `many` of other counts say. It takes no memory.
+fn lower_first(counts: &mut IndexMap<Vec<u8>, u64>, less: &IndexMap<Vec<u8>, u64>, many: usize)
+    requires { many ≤ length less.now.entries }
+    ensures count { (other : List ℕ) → count_under (λ k. k.items) other counts.new.entries
+        ≡ count_under (λ k. k.items) other counts.old.entries - count_under (λ k. k.items) other (take many less.now.entries) }
+    ensures above_zero { AreAboveZero (λ k. k.items) counts.old.entries → AreAboveZero (λ k. k.items) counts.new.entries }
+{
+    for i in 0..many {
+        lower_at(counts, less, i);
+    }
+}
+
+/// Adds to the counts what other counts have at a place.
+fn raise_at(
+    alloc: Global,
+    counts: &mut IndexMap<Vec<u8>, u64>,
+    more: &IndexMap<Vec<u8>, u64>,
+    place: usize,
+) -> Result<(), NoMemory>
+    requires place { place < length more.now.entries }
+    requires above_zero { AreAboveZero (λ k. k.items) more.now.entries }
+    ensures ok { OnOk result ((other : List ℕ) (all : ℕ) →
+        count_under (λ k. k.items) other counts.old.entries ≡ all + count_under (λ k. k.items) other (take place more.now.entries) →
+        count_under (λ k. k.items) other counts.new.entries ≡ all + count_under (λ k. k.items) other (take (place + 1) more.now.entries)) }
+    ensures err { OnErr result ((other : List ℕ) → count_under (λ k. k.items) other counts.new.entries
+        ≡ count_under (λ k. k.items) other counts.old.entries) }
+    ensures above_zero { AreAboveZero (λ k. k.items) counts.old.entries → AreAboveZero (λ k. k.items) counts.new.entries }
+{
+    // For its law alone: no two counts are of one name.
+    let _all = more.len();
+    match more.get_index(place) {
+        Some((octets, count)) => raise(alloc, counts, octets.as_slice(), *count),
+        None => Ok(()),
+    }
+}
+
+/// Adds to the counts what other counts say.
+fn raise_all(
+    alloc: Global,
+    counts: &mut IndexMap<Vec<u8>, u64>,
+    more: &IndexMap<Vec<u8>, u64>,
+) -> Result<(), NoMemory>
+    requires { AreAboveZero (λ k. k.items) more.now.entries }
+    ensures ok { OnOk result ((other : List ℕ) → count_under (λ k. k.items) other counts.new.entries
+        ≡ count_under (λ k. k.items) other counts.old.entries + count_under (λ k. k.items) other more.now.entries) }
+    ensures err { OnErr result ((other : List ℕ) → count_under (λ k. k.items) other counts.new.entries
+        ≡ count_under (λ k. k.items) other counts.old.entries) }
+    ensures above_zero { AreAboveZero (λ k. k.items) counts.old.entries → AreAboveZero (λ k. k.items) counts.new.entries }
+{
+    for i in 0..more.len() {
+        if let Err(e) = raise_at(alloc, counts, more, i) {
+            lower_first(counts, more, i);
+            return Err(e);
+        }
+    }
+    Ok(())
+}
+
 /// For each name the number of records strictly below it, or of those that lie in zones strictly below it. Contracts see these
 /// counts, each under the octets of its name. A name whose count is 0 takes no memory.
 #[derive(Drop)]
@@ -130,8 +202,7 @@ impl Model for CountsBelow {
 
 impl CountsBelow {
     ghost use Rattle.std.specs.Prelude.{[]};
-    ghost use Rattle.local_zone.specs.CountsBelow.{count_below, counted, is_below, is_below_from, CountLessBy, CountMoreBy, CountTheSame};
-    ghost use Rattle.local_zone.specs.Gaps.{records_of};
+    ghost use Rattle.local_zone.specs.CountsBelow.{counted, is_below, is_below_from, CountLessBy, CountMoreBy, CountTheSame};
 
     /// Nothing is counted. It takes no memory.
     pub(crate) fn new(alloc: Global) -> CountsBelow
@@ -236,26 +307,19 @@ impl CountsBelow {
         self.remove_from(owner, 0, 1);
     }
 
-    /// Counts records that come back. If memory is refused, no count has changed.
-    pub(crate) fn add_all(&mut self, alloc: Global, taken: &[Taken]) -> Result<(), NoMemory>
-        ensures ok { OnOk result (CountMoreBy (λ name. count_below name (records_of taken.now)) self.old self.new) }
+    /// Counts as many more below each name as other counts say. If memory is refused, or there are more than can be counted, no count
+    /// has changed.
+    pub(crate) fn add_all(&mut self, alloc: Global, more: &CountsBelow) -> Result<(), NoMemory>
+        ensures ok { OnOk result (CountMoreBy (λ name. counted name more.now) self.old self.new) }
         ensures err { OnErr result (CountTheSame self.old self.new) }
     {
-        for i in 0..taken.len() {
-            if let Err(e) = self.add(alloc, taken[i].item.owner()) {
-                self.remove_all(&taken[..i]);
-                return Err(e);
-            }
-        }
-        Ok(())
+        raise_all(alloc, &mut self.counts, &more.counts)
     }
 
-    /// Counts records that were taken no more. It takes no memory.
-    pub(crate) fn remove_all(&mut self, taken: &[Taken])
-        ensures { CountLessBy (λ name. count_below name (records_of taken.now)) self.old self.new }
+    /// Counts as many less below each name as other counts say. It takes no memory.
+    pub(crate) fn remove_all(&mut self, less: &CountsBelow)
+        ensures { CountLessBy (λ name. counted name less.now) self.old self.new }
     {
-        for t in taken {
-            self.remove(t.item.owner());
-        }
+        lower_first(&mut self.counts, &less.counts, less.counts.len());
     }
 }

@@ -306,7 +306,7 @@ impl RecordList {
         let below = counts_at(alloc, self.list.as_slice(), gaps)?;
         cut_out(alloc, &mut self.list, gaps, &mut taken)?;
         move_groups(&mut self.owners, &mut groups, &taken);
-        self.below.remove_all(&taken);
+        self.below.remove_all(&below);
         Ok(Removed {
             taken,
             groups,
@@ -329,7 +329,7 @@ impl RecordList {
         let mut gaps = Vec::with_capacity(alloc, removed.taken.len())?;
         let second = room_for(alloc, &mut self.list, &removed.taken)?;
         self.owners.reserve(removed.groups.len())?;
-        self.below.add_all(alloc, &removed.taken)?;
+        self.below.add_all(alloc, &removed.below)?;
         let taken = mem::replace(&mut removed.taken, Vec::new(alloc));
         let groups = mem::replace(&mut removed.groups, IndexMap::new(alloc));
         removed.below = CountsBelow::new(alloc);

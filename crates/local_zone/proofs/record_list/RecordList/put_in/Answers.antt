@@ -1,8 +1,8 @@
-use Rattle.std.proofs.Common.{◌≡◌, ◌+◌, List, ◌++◌, ap, sym, subst, ◌∙◌}
+use Rattle.std.proofs.Common.{◌≡◌, ℕ, ◌+◌, List, ◌++◌, ap, sym, subst, ◌∙◌}
 use Rattle.dns_text.specs.declared.record.Record.{Record}
 use Rattle.local_zone.specs.declared.taken.Taken.{Taken}
-use Rattle.local_zone.specs.CountsBelow.{count_below, counted, AreCounted, lies_below}
-use Rattle.local_zone.specs.Gaps.{records_of, put_back, AreApart}
+use Rattle.local_zone.specs.CountsBelow.{counted, AreCounted, lies_below}
+use Rattle.local_zone.specs.Gaps.{put_back, AreApart}
 use Rattle.local_zone.specs.Index.{IsGrouped}
 use Rattle.local_zone.proofs.CountsBelowLaws.{counted_back}
 use Rattle.local_zone.proofs.GroupLaws.{grouped_joined}
@@ -23,5 +23,5 @@ invariant_of-self-2 c =
     (subst (λ es. IsGrouped octets items (put_back taken left) (c.removed.inside.groups.entries ++ es)) (sym entries) both) in (
       subst (λ (x : List Record). IsGrouped octets items x c.put_groups.new.owners.entries) (sym list_is) (c.put_groups.ensures (put_back taken left) now),
       subst (λ (x : List Record). AreCounted x c.add_all.new.self) (sym list_is) (counted_back lies_below taken left c.self.inside.below c.add_all.new.self c.self.invariant.1
-          (λ name. c.in_ok-add_all.ensures.ok name ∙ ap (λ (ts : List Taken). counted name c.self.inside.below + count_below name (records_of ts)) c.deref-2.ensures.value)),
+          (λ name. c.in_ok-add_all.ensures.ok name ∙ ap {B = ℕ} (λ n. counted name c.self.inside.below + n) (c.removed.invariant.1 name))),
     )

@@ -3,7 +3,7 @@ use Rattle.std.specs.List.{AllByRecursion}
 use Rattle.dns_name.specs.Labels.{octets_of}
 use Rattle.dns_text.specs.declared.record.Record.{Record}
 use Rattle.local_zone.specs.declared.taken.Taken.{Taken}
-use Rattle.local_zone.specs.CountsBelow.{count_below, counted, AreCounted, lies_below}
+use Rattle.local_zone.specs.CountsBelow.{counted, AreCounted, lies_below}
 use Rattle.local_zone.specs.Gaps.{records_of, at_gaps, rest_of, AreApart, AreWithin}
 use Rattle.local_zone.specs.Index.{of_owner, under, IsGrouped}
 use Rattle.local_zone.proofs.CountsBelowLaws.{counted_left}
@@ -53,6 +53,8 @@ invariant_of-self-2 c =
     let taken_is : c.cut_out.new.taken.items ≡ at_gaps gaps before = c.in_ok-cut_out.ensures.taken ∙ ap (λ (x : List Taken). x ++ at_gaps c.args.gaps.now c.self.inside.list.items) c.in_ok-taken.ensures.items in
     let left_is : c.cut_out.new.list.items ≡ rest_of gaps before = c.in_ok-cut_out.ensures.list in
     let within : AreWithin gaps before = subst (λ (x : List Record). AreWithin gaps x) (sym c.self.view_is) c.requires.within in
+    let are : AreCounted (records_of c.cut_out.new.taken.items) c.in_ok-below.below
+    = subst (λ (ts : List Taken). AreCounted (records_of ts) c.in_ok-below.below) (ap (λ (rs : List Record). at_gaps gaps rs) c.as_slice.ensures.value ∙ sym taken_is) c.in_ok-below.ensures in
     let grouped =
     (parts octets items before gaps c.cut_out.new.taken.items c.cut_out.new.list.items c.move_groups.new.groups.entries c.move_groups.new.owners.entries c.self.inside.owners.entries
     (subst (λ (x : List Record). AreWithin gaps x) (sym c.self.view_is) c.requires.within)
@@ -63,5 +65,5 @@ invariant_of-self-2 c =
     (λ owner none. c.move_groups.ensures.only owner (ap (λ (ts : List Taken). of_owner owner (records_of ts)) c.deref.ensures.value ∙ none) (ap (λ gs. under octets (octets_of owner) gs) (nothing c.in_ok-groups.groups.entries c.in_ok-groups.ensures.len)))).1 in (
       grouped,
       counted_left lies_below before gaps c.cut_out.new.taken.items c.cut_out.new.list.items c.self.inside.below c.remove_all.new.self within taken_is left_is c.self.invariant.1
-          (λ name. c.remove_all.ensures name ∙ ap (λ (ts : List Taken). counted name c.self.inside.below - count_below name (records_of ts)) c.deref-2.ensures.value),
+          (λ name. c.remove_all.ensures name ∙ ap {B = ℕ} (λ n. counted name c.self.inside.below - n) (are name)),
     )
