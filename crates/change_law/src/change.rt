@@ -2,9 +2,10 @@
 
 ghost use Rattle.std.specs.Prelude.{◌≡◌, ◌≤◌, ◌<◌, max, ℕ, Bool, false, Option, None, IfOk, IfErr, IsOk, OnOk, OnErr};
 ghost use Rattle.dns_text.specs.declared.record.Question.{Question};
+ghost use Rattle.change_law.specs.Made.{MakesChange, RefusesChange, RefusesTurn};
 ghost use Rattle.change_law.specs.Effect.{effect, IsFaultFor};
-ghost use Rattle.change_law.specs.Row.{CanGoBack, CanGoAgain, GoesBack, GoesAgain, IsSameKind, IsTurned, IsMade, SettlesOldest, SettlesCleared};
-ghost use Rattle.change_law.specs.Row.{IsNoMore, IsRefused, NeedsNoneUnless, StoresNoMoreCells, where_chosen};
+ghost use Rattle.change_law.specs.Row.{CanGoBack, CanGoAgain, GoesBack, GoesAgain, IsSameKind, IsTurned, SettlesOldest, SettlesCleared};
+ghost use Rattle.change_law.specs.Row.{IsNoMore, NeedsNoneUnless, StoresNoMoreCells};
 
 use crate::fault::ChangeFault;
 use crate::world::World;
@@ -47,8 +48,7 @@ pub trait Change: Drop {
         ensures kind { IfOk result (λ saved. (Self.World.table saved ≡ table self) × (Self.World.told saved ≡ told self)) }
 
         // The world keeps it and clears the undone changes. In each choice with it, it has its effect.
-        ensures row { IfOk result (λ saved. IsMade Self.World.table Self.World.keeps Self.World.face Self.World.newest
-            (where_chosen ticket (effect (after self) (empties self))) ticket saved world.old world.new) }
+        ensures row { IfOk result (MakesChange Self.World.World (effect (after self) (empties self)) ticket world.old world.new) }
         ensures newest { OnOk result (Self.World.newest world.new ≤ max (Self.World.newest world.old) ticket) }
 
         // Only if it removed something from the tables, its undo may need memory.
@@ -56,8 +56,7 @@ pub trait Change: Drop {
 
         // If the tables allow it, the only fault is that there is no memory.
         ensures err { IfErr result (λ fault. IsFaultFor (reason self (Self.World.shown world.old).tables) fault) }
-        ensures same { OnErr result (IsRefused Self.World.table Self.World.keeps Self.World.face Self.World.newest Self.World.stored
-            Self.World.counts world.old world.new) }
+        ensures same { OnErr result (RefusesChange Self.World.World world.old world.new) }
         ensures store { StoresNoMoreCells Self.World.stored Self.World.limit Self.World.counts world.old world.new };
 
     /// Undoes a change. No later change of its table is in effect. No face changes.
@@ -70,8 +69,7 @@ pub trait Change: Drop {
         ensures kind { OnOk result (IsSameKind Self.World.table Self.World.told saved.old saved.new) }
         ensures turned { OnOk result (IsTurned Self.World.needs_memory Self.World.needs_memory_after saved.old saved.new) }
         ensures free { Self.World.needs_memory saved.old ≡ false → IsOk result }
-        ensures err { OnErr result (IsRefused Self.World.table Self.World.keeps Self.World.face Self.World.newest Self.World.stored
-            Self.World.counts world.old world.new × (saved.new ≡ saved.old)) }
+        ensures err { OnErr result (RefusesTurn Self.World.World world.old saved.old world.new saved.new) }
         ensures counts { IsNoMore Self.World.newest Self.World.stored Self.World.limit Self.World.counts world.old world.new };
 
     /// Redoes an undone change. No earlier change of its table is undone. No face changes.
@@ -84,8 +82,7 @@ pub trait Change: Drop {
         ensures kind { OnOk result (IsSameKind Self.World.table Self.World.told saved.old saved.new) }
         ensures turned { OnOk result (IsTurned Self.World.needs_memory Self.World.needs_memory_after saved.old saved.new) }
         ensures free { Self.World.needs_memory saved.old ≡ false → IsOk result }
-        ensures err { OnErr result (IsRefused Self.World.table Self.World.keeps Self.World.face Self.World.newest Self.World.stored
-            Self.World.counts world.old world.new × (saved.new ≡ saved.old)) }
+        ensures err { OnErr result (RefusesTurn Self.World.World world.old saved.old world.new saved.new) }
         ensures counts { IsNoMore Self.World.newest Self.World.stored Self.World.limit Self.World.counts world.old world.new };
 
     /// Stops keeping a change: the oldest, which stays in effect for good, or a cleared one, which never will be again.
