@@ -311,3 +311,9 @@ module _ (counts : Labels → Labels → Bool) where
   pub counted_back : (taken : List Taken) (left : List Record) (start after : List (List ℕ × ℕ)) → AreCountedBy counts left start
       → ((name : Labels) → counted name after ≡ counted name start + count_where (counts name) (records_of taken)) → AreCountedBy counts (put_back taken left) after
   counted_back taken left start after h more name = omega (arith, h name, more name, count_back (counts name) taken left)
+
+  pub counted_gone : (before : List Record) (gaps : List ℕ) (taken : List Taken) (left : List Record) (start after : List (List ℕ × ℕ)) → AreWithin gaps before → taken ≡ at_gaps gaps before → left ≡ rest_of gaps before
+      → AreCountedBy counts before start → ((name : Labels) → counted name after ≡ counted name start - count_where (counts name) left) → AreCountedBy counts (records_of taken) after
+  counted_gone before gaps taken left start after within taken_is left_is h less name =
+      let same : put_back taken left ≡ before = (λ i. put_back (taken_is i) (left_is i)) ∙ back_at gaps before within in
+      omega (arith, h name, less name, count_back (counts name) taken left, ap (count_where (counts name)) same)

@@ -240,6 +240,21 @@ length_at (gap ∷ more) records = by (drop gap records) (length_at more (drop 1
     by [] h = omega (arith, h)
     by (r ∷ rest) h = omega (arith, h)
 
+-- one record more
+pub none_push : (owner : Labels) (records : List Record) (r : Record) → of_owner owner (records ++ r ∷ []) ≡ [] → (of_owner owner records ≡ []) × (name_eq r.owner owner ≡ false)
+none_push owner [] r e = (refl, by (name_eq r.owner owner) e)
+  where
+    by : (b : Bool) → cond b (r ∷ []) [] ≡ [] → b ≡ false
+    by true h = absurd cc
+    by false h = refl
+none_push owner (u ∷ records) r e = by (name_eq u.owner owner) e (none_push owner records r)
+  where
+    by : (b : Bool) → cond b (u ∷ of_owner owner (records ++ r ∷ [])) (of_owner owner (records ++ r ∷ [])) ≡ []
+        → (of_owner owner (records ++ r ∷ []) ≡ [] → (of_owner owner records ≡ []) × (name_eq r.owner owner ≡ false))
+        → (cond b (u ∷ of_owner owner records) (of_owner owner records) ≡ []) × (name_eq r.owner owner ≡ false)
+    by true h later = absurd cc
+    by false h later = later h
+
 pub owner_push : (owner : Labels) (taken : List Taken) (t : Taken) → of_owner owner (records_of (taken ++ t ∷ [])) ≡ [] → (of_owner owner (records_of taken) ≡ []) × (name_eq t.item.owner owner ≡ false)
 owner_push owner [] t e = (refl, by (name_eq t.item.owner owner) e)
   where

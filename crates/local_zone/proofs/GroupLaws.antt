@@ -31,6 +31,27 @@ first_three (Some g) y z = refl
 same_octets : (a b : List ℕ) → pointwise nat_eq a b ≡ true → a ≡ b
 same_octets a b h = (bytes_eq-Decides a b).0 h
 
+-- Each owner has its records in one of two parts of a list, in order.
+pub record AreParts (part rest all : List Record) : Type 0 where
+  pub apart : (owner : Labels) → (of_owner owner part ≡ []) ⊎ (of_owner owner rest ≡ [])
+  pub without : (owner : Labels) → of_owner owner part ≡ [] → of_owner owner all ≡ of_owner owner rest
+  pub alone : (owner : Labels) → of_owner owner rest ≡ [] → of_owner owner all ≡ of_owner owner part
+
+-- what was taken, and what stayed
+pub parts_back : (taken : List Taken) (left : List Record) → AreApart taken left → AreParts (records_of taken) left (put_back taken left)
+parts_back taken left apart = record { apart = apart; without = λ owner none. put_none owner taken left none; alone = λ owner none. put_all owner taken left none }
+
+pub parts_cut : (before : List Record) (gaps : List ℕ) (taken : List Taken) (left : List Record) → AreWithin gaps before → AreApart (at_gaps gaps before) (rest_of gaps before) → taken ≡ at_gaps gaps before → left ≡ rest_of gaps before
+    → AreParts (records_of taken) left before
+parts_cut before gaps taken left within apart taken_is left_is =
+    let same : put_back taken left ≡ before = (λ i. put_back (taken_is i) (left_is i)) ∙ back_at gaps before within in
+    let parted : AreApart taken left = subst (λ (x : List Taken). AreApart x left) (sym taken_is) (subst (λ (y : List Record). AreApart (at_gaps gaps before) y) (sym left_is) apart) in
+    subst (λ (x : List Record). AreParts (records_of taken) left x) same (parts_back taken left parted)
+
+-- what stayed, and what was taken
+pub parts_turned : (part rest all : List Record) → AreParts part rest all → AreParts rest part all
+parts_turned part rest all are = record { apart = λ owner. elim (are.apart owner) [ inl none ↦ inr none | inr none ↦ inl none ]; without = are.alone; alone = are.without }
+
 module _ {K G : Type 0} (octets : K → List ℕ) (items : G → List Record) where
   under_append : (name : List ℕ) (a b : List (K × G)) → under octets name (a ++ b) ≡ first_of (under octets name a) (under octets name b)
   under_append name [] b = refl
@@ -156,98 +177,127 @@ module _ {K G : Type 0} (octets : K → List ℕ) (items : G → List Record) wh
   grouped_put groups es after k g here keeps records h =
       (λ owner. same_left (ap (items_in items) (same_put groups es after k g here keeps owner)) (h.0 owner), λ owner none. same_put groups es after k g here keeps owner ∙ h.1 owner none)
 
-  -- ---- the index of what stayed, and that of what was taken
+  -- ---- two indexes that share no owner
 
-  owner_gone : (owner : Labels) (es : List (K × G)) (taken : List Taken) → AllByRecursion (λ t. under octets (octets_of t.item.owner) es ≡ None) taken
+  first_either : (x y : Option G) → (x ≡ None) ⊎ (y ≡ None) → first_of x y ≡ first_of y x
+  first_either x y (inl none) = ap (λ (v : Option G). first_of v y) none ∙ sym (first_none y) ∙ ap (first_of y) (sym none)
+  first_either x y (inr none) = ap (first_of x) none ∙ first_none x ∙ ap (λ (v : Option G). first_of v x) (sym none)
+
+  -- their order does not matter
+  pub grouped_swapped : (a b : List (K × G)) → ((o : Labels) → (under octets (octets_of o) a ≡ None) ⊎ (under octets (octets_of o) b ≡ None)) → (records : List Record)
+      → IsGrouped octets items records (a ++ b) → IsGrouped octets items records (b ++ a)
+  grouped_swapped a b apart records h = (λ o. same_left (ap (items_in items) (same o)) (h.0 o), λ o none. same o ∙ h.1 o none)
+    where
+      same : (o : Labels) → under octets (octets_of o) (b ++ a) ≡ under octets (octets_of o) (a ++ b)
+      same o =
+          under_append (octets_of o) b a ∙ sym (first_either (under octets (octets_of o) a) (under octets (octets_of o) b) (apart o)) ∙ sym (under_append (octets_of o) a b)
+
+  -- ---- the index of one part of a list, and that of the other
+
+  -- an owner with a record in the part has no group there any more
+  pub taken_out : (owner : Labels) (es : List (K × G)) (taken : List Taken) → AllByRecursion (λ t. under octets (octets_of t.item.owner) es ≡ None) taken
       → (of_owner owner (records_of taken) ≡ []) ⊎ (under octets (octets_of owner) es ≡ None)
-  owner_gone owner es [] h = inl refl
-  owner_gone owner es (t ∷ taken) h = by (name_eq t.item.owner owner) refl (owner_gone owner es taken h.1)
+  taken_out owner es [] h = inl refl
+  taken_out owner es (t ∷ taken) h = by (name_eq t.item.owner owner) refl (taken_out owner es taken h.1)
     where
       by : (b : Bool) → name_eq t.item.owner owner ≡ b → (of_owner owner (records_of taken) ≡ []) ⊎ (under octets (octets_of owner) es ≡ None)
           → (cond b (t.item ∷ of_owner owner (records_of taken)) (of_owner owner (records_of taken)) ≡ []) ⊎ (under octets (octets_of owner) es ≡ None)
       by true e more = inr (subst (λ (o : Labels). under octets (octets_of o) es ≡ None) (name_eq_exact t.item.owner owner e) h.0)
       by false e more = more
 
-  module _ (taken : List Taken) (left : List Record) (groups es : List (K × G)) (apart : AreApart taken left) where
+  pub kept_out : (owner : Labels) (es : List (K × G)) (left : List Record) → AllByRecursion (λ r. under octets (octets_of r.owner) es ≡ None) left
+      → (of_owner owner left ≡ []) ⊎ (under octets (octets_of owner) es ≡ None)
+  kept_out owner es [] h = inl refl
+  kept_out owner es (r ∷ left) h = by (name_eq r.owner owner) refl (kept_out owner es left h.1)
+    where
+      by : (b : Bool) → name_eq r.owner owner ≡ b → (of_owner owner left ≡ []) ⊎ (under octets (octets_of owner) es ≡ None)
+          → (cond b (r ∷ of_owner owner left) (of_owner owner left) ≡ []) ⊎ (under octets (octets_of owner) es ≡ None)
+      by true e more = inr (subst (λ (o : Labels). under octets (octets_of o) es ≡ None) (name_eq_exact r.owner owner e) h.0)
+      by false e more = more
+
+  module _ (part rest all : List Record) (groups es : List (K × G)) (are : AreParts part rest all) where
     first_groups : (owner : Labels) → under octets (octets_of owner) groups ≡ None → under octets (octets_of owner) (groups ++ es) ≡ under octets (octets_of owner) es
     first_groups owner none = under_append (octets_of owner) groups es ∙ ap (λ (x : Option G). first_of x (under octets (octets_of owner) es)) none
 
-    split_left : IsIndexed octets items (put_back taken left) (groups ++ es) → ((owner : Labels) → of_owner owner (records_of taken) ≡ [] → under octets (octets_of owner) groups ≡ None)
-        → AllByRecursion (λ t. under octets (octets_of t.item.owner) es ≡ None) taken → IsIndexed octets items left es
-    split_left h only gone owner = by (owner_gone owner es taken gone)
-      where
-        where_none : of_owner owner (records_of taken) ≡ [] → HoldSame (items_in items (under octets (octets_of owner) es)) (of_owner owner left)
-        where_none none = same_left (ap (items_in items) (sym (first_groups owner (only owner none)))) (same_right (h owner) (put_none owner taken left none))
+    module _ (h : IsGrouped octets items all (groups ++ es)) (only : (owner : Labels) → of_owner owner part ≡ [] → under octets (octets_of owner) groups ≡ None)
+        (out : (owner : Labels) → (of_owner owner part ≡ []) ⊎ (under octets (octets_of owner) es ≡ None)) where
+      split_rest : IsIndexed octets items rest es
+      split_rest owner = by (out owner)
+        where
+          where_none : of_owner owner part ≡ [] → HoldSame (items_in items (under octets (octets_of owner) es)) (of_owner owner rest)
+          where_none none = same_left (ap (items_in items) (sym (first_groups owner (only owner none)))) (same_right (h.0 owner) (are.without owner none))
 
-        by : (of_owner owner (records_of taken) ≡ []) ⊎ (under octets (octets_of owner) es ≡ None) → HoldSame (items_in items (under octets (octets_of owner) es)) (of_owner owner left)
-        by (inl none) = where_none none
-        by (inr out) = elim (apart owner) [ inl none ↦ where_none none | inr stayed ↦ same_left (ap (items_in items) out) (same_right (same_itself []) (sym stayed)) ]
+          by : (of_owner owner part ≡ []) ⊎ (under octets (octets_of owner) es ≡ None) → HoldSame (items_in items (under octets (octets_of owner) es)) (of_owner owner rest)
+          by (inl none) = where_none none
+          by (inr gone) = elim (are.apart owner) [ inl none ↦ where_none none | inr alone ↦ same_left (ap (items_in items) gone) (same_right (same_itself []) (sym alone)) ]
 
-    owned_left : AreOwned octets (put_back taken left) (groups ++ es) → ((owner : Labels) → of_owner owner (records_of taken) ≡ [] → under octets (octets_of owner) groups ≡ None)
-        → AllByRecursion (λ t. under octets (octets_of t.item.owner) es ≡ None) taken → AreOwned octets left es
-    owned_left h only gone owner stayed = by (owner_gone owner es taken gone)
-      where
-        by : (of_owner owner (records_of taken) ≡ []) ⊎ (under octets (octets_of owner) es ≡ None) → under octets (octets_of owner) es ≡ None
-        by (inl none) = sym (first_groups owner (only owner none)) ∙ h owner (put_none owner taken left none ∙ stayed)
-        by (inr out) = out
+      owned_rest : AreOwned octets rest es
+      owned_rest owner alone = by (out owner)
+        where
+          by : (of_owner owner part ≡ []) ⊎ (under octets (octets_of owner) es ≡ None) → under octets (octets_of owner) es ≡ None
+          by (inl none) = sym (first_groups owner (only owner none)) ∙ h.1 owner (are.without owner none ∙ alone)
+          by (inr gone) = gone
 
-    pub grouped_left : IsGrouped octets items (put_back taken left) (groups ++ es) → ((owner : Labels) → of_owner owner (records_of taken) ≡ [] → under octets (octets_of owner) groups ≡ None)
-        → AllByRecursion (λ t. under octets (octets_of t.item.owner) es ≡ None) taken → IsGrouped octets items left es
-    grouped_left h only gone = (split_left h.0 only gone, owned_left h.1 only gone)
+      split_part : IsIndexed octets items part groups
+      split_part owner = by (out owner)
+        where
+          where_none : of_owner owner part ≡ [] → HoldSame (items_in items (under octets (octets_of owner) groups)) (of_owner owner part)
+          where_none none = same_left (ap (items_in items) (only owner none)) (same_right (same_itself []) (sym none))
 
-    pub split_taken : IsIndexed octets items (put_back taken left) (groups ++ es) → ((owner : Labels) → of_owner owner (records_of taken) ≡ [] → under octets (octets_of owner) groups ≡ None)
-        → AllByRecursion (λ t. under octets (octets_of t.item.owner) es ≡ None) taken → IsGrouped octets items (records_of taken) groups
-    split_taken h only gone = (λ owner. by owner (owner_gone owner es taken gone), only)
-      where
-        where_none : (owner : Labels) → of_owner owner (records_of taken) ≡ [] → HoldSame (items_in items (under octets (octets_of owner) groups)) (of_owner owner (records_of taken))
-        where_none owner none = same_left (ap (items_in items) (only owner none)) (same_right (same_itself []) (sym none))
+          by : (of_owner owner part ≡ []) ⊎ (under octets (octets_of owner) es ≡ None) → HoldSame (items_in items (under octets (octets_of owner) groups)) (of_owner owner part)
+          by (inl none) = where_none none
+          by (inr gone) =
+              elim (are.apart owner) [
+                | inl none ↦ where_none none
+                | inr alone ↦
+                    same_left (ap (items_in items) (sym (under_append (octets_of owner) groups es ∙ ap (first_of (under octets (octets_of owner) groups)) gone ∙ first_none (under octets (octets_of owner) groups))))
+                    (same_right (h.0 owner) (are.alone owner alone))
+              ]
 
-        by : (owner : Labels) → (of_owner owner (records_of taken) ≡ []) ⊎ (under octets (octets_of owner) es ≡ None) → HoldSame (items_in items (under octets (octets_of owner) groups)) (of_owner owner (records_of taken))
-        by owner (inl none) = where_none owner none
-        by owner (inr out) =
-            elim (apart owner) [
-              | inl none ↦ where_none owner none
-              | inr stayed ↦
-                  same_left (ap (items_in items) (sym (under_append (octets_of owner) groups es ∙ ap (first_of (under octets (octets_of owner) groups)) out ∙ first_none (under octets (octets_of owner) groups))))
-                  (same_right (h owner) (put_all owner taken left stayed))
-            ]
+      -- the groups that went are those of the part
+      pub grouped_parts : IsGrouped octets items part groups × IsGrouped octets items rest es
+      grouped_parts = ((split_part, only), (split_rest, owned_rest))
 
-    joined : IsGrouped octets items (records_of taken) groups → IsIndexed octets items left es → IsIndexed octets items (put_back taken left) (groups ++ es)
+    joined : IsGrouped octets items part groups → IsIndexed octets items rest es → IsIndexed octets items all (groups ++ es)
     joined t l owner =
-        elim (apart owner) [
-          | inl none ↦ same_left (ap (items_in items) (first_groups owner (t.1 owner none))) (same_right (l owner) (sym (put_none owner taken left none)))
-          | inr stayed ↦ by stayed (under octets (octets_of owner) groups) refl
+        elim (are.apart owner) [
+          | inl none ↦ same_left (ap (items_in items) (first_groups owner (t.1 owner none))) (same_right (l owner) (sym (are.without owner none)))
+          | inr alone ↦ by alone (under octets (octets_of owner) groups) refl
         ]
       where
-        by : of_owner owner left ≡ [] → (x : Option G) → under octets (octets_of owner) groups ≡ x → HoldSame (items_in items (under octets (octets_of owner) (groups ++ es))) (of_owner owner (put_back taken left))
-        by stayed None is =
-            let none : of_owner owner (records_of taken) ≡ [] = held_none (of_owner owner (records_of taken)) (same_left (sym (ap (items_in items) is)) (t.0 owner)) in
-            same_left (ap (items_in items) (first_groups owner is)) (same_right (l owner) (stayed ∙ sym none ∙ sym (put_all owner taken left stayed)))
-        by stayed (Some g) is =
-            same_left (ap (items_in items) (under_append (octets_of owner) groups es ∙ ap (λ (x : Option G). first_of x (under octets (octets_of owner) es)) is ∙ sym is)) (same_right (t.0 owner) (sym (put_all owner taken left stayed)))
+        by : of_owner owner rest ≡ [] → (x : Option G) → under octets (octets_of owner) groups ≡ x → HoldSame (items_in items (under octets (octets_of owner) (groups ++ es))) (of_owner owner all)
+        by alone None is =
+            let none : of_owner owner part ≡ [] = held_none (of_owner owner part) (same_left (sym (ap (items_in items) is)) (t.0 owner)) in
+            same_left (ap (items_in items) (first_groups owner is)) (same_right (l owner) (alone ∙ sym none ∙ sym (are.alone owner alone)))
+        by alone (Some g) is =
+            same_left (ap (items_in items) (under_append (octets_of owner) groups es ∙ ap (λ (x : Option G). first_of x (under octets (octets_of owner) es)) is ∙ sym is)) (same_right (t.0 owner) (sym (are.alone owner alone)))
 
-    owned_joined : AreOwned octets (records_of taken) groups → AreOwned octets left es → AreOwned octets (put_back taken left) (groups ++ es)
+    owned_joined : AreOwned octets part groups → AreOwned octets rest es → AreOwned octets all (groups ++ es)
     owned_joined t l owner none =
-        elim (apart owner) [
-          | inl empty ↦ first_groups owner (t owner empty) ∙ l owner (sym (put_none owner taken left empty) ∙ none)
-          | inr stayed ↦ first_groups owner (t owner (sym (put_all owner taken left stayed) ∙ none)) ∙ l owner stayed
+        elim (are.apart owner) [
+          | inl empty ↦ first_groups owner (t owner empty) ∙ l owner (sym (are.without owner empty) ∙ none)
+          | inr alone ↦ first_groups owner (t owner (sym (are.alone owner alone) ∙ none)) ∙ l owner alone
         ]
 
-    pub grouped_joined : IsGrouped octets items (records_of taken) groups → IsGrouped octets items left es → IsGrouped octets items (put_back taken left) (groups ++ es)
+    pub grouped_joined : IsGrouped octets items part groups → IsGrouped octets items rest es → IsGrouped octets items all (groups ++ es)
     grouped_joined t l = (joined t l.0, owned_joined t.1 l.1)
 
--- what is left of a list and its index, and what was taken of both
-pub parts : {K G : Type 0} (octets : K → List ℕ) (items : G → List Record) (before : List Record) (gaps : List ℕ) (taken : List Taken) (left : List Record) (groups es start : List (K × G))
-    → AreWithin gaps before → AreApart (at_gaps gaps before) (rest_of gaps before) → taken ≡ at_gaps gaps before → left ≡ rest_of gaps before → IsGrouped octets items before start
-    → ((records : List Record) → IsGrouped octets items records start → IsGrouped octets items records (groups ++ es))
-    → AllByRecursion (λ (t : Taken). under octets (octets_of t.item.owner) es ≡ None) taken
-    → ((owner : Labels) → of_owner owner (records_of taken) ≡ [] → under octets (octets_of owner) groups ≡ None)
-    → IsGrouped octets items (records_of taken) groups × IsGrouped octets items left es
-parts octets items before gaps taken left groups es start within apart taken_is left_is h moves gone only =
-    let same : put_back taken left ≡ before = (λ i. put_back (taken_is i) (left_is i)) ∙ back_at gaps before within in
-    let whole : IsGrouped octets items (put_back taken left) (groups ++ es) = moves (put_back taken left) (subst (λ (x : List Record). IsGrouped octets items x start) (sym same) h) in
-    let parted : AreApart taken left = subst (λ (x : List Taken). AreApart x left) (sym taken_is) (subst (λ (y : List Record). AreApart (at_gaps gaps before) y) (sym left_is) apart) in
-    (split_taken octets items taken left groups es parted whole.0 only gone, grouped_left octets items taken left groups es parted whole only gone)
+    -- no owner has groups in both
+    pub share_none : IsGrouped octets items part groups → IsGrouped octets items rest es → (owner : Labels) → (under octets (octets_of owner) groups ≡ None) ⊎ (under octets (octets_of owner) es ≡ None)
+    share_none t l owner = elim (are.apart owner) [ inl none ↦ inl (t.1 owner none) | inr none ↦ inr (l.1 owner none) ]
+
+-- the index of what was taken, and that of what stayed, where the groups of the one or of the other went
+module _ {K G : Type 0} (octets : K → List ℕ) (items : G → List Record) (before : List Record) (taken : List Taken) (left : List Record) (went es start : List (K × G))
+    (are : AreParts (records_of taken) left before) (whole : IsGrouped octets items before start)
+    (moves : (records : List Record) → IsGrouped octets items records start → IsGrouped octets items records (went ++ es)) where
+  pub taken_parts : AllByRecursion (λ (t : Taken). under octets (octets_of t.item.owner) es ≡ None) taken → ((owner : Labels) → of_owner owner (records_of taken) ≡ [] → under octets (octets_of owner) went ≡ None)
+      → IsGrouped octets items (records_of taken) went × IsGrouped octets items left es
+  taken_parts gone only = grouped_parts octets items (records_of taken) left before went es are (moves before whole) only (λ owner. taken_out octets items owner es taken gone)
+
+  pub kept_parts : AllByRecursion (λ (r : Record). under octets (octets_of r.owner) es ≡ None) left → ((owner : Labels) → of_owner owner left ≡ [] → under octets (octets_of owner) went ≡ None)
+      → IsGrouped octets items left went × IsGrouped octets items (records_of taken) es
+  kept_parts gone only =
+      grouped_parts octets items left (records_of taken) before went es (parts_turned (records_of taken) left before are) (moves before whole) only (λ owner. kept_out octets items owner es left gone)
 
 -- the owner of what is found under a key
 pub key_found : {K G : Type 0} (octets : K → List ℕ) (name : List ℕ) (es : List (K × G)) (k : K) → lookup_key (λ k. pointwise nat_eq name (octets k)) es ≡ Some k → octets k ≡ name

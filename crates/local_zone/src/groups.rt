@@ -91,6 +91,24 @@ pub(crate) fn move_groups(
     }
 }
 
+/// Moves the groups of all owners of what stays out of the index.
+pub(crate) fn keep_groups(
+    owners: &mut IndexMap<Name, Group>,
+    kept: &mut IndexMap<Name, Group>,
+    left: &[LocalRecord],
+)
+    requires room { length left.now ≤ spare kept.old }
+    requires apart { ShareNone kept.old.entries owners.old.entries }
+    ensures index { IndexesSame (kept.old.entries ++ owners.old.entries) (kept.new.entries ++ owners.new.entries) }
+    ensures gone { AllByRecursion (λ r. group_of r.owner owners.new.entries ≡ None) left.now }
+    ensures only { (other : Labels) → of_owner other left.now ≡ [] →
+        group_of other kept.old.entries ≡ None → group_of other kept.new.entries ≡ None }
+{
+    for r in left {
+        move_group(owners, kept, r.owner());
+    }
+}
+
 /// Puts groups back into the index. There is room for them.
 pub(crate) fn put_groups(owners: &mut IndexMap<Name, Group>, groups: IndexMap<Name, Group>)
     requires { length groups.entries ≤ spare owners.old }

@@ -18,11 +18,12 @@ mod zones;
 // The records in order with an index by owner. `passes` takes many out, or puts them back, in one walk. `in_place` does so with
 // few of a long list, which costs less. A `group` is the records of one owner, by TYPE in `sets` if there are several. `groups` looks
 // one up in the index, and moves those of some owners out of it, or back. `counts_below` says of a name how many records lie strictly
-// below it.
+// below it. `join` makes one index of two, with their counts.
 mod counts_below;
 mod group;
 mod groups;
 mod in_place;
+mod join;
 mod passes;
 mod record_list;
 mod removed;

@@ -5,7 +5,7 @@ ghost use Rattle.std.specs.Vec.{vec_len, vec_capacity};
 ghost use Rattle.local_zone.specs.Gaps.{at_gaps, gaps_of, put_back, records_of, rest_of, AreApart, AreWithin};
 ghost use Rattle.std.specs.Prelude.{◌-◌, List, None, map, take, length, false, IsTrue, ◌&&◌, ◌==◌, not};
 ghost use Rattle.std.specs.List.{list_any};
-ghost use Rattle.local_zone.specs.CountsBelow.{count_below, AreCounted};
+ghost use Rattle.local_zone.specs.CountsBelow.{count_below, AreCounted, CountMoreBy};
 ghost use Rattle.local_zone.specs.Tables.{is_of_set};
 ghost use Rattle.local_zone.specs.Change.{retimed_by};
 ghost use Rattle.dns_name.specs.Labels.{Labels};
@@ -17,8 +17,9 @@ ghost use Rattle.local_zone.specs.Show.{data_for, set_of};
 
 use crate::counts_below::CountsBelow;
 use crate::group::Group;
-use crate::groups::{data_in, many_in, move_groups, put_groups, set_in};
+use crate::groups::{data_in, keep_groups, many_in, move_groups, set_in};
 use crate::in_place::{moves_in_place, put_few, take_few};
+use crate::join::join;
 use crate::passes::{push_gaps, put_pass, take_pass};
 use crate::record::{LocalRecord, retime_each};
 use crate::removed::Removed;
@@ -181,6 +182,42 @@ fn counts_at(alloc: Global, list: &[LocalRecord], gaps: &[usize]) -> Result<Coun
     Ok(counts)
 }
 
+/// Counts records below each name above them.
+fn count_each(
+    alloc: Global,
+    counts: &mut CountsBelow,
+    records: &[LocalRecord],
+) -> Result<(), NoMemory>
+    ensures { OnOk result (CountMoreBy (λ name. count_below name records.now) counts.old counts.new) }
+{
+    for r in records {
+        counts.add(alloc, r.owner())?;
+    }
+    Ok(())
+}
+
+/// Counts of the other records, below each name above them.
+fn counts_between(
+    alloc: Global,
+    list: &[LocalRecord],
+    gaps: &[usize],
+) -> Result<CountsBelow, NoMemory>
+    requires { AreWithin gaps.now list.now }
+    ensures { IfOk result (λ counts. AreCounted (rest_of gaps.now list.now) counts) }
+{
+    let mut counts = CountsBelow::new(alloc);
+    let mut place = 0;
+    for gap in gaps {
+        let end = place + *gap;
+        let between = &list[place..end];
+        count_each(alloc, &mut counts, between)?;
+        place = end + 1;
+    }
+    let last = &list[place..];
+    count_each(alloc, &mut counts, last)?;
+    Ok(counts)
+}
+
 /// Records in order. Contracts see the list alone. An index finds those of an owner in one lookup, and counts say in one lookup
 /// how many are below a name.
 #[derive(Drop)]
@@ -301,12 +338,50 @@ impl RecordList {
         ensures removed { IfOk result (λ removed. removed ≡ at_gaps gaps.now self.old) }
         ensures err { OnErr result (self.new ≡ self.old) }
     {
+        if gaps.len() <= self.list.len() / 2 {
+            return self.take_some(alloc, gaps);
+        }
+        self.take_most(alloc, gaps)
+    }
+
+    // Where most stay, the groups of those that go move, and these are counted anew.
+    fn take_some(&mut self, alloc: Global, gaps: &[usize]) -> Result<Removed, NoMemory>
+        requires within { AreWithin gaps.now self.old }
+        requires apart { AreApart (at_gaps gaps.now self.old) (rest_of gaps.now self.old) }
+        ensures ok { OnOk result (self.new ≡ rest_of gaps.now self.old) }
+        ensures removed { IfOk result (λ removed. removed ≡ at_gaps gaps.now self.old) }
+        ensures err { OnErr result (self.new ≡ self.old) }
+    {
         let mut taken = Vec::with_capacity(alloc, gaps.len())?;
         let mut groups = IndexMap::with_capacity(alloc, gaps.len())?;
         let below = counts_at(alloc, self.list.as_slice(), gaps)?;
         cut_out(alloc, &mut self.list, gaps, &mut taken)?;
         move_groups(&mut self.owners, &mut groups, &taken);
         self.below.remove_all(&below);
+        Ok(Removed {
+            taken,
+            groups,
+            below,
+        })
+    }
+
+    // Where most go, they take the index and the counts along. The groups of those that stay move, and these are counted anew.
+    fn take_most(&mut self, alloc: Global, gaps: &[usize]) -> Result<Removed, NoMemory>
+        requires within { AreWithin gaps.now self.old }
+        requires apart { AreApart (at_gaps gaps.now self.old) (rest_of gaps.now self.old) }
+        ensures ok { OnOk result (self.new ≡ rest_of gaps.now self.old) }
+        ensures removed { IfOk result (λ removed. removed ≡ at_gaps gaps.now self.old) }
+        ensures err { OnErr result (self.new ≡ self.old) }
+    {
+        let mut taken = Vec::with_capacity(alloc, gaps.len())?;
+        let stay = self.list.len() - gaps.len();
+        let mut kept = IndexMap::with_capacity(alloc, stay)?;
+        let counts = counts_between(alloc, self.list.as_slice(), gaps)?;
+        cut_out(alloc, &mut self.list, gaps, &mut taken)?;
+        keep_groups(&mut self.owners, &mut kept, &self.list);
+        self.below.remove_all(&counts);
+        let groups = mem::replace(&mut self.owners, kept);
+        let below = mem::replace(&mut self.below, counts);
         Ok(Removed {
             taken,
             groups,
@@ -328,14 +403,16 @@ impl RecordList {
     {
         let mut gaps = Vec::with_capacity(alloc, removed.taken.len())?;
         let second = room_for(alloc, &mut self.list, &removed.taken)?;
-        self.owners.reserve(removed.groups.len())?;
-        self.below.add_all(alloc, &removed.below)?;
+        join(
+            alloc,
+            &mut self.owners,
+            &mut self.below,
+            &mut removed.groups,
+            &mut removed.below,
+        )?;
         let taken = mem::replace(&mut removed.taken, Vec::new(alloc));
-        let groups = mem::replace(&mut removed.groups, IndexMap::new(alloc));
-        removed.below = CountsBelow::new(alloc);
         push_gaps(&taken, &mut gaps);
         put_all(alloc, &mut self.list, taken, &gaps, second);
-        put_groups(&mut self.owners, groups);
         Ok(gaps)
     }
 }
