@@ -7,6 +7,7 @@ pub mod Looked
 pub mod Noting
 pub mod Patience
 pub mod Permits
+pub mod Servers
 pub mod Sockets
 pub mod Streaming
 pub mod FilledCells

@@ -26,6 +26,10 @@ pub data AreRead (passed : Instant → Option Duration → Type 0) (old : ClockS
 abbrev pub IsReadOn : (Instant → Option Duration → Type 0) → ClockState → ClockState → Type 0
 IsReadOn passed old new = (mid : ClockState) × AreRead passed old mid × IsRead passed mid new
 
+-- By a reading of the clock no exchange is overdue, and no question.
+abbrev pub NoneOverdue : ClockState → FlightState → Type 0
+NoneOverdue clock flight = IsPatient PATIENCE (millis_at clock.last) flight × IsTimely QUESTION_PATIENCE (millis_at clock.last) flight
+
 -- In a turn the clock was read, and each exchange that the poll had reported was listened to, and each whose time was up by that reading had ended. So had each question whose time was up. Then those that waited kept no more than they may at rest.
 pub record EndsOverdue {S : Type 0} (passed : Instant → Option Duration → Type 0) (takes sends : Moves S) (flight : FlightState) (old : WorkerState S) (flight' : FlightState) (new : WorkerState S) : Type 0 where
   pub between : FlightState

@@ -1,5 +1,6 @@
 -- How the worker of these sockets asks name servers, goes on with its questions, and seeds its tables.
-use Rattle.std.specs.Prelude.{ℕ, List}
+use Rattle.std.specs.Prelude.{ℕ, List, Option}
+use Rattle.flight.specs.Clients.{Settles}
 use Rattle.flight.specs.Waiting.{FlightState}
 use Rattle.outside.specs.Hashing.{IsSeeded}
 use Rattle.front_workers.specs.declared.worker_sockets.WorkerSockets.{WorkerSockets}
@@ -13,6 +14,11 @@ asking_of sockets = record { server_port = sockets.server_port; place = sockets.
 -- the outbox of the worker of these sockets, and how it asks
 abbrev pub sockets_of : {L R B : Type 0} → WorkerSockets L R B → SocketsState B
 sockets_of sockets = sockets_as sockets.outbox (asking_of sockets)
+
+-- The client of these sockets is settled, by this reply or by none, and the worker asks name servers as before.
+abbrev pub SettlesFor : {L R B K : Type 0} → (B → K → List ℕ → B → Type 0) → K → Option (List ℕ) → WorkerSockets L R B → WorkerSockets L R B → Type 0
+SettlesFor posts client reply old new =
+    Settles (λ sockets. sockets.server_port) (λ sockets. sockets.counts) sockets_of (PostsBy posts) client reply old new
 
 -- Questions in flight went on by these sockets.
 abbrev pub QuestionsGoOnBy : {L R B K : Type 0} → (K → List ℕ → Type 0) → (B → K → List ℕ → B → Type 0) → FlightState → WorkerSockets L R B

@@ -15,7 +15,7 @@ ghost use Rattle.front_workers.specs.Sockets.{QuestionsGoOnBy};
 ghost use Rattle.front_workers.specs.Begun.{AllBegin, BatchBegins, IsBegun, Runs, TakesNone};
 ghost use Rattle.front.specs.Batch.{batch_of};
 ghost use Rattle.front_workers.specs.Looked.{AllLookedAt, EndOverdue, LooksAtAllBy};
-ghost use Rattle.front_workers.specs.Patience.{AreRead, EndsOverdue, IsReadOn, patience_of};
+ghost use Rattle.front_workers.specs.Patience.{AreRead, EndsOverdue, IsReadOn, NoneOverdue, patience_of};
 ghost use Rattle.front.specs.Taken.{IsQuery};
 
 use crate::asking::AskingTerms;
@@ -300,8 +300,7 @@ impl<'a, R: ReadyNet + Log + Elapsing + Wait, S: ServiceSocket> Turns<'a, R, S> 
         ensures sent { self.new.outbox.waiting ≡ [] }
         ensures takes_none { TakesNone S.takes S.sends questions.old self.old questions.new self.new }
         ensures read { IsReadOn R.passed self.old.clock self.new.clock }
-        ensures patient { IsPatient PATIENCE (millis_at self.new.clock.last) questions.new }
-        ensures timely { IsTimely QUESTION_PATIENCE (millis_at self.new.clock.last) questions.new }
+        ensures in_time { NoneOverdue self.new.clock questions.new }
         ensures looks { LooksAtAllBy self.old.reported self.new.clock
             questions.old self.old.counts questions.new self.new.counts }
         ensures reported { self.new.reported ≡ self.old.reported }

@@ -1,29 +1,22 @@
 //! The sockets of one worker.
 
 ghost use Rattle.std.specs.Prelude.{◌≡◌, ◌⊎◌, ◌≤◌, [], ◌∷◌, false, length, true, vec_len};
-ghost use Rattle.std.specs.Prelude.{IfNone, IfOk, IfSome, IsSomeAnd, OnErr, OnSome};
-ghost use Rattle.std.specs.Option.{option_copied};
+ghost use Rattle.std.specs.Prelude.{IfNone, IfOk, IfSome, OnErr};
 ghost use Rattle.clock.specs.Moments.{millis_at};
-ghost use Rattle.outside.specs.Own.{MayAskServer};
-ghost use Rattle.outside.specs.Withheld.{IsWithheld};
 ghost use Rattle.dns_wire.specs.declared.server.query.Asked.TheVariants.{Drop};
 ghost use Rattle.dns_wire.specs.Server.Asking.{AsksFor};
 ghost use Rattle.replies.specs.declared.limits.TheConstants.{MOST_MESSAGE};
 ghost use Rattle.replies.specs.Reply.{fault_octets, most_octets};
-ghost use Rattle.flight.specs.Counted.{CountsAbandoned, CountsExpired, CountsListened, CountsOpened, CountsSettled, no_counts};
+ghost use Rattle.flight.specs.Counted.{CountsAbandoned, CountsExpired, CountsListened, CountsSettled, no_counts};
 ghost use Rattle.flight.specs.Flight.{query_to};
 ghost use Rattle.flight.specs.Told.{octets_of, IsHeard, Keeps};
-ghost use Rattle.outside.specs.Exchanges.{IsNotToBeHad, TellsOf};
 ghost use Rattle.front_workers.specs.Endings.{IsTooLong, Refuses};
-ghost use Rattle.front_workers.specs.Permits.{AsksOnce};
 ghost use Rattle.front.specs.Batch.{batch_of};
 ghost use Rattle.front.specs.Rooms.{fronts_of};
 ghost use Rattle.front.specs.Connections.{Tends};
 ghost use Rattle.front.specs.Moves.{AllMoved, datagram_to};
 ghost use Rattle.front.specs.Outgoing.{Posts};
-ghost use Rattle.outside.specs.Pauses.{others_in, HeedsPause, IsPassedOver};
-ghost use Rattle.outside.specs.Refusals.{IsLeftAlone, LooksUpList, list_of_strangers};
-ghost use Rattle.outside.specs.Replies.{IsTooDear, MayCome};
+ghost use Rattle.outside.specs.Replies.{IsTooDear};
 ghost use Rattle.front.specs.declared.inbox.TheConstants.{BATCH};
 
 use crate::asking::AskingTerms;
@@ -300,6 +293,7 @@ impl<'a, L: Log, R, S: ServiceSocket> WorkerSockets<'a, L, R, Outbox<S>> {
 
 impl<'a, L: Log, R: ReadyNet, B: Drop> WorkerSockets<'a, L, R, B> {
     ghost use Rattle.front_workers.specs.Noting.{NotesNothing};
+    ghost use Rattle.front_workers.specs.Servers.{AsksOrFails, CountsBegun};
     ghost use Rattle.front_workers.specs.Sockets.{sockets_of};
 
     /// Begins an exchange, for its permit and under the key of that. Returns `None` if it could not begin.
@@ -314,13 +308,10 @@ impl<'a, L: Log, R: ReadyNet, B: Drop> WorkerSockets<'a, L, R, B> {
         ensures asked { IfSome result (λ line. line.asked ≡ query_to server.now over query) }
         ensures watched { IfSome result (λ line. line.token.0 ≡ permit.key) }
         ensures sent { IfSome result (λ line. line.waits ≡ false) }
-        ensures opened { OnSome result (CountsOpened self.old.counts self.new.counts) }
-        ensures unopened { IfNone result (self.new.counts ≡ self.old.counts) }
+        ensures counts { CountsBegun result self.old.counts self.new.counts }
         ensures keeps { Keeps (λ sockets. sockets.server_port) sockets_of self.old self.new }
-        ensures may_ask { OnSome result (MayAskServer R.Datagrams.opened R.Datagrams.is_at R.Connection.connected R.Connection.is_at
-            over self.old.place server.now) }
-        ensures failed { IfNone result (IsNotToBeHad R.failed R.Datagrams.opened R.Datagrams.is_at R.Datagrams.failed
-            R.Connection.connected R.Connection.is_at R.Connection.failed self.old.place server.now over query) }
+        ensures asks { AsksOrFails R.failed R.Datagrams.ReadySocket R.Connection.connected R.Connection.is_at R.Connection.failed
+            self.old server.now over query result }
         // Nothing is noted of the server, and no further permit is asked for.
         ensures unnoted { NotesNothing self.old self.new }
     {
@@ -379,11 +370,11 @@ impl<'a, D: Numbered, C: Clock, L: Log + Wait, R: ReadyNet, K: Client, B: ReplyS
     K,
 > for WorkerSockets<'a, L, R, B> {
     ghost use Rattle.std.specs.Prelude.{Some};
-    ghost use Rattle.flight.specs.Clients.{Settles};
     ghost use Rattle.dns_wire.specs.Server.Asking.{IsGood};
     ghost use Rattle.front_workers.specs.Asking.{PostsBy, SocketsState};
     ghost use Rattle.front_workers.specs.Noting.{LosesReplyTo, NotesAnswerTo, NotesHeardOf, NotesNothing};
-    ghost use Rattle.front_workers.specs.Sockets.{sockets_of};
+    ghost use Rattle.front_workers.specs.Servers.{Allows, CountsBegun, HeedsServer, IsLeftOut, TellsAt};
+    ghost use Rattle.front_workers.specs.Sockets.{sockets_of, SettlesFor};
 
     ghost server_port = { λ sockets. sockets.server_port };
 
@@ -429,24 +420,14 @@ impl<'a, D: Numbered, C: Clock, L: Log + Wait, R: ReadyNet, K: Client, B: ReplyS
         // permit is asked for.
         ensures asked { IfSome result (λ line. line.asked ≡ query_to server.now over query) }
         ensures watched { IfSome result (λ line. line.token.0 ≡ key) }
-        ensures opened { OnSome result (CountsOpened self.old.counts self.new.counts) }
-        ensures unopened { IfNone result (self.new.counts ≡ self.old.counts) }
+        ensures counts { CountsBegun result self.old.counts self.new.counts }
         ensures unanswered { IfNone result (Unit {0}) }
         ensures keeps { Keeps (λ sockets. sockets.server_port) sockets_of self.old self.new }
-        ensures may_ask { IfSome result (λ line. ¬ (IsWithheld self.old.do_not_query.now server.now (option_copied hunt.entry))
-            × LooksUpList server.now over (list_of_strangers (option_copied hunt.entry)) self.old.moment self.old.refusals
-            × (line.waits ≡ false → MayAskServer R.Datagrams.opened R.Datagrams.is_at R.Connection.connected R.Connection.is_at
-            over self.old.place server.now)) }
-        ensures failed { IfNone result (
-            IsLeftAlone self.old.do_not_query.now server.now over (option_copied hunt.entry) self.old.moment self.old.refusals
-            ⊎ (IsPassedOver server.now (others_in (option_copied hunt.entry)) over query self.old.moment self.old.pauses
-            ⊎ IsNotToBeHad R.failed R.Datagrams.opened R.Datagrams.is_at R.Datagrams.failed
-            R.Connection.connected R.Connection.is_at R.Connection.failed self.old.place server.now over query)) }
-        ensures pauses { (self.new.refusals ≡ self.old.refusals) × AsksOnce self.old.permits.asked self.new.permits.asked
-            × HeedsPause
-            (IsLeftAlone self.old.do_not_query.now server.now over (option_copied hunt.entry) self.old.moment self.old.refusals)
-            (IsSomeAnd result (λ line. line.waits ≡ true))
-            result server.now (others_in (option_copied hunt.entry)) over query self.old.moment self.old.pauses self.new.pauses }
+        ensures may_ask { IfSome result (Allows R.Datagrams.ReadySocket R.Connection.connected R.Connection.is_at
+            self.old server.now over hunt.entry) }
+        ensures failed { IfNone result (IsLeftOut R.failed R.Datagrams.ReadySocket
+            R.Connection.connected R.Connection.is_at R.Connection.failed self.old server.now over hunt.entry query) }
+        ensures pauses { HeedsServer self.old server.now over hunt.entry query result self.new }
     {
         let octets = query.get().as_slice();
         if is_withheld(self.do_not_query, server, hunt) {
@@ -490,16 +471,12 @@ impl<'a, D: Numbered, C: Clock, L: Log + Wait, R: ReadyNet, K: Client, B: ReplyS
     fn hear(&mut self, line: &mut SocketLine<R>) -> Listened
         // As for any `Sockets`. Also, what is told of the exchange is so, and a server that answered is not passed over any more. No
         // permit is asked for.
-        ensures heard { IsHeard (MayCome R.Datagrams.opened R.Datagrams.sent R.Datagrams.came
-            R.Connection.connected R.Connection.contents R.Connection.remaining line.old.asked) result }
+        ensures heard { IsHeard (⟦<SocketLine<R> as InFlight>⟧.hears line.old.asked) result }
         ensures asked { line.new.asked ≡ line.old.asked }
         ensures watched { line.new.token.0 ≡ line.old.token.0 }
         ensures listened { CountsListened result self.old.counts self.new.counts }
         ensures keeps { Keeps (λ sockets. sockets.server_port) sockets_of self.old self.new }
-        ensures tells { TellsOf
-            (MayCome R.Datagrams.opened R.Datagrams.sent R.Datagrams.came
-            R.Connection.connected R.Connection.contents R.Connection.remaining line.old.asked)
-            R.Datagrams.sent R.Datagrams.came R.Datagrams.drained R.Datagrams.reported_again R.Datagrams.failed result line.old }
+        ensures tells { TellsAt (⟦<SocketLine<R> as InFlight>⟧.hears line.old.asked) R.Datagrams.ReadySocket result line.old }
         ensures refusals { NotesAnswerTo result line.old.asked line.old.zone self.old self.new }
         ensures pauses { NotesHeardOf result line.new.flaw line.old.asked self.old.moment self.old.pauses self.new.pauses }
     {
@@ -574,8 +551,7 @@ impl<'a, D: Numbered, C: Clock, L: Log + Wait, R: ReadyNet, K: Client, B: ReplyS
     fn fail(&mut self, cause: Cause<K>, octets: &[u8])
         requires own { K.sent cause.client octets.now }
         requires good { IsGood octets.now }
-        ensures { Settles (λ sockets. sockets.server_port) (λ sockets. sockets.counts) sockets_of (PostsBy B.posts)
-            cause.client (Some (fault_octets octets.now 2)) self.old self.new }
+        ensures { SettlesFor B.posts cause.client (Some (fault_octets octets.now 2)) self.old self.new }
     {
         self.log(cause.why());
         let client = cause.into_client();

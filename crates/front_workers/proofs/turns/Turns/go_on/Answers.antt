@@ -43,17 +43,14 @@ returns-clause-read g c =
     let clock = rw (← c.self-2.view_is) at c.relieve.ensures.clock in
     rw (← c.self.view_is) (c.look_all.new.clock, c.look_all.ensures.read, subst (λ (new : ClockState). IsRead g.R.Elapsing.passed c.look_all.new.clock new) (sym clock) c.expire.ensures.read)
 
-pub returns-clause-patient : goal.returns-clause-patient
-returns-clause-patient g c =
-    let clock = rw (← c.self-2.view_is) at c.relieve.ensures.clock in
-    patient_on 2000 _ c.expire.new.questions c.relieve.new.questions c.relieve.ensures.others
-    (subst (λ (new : ClockState). IsPatient 2000 (millis_at new.last) c.expire.new.questions) (sym clock) c.expire.ensures.patient)
-
-pub returns-clause-timely : goal.returns-clause-timely
-returns-clause-timely g c =
-    let clock = rw (← c.self-2.view_is) at c.relieve.ensures.clock in
-    timely_on 10000 _ c.expire.new.questions c.relieve.new.questions c.relieve.ensures.others
-    (subst (λ (new : ClockState). IsTimely 10000 (millis_at new.last) c.expire.new.questions) (sym clock) c.expire.ensures.timely)
+pub returns-clause-in_time : goal.returns-clause-in_time
+returns-clause-in_time g c =
+    let clock = rw (← c.self-2.view_is) at c.relieve.ensures.clock in (
+      patient_on 2000 _ c.expire.new.questions c.relieve.new.questions c.relieve.ensures.others
+          (subst (λ (new : ClockState). IsPatient 2000 (millis_at new.last) c.expire.new.questions) (sym clock) c.expire.ensures.patient),
+      timely_on 10000 _ c.expire.new.questions c.relieve.new.questions c.relieve.ensures.others
+          (subst (λ (new : ClockState). IsTimely 10000 (millis_at new.last) c.expire.new.questions) (sym clock) c.expire.ensures.timely),
+    )
 
 pub returns-clause-looks : goal.returns-clause-looks
 returns-clause-looks g c =

@@ -1,5 +1,5 @@
 use Rattle.std.proofs.Common.{◌≡◌, ◌∙◌, ℕ, Bool, false, List, Option, Some, None, OnSome, inl, inr, refl, rules, subst, sym}
-use Rattle.std.specs.Prelude.{IfSome}
+use Rattle.std.specs.Prelude.{◌⊎◌, IfNone, IfSome}
 use Rattle.dns_query.specs.declared.over.Over.{Over}
 use Rattle.dns_text.specs.declared.addr.Addr.{Addr}
 use Rattle.history.specs.declared.servers.Servers.{Servers}
@@ -22,6 +22,11 @@ of_line : {L : Type 0} (result : Option L) (waits : L → Bool) (A B M : Type 0)
 of_line None waits A B M a b m = tt
 of_line (Some line) waits A B M a b m = (a, b, λ sent. m)
 
+-- One of three reasons is the last, if there is no exchange.
+of_none : {L : Type 0} (result : Option L) (A B N : Type 0) → IfNone result N → IfNone result (A ⊎ (B ⊎ N))
+of_none None A B N none = inr (inr none)
+of_none (Some line) A B N none = tt
+
 pub returns-then-not-lets_through-clause-failed : goal.returns-then-not-lets_through-clause-failed
 returns-then-not-lets_through-clause-failed g c =
     let same = c.as_slice-octets.ensures ∙ c.get.ensures in
@@ -38,9 +43,12 @@ returns-then-not-lets_through-clause-pauses g c =
 pub returns-clause-watched : goal.returns-clause-watched
 returns-clause-watched g c = subst (λ (key : ℕ). IfSome c.begin.result (λ line. line.token.0 ≡ key)) c.in-Ok.ensures.key c.begin.ensures.watched
 
+pub returns-clause-failed : goal.returns-clause-failed
+returns-clause-failed g c = of_none c.begin.result _ _ _ c.begin.ensures.asks.1
+
 pub returns-clause-may_ask : goal.returns-clause-may_ask
 returns-clause-may_ask g c =
     let free = subst (λ (list : Option Servers). LooksUpList c.args.server.now c.args.over list c.args.self.now.moment c.args.self.now.refusals) c.list_of_strangers-list.ensures
     (c.has_list.ensures.free c.if-has_list.false)
     in
-    of_line c.begin.result (λ line. line.waits) _ _ _ (refuted c.is_withheld.ensures c.if-is_withheld.false) free c.begin.ensures.may_ask
+    of_line c.begin.result (λ line. line.waits) _ _ _ (refuted c.is_withheld.ensures c.if-is_withheld.false) free c.begin.ensures.asks.0
