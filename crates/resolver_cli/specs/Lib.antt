@@ -1,2 +1,3 @@
+pub mod Books
 pub mod OperatorLines
 pub mod Version

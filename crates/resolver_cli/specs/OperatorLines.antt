@@ -16,9 +16,13 @@ IsOwn (Ok Stats) = Unit {0}
 IsOwn (Ok (RequestLine (Look NextUndo))) = Unit {0}
 IsOwn said = ⊥
 
+-- What was read of a line is one of the service's own lines, or it is obeyed as on any control socket.
+abbrev pub AnswersSaid : {C D : Type 0} → Ticks C → Calls D → C → D → Result Line LineFault → List ℕ → Bool → C → D → Type 0
+AnswersSaid ticks calls clock desk said text ends clock' desk' = IsOwn said ⊎ DoesAt ticks calls clock desk said text ends clock' desk'
+
 -- A line of an operator, as far as it is heard: it is read, and then it is one of the service's own, or it is obeyed as on any control
 -- socket.
 abbrev pub AnswersLine : {C D : Type 0} → Ticks C → Calls D → C → D → List ℕ → List ℕ → Bool → C → D → Type 0
 AnswersLine ticks calls clock desk line text ends clock' desk' =
     (heard : List ℕ) × (said : Result Line LineFault) × IsLineHeard heard line × IsReadAs heard said
-    × (IsOwn said ⊎ DoesAt ticks calls clock desk said text ends clock' desk')
+    × AnswersSaid ticks calls clock desk said text ends clock' desk'

@@ -1,9 +1,8 @@
 //! The lines of an operator: the service answers `status`, `stats` and `what_undo` by itself, and its book the others.
 
-ghost use Rattle.std.specs.Prelude.{◌≡◌, ◌⊎◌, IfSome};
+ghost use Rattle.std.specs.Prelude.{◌≡◌, IfSome};
 ghost use Rattle.streams.specs.Text.{octets_in};
-ghost use Rattle.command_text.specs.Control.{DoesAt};
-ghost use Rattle.resolver_cli.specs.OperatorLines.{AnswersLine, IsOwn};
+ghost use Rattle.resolver_cli.specs.OperatorLines.{AnswersLine, AnswersSaid, IsOwn};
 
 use crate::keeping_up::Pace;
 use crate::what_undo::what_undo;
@@ -103,8 +102,7 @@ impl<'a, 'l, C: Clock, L: CallLedger, R: Wait + std::rt::Clock> Served<'a, 'l, C
         desk: &mut D,
         said: Result<Line, LineFault>,
     ) -> LineReply
-        ensures { IsOwn said ⊎ DoesAt C.ticks D.calls self.old.clock desk.old said (octets_in result.text) result.stops
-            self.new.clock desk.new }
+        ensures { AnswersSaid C.ticks D.calls self.old.clock desk.old said (octets_in result.text) result.stops self.new.clock desk.new }
     {
         match own_of(&said) {
             Some(own) => LineReply {

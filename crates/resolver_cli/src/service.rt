@@ -4,9 +4,8 @@ ghost use Rattle.std.specs.Prelude.{◌+◌, ◌≤◌, IfOk};
 ghost use Rattle.shared_book.specs.declared.kept.TheConstants.{MOST_RECORDED};
 ghost use Rattle.resolver_args.specs.declared.mode.TheConstants.{MOST_WORKERS};
 ghost use Rattle.resolver_args.specs.Mode.{IsService};
-ghost use Rattle.history.specs.Event.{lagging_of};
-ghost use Rattle.history.specs.Fresh.{FreshBook};
 ghost use Rattle.shared_book.specs.Fresh.{CanShare, IsKnownAs};
+ghost use Rattle.resolver_cli.specs.Books.{CanShareBoth, IsOpening};
 
 use crate::control_socket::obey_operators;
 use crate::first_phase::obey_first;
@@ -216,7 +215,7 @@ fn drawn_seed<R: RandomSource>(rt: &R) -> Result<NameSeed, CliFault> {
 
 /// An opening book to these settings. Nobody reads its figures.
 fn opening_of(alloc: Global, settings: &Settings, seed: NameSeed) -> Result<ServiceBook, CliFault>
-    ensures { IfOk result (FreshBook ⟦<WatchedBook<ShelfBook> as Book>⟧.stands_for ⟦<WatchedBook<ShelfBook> as Book>⟧.settings (lagging_of settings.now)) }
+    ensures { IfOk result (IsOpening ⟦<WatchedBook<ShelfBook> as Book>⟧ settings.now) }
 {
     let Ok(figures) = Shared::new(alloc, BookFigures::new(settings)) else {
         return Err(CliFault::no_memory());
@@ -237,7 +236,7 @@ fn new_books<R: RandomSource>(
     settings: Settings,
     figures: &Shared<BookFigures>,
 ) -> Result<(ServiceBook, ServiceBook), CliFault>
-    ensures { IfOk result (λ b. CanShare ⟦<WatchedBook<ShelfBook> as Book>⟧.stands_for ⟦<WatchedBook<ShelfBook> as Book>⟧.settings b.0 b.1) }
+    ensures { IfOk result (CanShareBoth ⟦<WatchedBook<ShelfBook> as Book>⟧) }
 {
     let seed = drawn_seed(rt)?;
     let Ok(figures) = figures.share() else {
