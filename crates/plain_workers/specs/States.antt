@@ -2,6 +2,8 @@
 use Rattle.std.specs.Prelude.{ℕ, Option, option_map, Result, IfOk, List, Vec}
 use Rattle.std.specs.declared.net.SocketAddr.{SocketAddr}
 use Rattle.rand_core.specs.Stream.{Stream}
+use Rattle.streams.specs.declared.sink.Sink.{Ghosts as OfSink}
+use Rattle.streams.specs.declared.source.Source.{Ghosts as OfSource}
 use Rattle.dns_text.specs.declared.record.Question.{Question}
 use Rattle.dns_query.specs.declared.over.Over.{Over}
 use Rattle.dns_query.specs.declared.over.Over.TheVariants.{Udp, Tcp}
@@ -67,19 +69,20 @@ StreamServed calls asks ticks stream result desk tools desk' tools' left left' h
     Streams (serving calls asks ticks tools.server_port Tcp) (lacking calls asks ticks tools.server_port) result
     (state_of stream desk tools) (state_of stream desk' tools') left left' held held'
 
--- A connection was served as a stream.
-abbrev pub ConnectionServed : {D X C R S W : Type 0} → Calls D → Asks X → Ticks C → (R → Stream)
-    → (S → Option (List ℕ)) → (S → ℕ) → (S → ℕ) → (W → Option (List ℕ)) → (W → ℕ) → S × W → D → Tools X C R → D → Tools X C R → Type 0
-ConnectionServed calls asks ticks stream remaining reads reads_failed contents writes_failed connection desk tools desk' tools' =
+-- The connection of a client was served as a stream.
+abbrev pub ClientServed : {D X C R S W : Type 0} → Calls D → Asks X → Ticks C → (R → Stream) → OfSource S → OfSink W → S × W
+    → D → Tools X C R → D → Tools X C R → Type 0
+ClientServed calls asks ticks stream reads writes connection desk tools desk' tools' =
     Streamed (serving calls asks ticks tools.server_port Tcp) (lacking calls asks ticks tools.server_port)
-    remaining reads reads_failed contents writes_failed connection (state_of stream desk tools) (state_of stream desk' tools')
+    reads.remaining reads.calls reads.failures writes.contents writes.failures connection (state_of stream desk tools) (state_of stream desk' tools')
 
 -- A worker served connections, each to its end before it accepted the next.
 abbrev pub ConnectionsServed : {D X C R L S W : Type 0} → Calls D → Asks X → Ticks C → (R → Stream) → (L → Result (Option (S × W)) DeviceFault → L → Type 0)
-    → (S → Option (List ℕ)) → (S → ℕ) → (S → ℕ) → (W → Option (List ℕ)) → (W → ℕ) → WorkEnd → D → Tools X C R → L → D → Tools X C R → L → Type 0
-ConnectionsServed calls asks ticks stream accepts remaining reads reads_failed contents writes_failed end desk tools listener desk' tools' listener' =
+    → OfSource S → OfSink W → WorkEnd → D → Tools X C R → L → D → Tools X C R → L → Type 0
+ConnectionsServed calls asks ticks stream accepts reads writes end desk tools listener desk' tools' listener' =
     WorksUntil end (connections accepts)
-    (streaming (Streamed (serving calls asks ticks tools.server_port Tcp) (lacking calls asks ticks tools.server_port) remaining reads reads_failed contents writes_failed))
+    (streaming (Streamed (serving calls asks ticks tools.server_port Tcp) (lacking calls asks ticks tools.server_port)
+    reads.remaining reads.calls reads.failures writes.contents writes.failures))
     (state_of stream desk tools) listener (state_of stream desk' tools') listener'
 
 -- A datagram from a peer was answered, and the reply, if it got one, handed to the port for that peer.

@@ -5,7 +5,7 @@ ghost use Rattle.streams.specs.declared.engine.TheConstants.{MOST_READS};
 ghost use Rattle.streams.specs.declared.source.TheConstants.{MOST_COUNTED};
 ghost use Rattle.replies.specs.declared.limits.TheConstants.{MOST_FAILURES};
 ghost use Rattle.plain_workers.specs.declared.work_end.WorkEnd.TheVariants.{Failing};
-ghost use Rattle.plain_workers.specs.States.{ConnectionServed, ConnectionsServed};
+ghost use Rattle.plain_workers.specs.States.{ClientServed, ConnectionsServed};
 ghost use Rattle.plain_workers.specs.Working.{HasFailed};
 
 use crate::exchange::Exchange;
@@ -35,8 +35,7 @@ pub(crate) fn serve_connection<
     requires reads { S.calls reader + MOST_READS ≤ MOST_COUNTED }
     requires writes { W.failures writer < MOST_COUNTED }
     ensures server_port { tools.new.server_port ≡ tools.old.server_port }
-    ensures streamed { ConnectionServed D.calls X.asks C.ticks G.stream S.remaining S.calls S.failures W.contents W.failures
-        (reader, writer) desk.old tools.old desk.new tools.new }
+    ensures streamed { ClientServed D.calls X.asks C.ticks G.stream S.Source W.Sink (reader, writer) desk.old tools.old desk.new tools.new }
 {
     // A fault ends this connection alone.
     let _ = serve_stream(alloc, desk, tools, &mut reader, &mut writer);
@@ -55,7 +54,7 @@ pub fn work_tcp<
 >(rt: &R, alloc: Global, desk: &mut D, listener: &mut L, tools: &mut Tools<X, C, G>) -> WorkEnd
     ensures server_port { tools.new.server_port ≡ tools.old.server_port }
     // Each connection was served as a stream before the next was accepted.
-    ensures works { ConnectionsServed D.calls X.asks C.ticks G.stream L.accepts S.remaining S.calls S.failures W.contents W.failures
+    ensures works { ConnectionsServed D.calls X.asks C.ticks G.stream L.accepts S.Source W.Sink
         result desk.old tools.old listener.old desk.new tools.new listener.new }
     ensures failing { result ≡ Failing → HasFailed MOST_FAILURES (L.failures listener.old) (L.failures listener.new) }
 {
