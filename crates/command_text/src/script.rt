@@ -1,13 +1,11 @@
 //! Scripts: lines obeyed at a book, one after another.
 
-ghost use Rattle.std.specs.Prelude.{◌≡◌, List, ◌≤◌, ◌<◌, ◌+◌, IsErrOf};
+ghost use Rattle.std.specs.Prelude.{◌≡◌, ◌≤◌, ◌<◌, ◌+◌, IsErrOf};
 ghost use Rattle.streams.specs.declared.engine.TheConstants.{MOST_READS};
 ghost use Rattle.streams.specs.declared.source.TheConstants.{MOST_COUNTED};
 ghost use Rattle.streams.specs.declared.fault.ScriptFault.TheVariants.{Write as WriteFault};
-ghost use Rattle.streams.specs.Engine.{ReadFails, RunsLines};
-ghost use Rattle.history.specs.declared.event.Event.{Event};
-ghost use Rattle.command_text.specs.Obeying.{Place};
-ghost use Rattle.command_text.specs.Script.{obeying, start_at, to_the_end};
+ghost use Rattle.streams.specs.Engine.{ReadFails};
+ghost use Rattle.command_text.specs.Script.{RunsScript};
 
 use crate::obeying::obey;
 use history::Book;
@@ -44,10 +42,7 @@ pub fn run_script<B: Book, S: Source, W: Sink>(
     ensures read_failed { ReadFails S.calls S.failures result reader.old reader.new }
     ensures write_failed { IsErrOf result WriteFault → W.failures writer.new ≡ W.failures writer.old + 1 }
     // What it read, which lines of that it obeyed at the book's history, and what it wrote.
-    ensures runs { (h : List Event) → B.stands_for book.old h → (next : Place)
-        × RunsLines (to_the_end result) (obeying (B.settings book.old)) (start_at h) next
-        (S.remaining reader.old) (S.remaining reader.new) (W.contents writer.old) (W.contents writer.new)
-        × B.stands_for book.new next.history }
+    ensures runs { RunsScript B.Book S.Source W.Sink result book.old book.new reader.old reader.new writer.old writer.new }
     ensures settings { B.settings book.new ≡ B.settings book.old }
 {
     let mut moment = 0;
