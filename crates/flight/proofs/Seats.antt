@@ -19,7 +19,7 @@ use Rattle.iterate.specs.declared.want.Want.{Want}
 use Rattle.iterate.specs.declared.want.Want.TheVariants.{Finish}
 use Rattle.iterate.specs.Exchanges.{Exchange, exchange, exchanges_behind, exchanges_of}
 use Rattle.flight.specs.Flight.{Hears, Answered, replied, refused, put_off, came, failed, Flies, begins, goes_on}
-use Rattle.flight.specs.Laws.{IsLater, NumbersNeverFall, ReceiptsAreLater, ReceiptsRise}
+use Rattle.flight.specs.Laws.{AllAreLater, IsLater, NumbersNeverFall, ReceiptsRise}
 
 -- a step, by its parts
 abbrev step_of : Input → Want → Step
@@ -97,7 +97,7 @@ module _ {D : Type 0} {B : Type 0} (stands_for : B → List Event → Type 0) (m
       subst (λ (list : List Step). AllByRecursion (IsLater settings since) (exchanges_of (list ++ step_of next want ∷ []))) (sym draws.wants.grown)
       (subst (λ (list : List Exchange). AllByRecursion (IsLater settings since) list) log so_far)
 
-  pub later : {C : Type 0} {ticks : Ticks C} → ReceiptsAreLater calls_by seen_by hears ticks settings
+  pub later : {C : Type 0} {ticks : Ticks C} → AllAreLater calls_by seen_by hears ticks settings
   later since port question answer lands =
       let ends = lands.ends in
       subst (λ (list : List Step). AllByRecursion (IsLater settings since) (exchanges_of list)) (sym ends.draws.wants.grown) (all_later ends.flies (Finish answer))

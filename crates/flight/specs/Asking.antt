@@ -1,5 +1,5 @@
--- A client's question, for contracts inside the crate.
-use Rattle.std.specs.Prelude.{◌≡◌, ℕ, List, Result, Ok, Err}
+-- A client's question: what is known of it while it is in flight, and how its client is settled.
+use Rattle.std.specs.Prelude.{◌≡◌, ℕ, max, List, Result, Ok, Err}
 use Rattle.dns_query.specs.declared.over.Over.{Over}
 use Rattle.dns_text.specs.declared.record.Question.{Question}
 use Rattle.dns_wire.specs.declared.server.query.Query.{Query}
@@ -23,9 +23,11 @@ use Rattle.flight.specs.declared.asking.Asking.{Asking}
 use Rattle.flight.specs.declared.table.Attempt.{Attempt}
 use Rattle.flight.specs.declared.sockets.Listened.{Listened}
 use Rattle.flight.specs.declared.counts.Counts.{Counts}
+use Rattle.flight.specs.declared.sockets.Client.{Ghosts as OfClient}
+use Rattle.flight.specs.declared.sockets.Sockets.{Ghosts as OfSockets}
 use Rattle.flight.specs.Clients.{SettlesBy, SettlesOrWaits}
 use Rattle.flight.specs.Flight.{Sent, Hears, Answered, Awaits, Flies, Lands}
-use Rattle.flight.specs.Origin.{Origin, origin_of}
+use Rattle.flight.specs.Origin.{Origin, IsOriginOf, origin_of}
 use Rattle.flight.specs.Told.{IsOutcome}
 use Rattle.flight.specs.Waiting.{FlightState}
 
@@ -78,9 +80,9 @@ abbrev pub LandsFor : {D C G K : Type 0} → Calls D → (D → ℕ) → Hears �
 LandsFor calls seen hears ticks since port asking answer = Lands calls seen hears ticks (since asking.client) port asking.query.question answer
 
 -- The client of a question is settled, or waits with it for an exchange that begins now.
-abbrev pub SettlesAsking : {W O G K : Type 0} → (K → List ℕ → Type 0) → (K → ℕ) → (W → ℕ) → (W → Counts) → (W → O) → (O → K → List ℕ → O → Type 0) → ℕ → Asking G K → FlightState → W → FlightState → W → Type 0
-SettlesAsking sent network server_port counts outbox posts now asking flight old flight' new =
-    SettlesOrWaits sent server_port counts outbox posts now asking.client (λ origin. origin ≡ origin_in network asking) flight old flight' new
+abbrev pub SettlesAsking : {W D L C G K : Type 0} → OfClient K → OfSockets W D L C K → ℕ → Asking G K → FlightState → W → FlightState → W → Type 0
+SettlesAsking its by now asking flight old flight' new =
+    SettlesOrWaits its.sent by.server_port by.counts by.outbox by.posts now asking.client (λ origin. origin ≡ origin_in its.network asking) flight old flight' new
 
 -- The client of a question is settled, and its reply, or none, gives this answer.
 abbrev pub AnswersAsking : {W O G K : Type 0} → (K → Over) → (W → ℕ) → (W → Counts) → (W → O) → (O → K → List ℕ → O → Type 0) → Asking G K → List ℕ → Answer → W → W → Type 0
@@ -88,9 +90,14 @@ AnswersAsking over server_port counts outbox posts asking octets answer old new 
     SettlesBy over server_port counts outbox posts asking.client octets asking.query answer old new
 
 -- The client of a query is settled, or waits for an exchange that begins now, with a question that counts as begun at this moment.
-abbrev pub SettlesQuery : {W O K : Type 0} → (K → List ℕ → Type 0) → (K → ℕ) → (W → ℕ) → (W → Counts) → (W → O) → (O → K → List ℕ → O → Type 0) → ℕ → K → Query → ℕ → FlightState → W → FlightState → W → Type 0
-SettlesQuery sent network server_port counts outbox posts now client query began flight old flight' new =
-    SettlesOrWaits sent server_port counts outbox posts now client (λ origin. origin ≡ origin_of began query.question.owner (network client)) flight old flight' new
+abbrev pub SettlesQuery : {W D L C K : Type 0} → OfClient K → OfSockets W D L C K → ℕ → K → Query → ℕ → FlightState → W → FlightState → W → Type 0
+SettlesQuery its by now client query began flight old flight' new =
+    SettlesOrWaits its.sent by.server_port by.counts by.outbox by.posts now client (λ origin. origin ≡ origin_of began query.question.owner (its.network client)) flight old flight' new
+
+-- The client that sent these octets is settled, or waits with the question that they ask. It counts as begun now, or at the latest moment at which an exchange began.
+abbrev pub SettlesOctets : {W D L C K : Type 0} → OfClient K → OfSockets W D L C K → ℕ → K → List ℕ → FlightState → W → FlightState → W → Type 0
+SettlesOctets its by now client octets flight old flight' new =
+    SettlesOrWaits its.sent by.server_port by.counts by.outbox by.posts now client (IsOriginOf octets (max now flight.latest) (its.network client)) flight old flight' new
 
 -- what a question gets of a call of the desk
 abbrev pub input_of : Result Reply DeskFault → Input

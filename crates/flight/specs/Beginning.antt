@@ -38,8 +38,8 @@ why_of TooLarge = told.TooLarge
 why_of (NoMemory refused) = told.NoMemory
 
 -- If room was made for a question, it may begin an exchange at such a moment.
-abbrev pub BeginsIfItMay : {A E G K : Type 0} → Result A E → (K → ℕ) → ℕ → Asking G K → ℕ → Asker → List (Option UnderWay) → ℕ → Type 0
-BeginsIfItMay result network now asking latest asker exchanges limit = OnOk result (MayBeginNow network now asking latest asker exchanges limit)
+abbrev pub BeginsIfMay : {A E G K : Type 0} → Result A E → (K → ℕ) → ℕ → Asking G K → ℕ → Asker → List (Option UnderWay) → ℕ → Type 0
+BeginsIfMay result network now asking latest asker exchanges limit = OnOk result (MayBeginNow network now asking latest asker exchanges limit)
 
 -- If a question may not wait, the reason was shown to be so.
 abbrev pub DeniesForReason : {A G K : Type 0} → Result A Denied → (K → ℕ) → ℕ → Asking G K → ℕ → Asker → List (Option UnderWay) → ℕ → Type 0

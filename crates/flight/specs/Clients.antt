@@ -1,5 +1,5 @@
 -- The fate of clients: settled, or waiting for an exchange.
-use Rattle.std.specs.Prelude.{◌≡◌, ◌≤◌, ◌+◌, ℕ, max, Option, List}
+use Rattle.std.specs.Prelude.{◌≡◌, ◌≤◌, ◌+◌, ℕ, Option, List}
 use Rattle.std.specs.List.{AllByRecursion}
 use Rattle.dns_query.specs.declared.over.Over.{Over}
 use Rattle.dns_wire.specs.declared.server.query.Query.{Query}
@@ -8,7 +8,7 @@ use Rattle.flight.specs.declared.counts.Counts.{Counts}
 use Rattle.flight.specs.Bounds.{IsBounded}
 use Rattle.flight.specs.Counted.{CountsSettled}
 use Rattle.flight.specs.Leaving.{Ends, Leaves}
-use Rattle.flight.specs.Origin.{Origin, IsOriginOf}
+use Rattle.flight.specs.Origin.{Origin}
 use Rattle.flight.specs.Places.{KeepsPlaces}
 use Rattle.flight.specs.Told.{IsGiven}
 use Rattle.flight.specs.Waiting.{Attempts, FlightState, HasQuestion, KeepsOrigins, GoesOnOrBegins, IsAccounted, JoinsNone, WaitsFrom, outstanding}
@@ -43,11 +43,6 @@ pub record SettlesOrWaits {W O K : Type 0} (sent : K → List ℕ → Type 0) (s
   pub places : KeepsPlaces flight flight'
   pub bounded : IsBounded flight → IsBounded flight'
   pub limit : flight'.limit ≡ flight.limit
-
--- The client that sent these octets is settled, or waits with the question that they ask. It counts as begun now, or at the latest moment at which an exchange began.
-abbrev pub SettlesOctets : {W O K : Type 0} → (K → List ℕ → Type 0) → (K → ℕ) → (W → ℕ) → (W → Counts) → (W → O) → (O → K → List ℕ → O → Type 0) → ℕ → K → List ℕ → FlightState → W → FlightState → W → Type 0
-SettlesOctets sent network server_port counts outbox posts now client octets flight old flight' new =
-    SettlesOrWaits sent server_port counts outbox posts now client (IsOriginOf octets (max now flight.latest) (network client)) flight old flight' new
 
 -- No client is lost, and none is answered twice: each that waited is settled, or still waits. Nothing leaves but the replies of those that are settled. Each exchange under way was under way before or begins now, for a question that waited before. There are no more of them. So it is with each attempt to begin one. The bound of what questions keep holds if it held before.
 pub record LosesNone {W O K : Type 0} (sent : K → List ℕ → Type 0) (server_port : W → ℕ) (counts : W → Counts) (outbox : W → O) (posts : O → K → List ℕ → O → Type 0) (now : ℕ)

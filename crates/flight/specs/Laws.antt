@@ -30,6 +30,6 @@ abbrev pub IsLater : Settings → ℕ → Exchange → Type 0
 IsLater settings since x = (event : Event) (reply : Reply) → x.want ≡ Book event → x.input ≡ Replied reply → (n : ℕ) × (since < n) × IsJustified settings n event reply
 
 -- An answer rests on calls behind its query: each reply of the book behind an answer has a receipt with a higher number than the desk knew of when its client was taken.
-abbrev pub ReceiptsAreLater : {D C : Type 0} → Calls D → (D → ℕ) → Hears → Ticks C → Settings → Type 0
-ReceiptsAreLater calls seen hears ticks settings =
+abbrev pub AllAreLater : {D C : Type 0} → Calls D → (D → ℕ) → Hears → Ticks C → Settings → Type 0
+AllAreLater calls seen hears ticks settings =
     (since port : ℕ) (question : Question) (answer : Answer) (lands : Lands calls seen hears ticks since port question answer) → AllByRecursion (IsLater settings since) (exchanges_of lands.steps)

@@ -52,8 +52,7 @@ impl<D: Numbered, L: InFlight, C: Clock, G: Rng, K: Client> Flight<D, L, C, G, K
         octets: &[u8],
     )
         requires asked { IsAskedBy K.sent asking.port octets.now asking.client asking.query asking.task }
-        ensures settles { SettlesAsking K.sent K.network O.server_port O.counts O.outbox O.posts now asking
-            self.old sockets.old self.new sockets.new }
+        ensures settles { SettlesAsking K.Client O.Sockets now asking self.old sockets.old self.new sockets.new }
         ensures heeds { HeedsLook D.calls O.outbox asking.query.question desk.old self.old sockets.old desk.new self.new sockets.new }
     {
         let Asking {
@@ -82,8 +81,7 @@ impl<D: Numbered, L: InFlight, C: Clock, G: Rng, K: Client> Flight<D, L, C, G, K
     )
         requires own { K.sent client octets.now }
         requires good { AsksFor octets.now (Good query) }
-        ensures settles { SettlesQuery K.sent K.network O.server_port O.counts O.outbox O.posts now client query began
-            self.old sockets.old self.new sockets.new }
+        ensures settles { SettlesQuery K.Client O.Sockets now client query began self.old sockets.old self.new sockets.new }
         ensures heeds { HeedsLook D.calls O.outbox query.question desk.old self.old sockets.old desk.new self.new sockets.new }
     {
         if desk.seen() < client.since() {
@@ -126,8 +124,7 @@ impl<D: Numbered, L: InFlight, C: Clock, G: Rng, K: Client> Flight<D, L, C, G, K
         requires good { AsksFor octets.now (Good query) }
         requires looked { HasLooked D.calls D.seen L.hears C.ticks (K.since client) query.question moment came seen }
         requires known { seen ≤ D.seen desk.old }
-        ensures settles { SettlesQuery K.sent K.network O.server_port O.counts O.outbox O.posts now client query began
-            self.old sockets.old self.new sockets.new }
+        ensures settles { SettlesQuery K.Client O.Sockets now client query began self.old sockets.old self.new sockets.new }
         ensures heeds { HeedsInput query.question came
             desk.old self.old (O.outbox sockets.old) desk.new self.new (O.outbox sockets.new) }
     {
@@ -180,8 +177,7 @@ impl<D: Numbered, L: InFlight, C: Clock, G: Rng, K: Client> Flight<D, L, C, G, K
         requires good { AsksFor octets.now (Good query) }
         requires looked { HasLooked D.calls D.seen L.hears C.ticks (K.since client) query.question moment came seen }
         requires known { seen ≤ D.seen desk.old }
-        ensures { SettlesQuery K.sent K.network O.server_port O.counts O.outbox O.posts now client query began
-            self.old sockets.old self.new sockets.new }
+        ensures { SettlesQuery K.Client O.Sockets now client query began self.old sockets.old self.new sockets.new }
     {
         let port = sockets.server_port();
         let task = match WorkerTask::begun(self.alloc, &query.question, port, moment) {

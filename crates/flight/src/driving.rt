@@ -73,8 +73,7 @@ impl<D: Numbered, L: InFlight, C: Clock, G: Rng, K: Client> Flight<D, L, C, G, K
     )
         requires asked { IsAskedBy K.sent asking.port octets asking.client asking.query asking.task }
         requires heard { HasHeardFor D.calls D.seen L.hears C.ticks K.since asking (listened_of heard) }
-        ensures settles { SettlesAsking K.sent K.network O.server_port O.counts O.outbox O.posts now asking
-            self.old sockets.old self.new sockets.new }
+        ensures settles { SettlesAsking K.Client O.Sockets now asking self.old sockets.old self.new sockets.new }
 
         // A question that begins anew heeds its first lookup.
         ensures anew { HeedsAnew D.calls O.outbox heard asking.query.question
@@ -124,8 +123,7 @@ impl<D: Numbered, L: InFlight, C: Clock, G: Rng, K: Client> Flight<D, L, C, G, K
         requires flies { FliesFor D.calls D.seen L.hears C.ticks K.since asking first }
         requires port { asking.port ≡ O.server_port sockets.old }
         requires known { asking.seen ≤ D.seen desk.old }
-        ensures { SettlesAsking K.sent K.network O.server_port O.counts O.outbox O.posts now asking
-            self.old sockets.old self.new sockets.new }
+        ensures { SettlesAsking K.Client O.Sockets now asking self.old sockets.old self.new sockets.new }
     {
         due_law();
         let mut asking = asking;
@@ -178,8 +176,7 @@ impl<D: Numbered, L: InFlight, C: Clock, G: Rng, K: Client> Flight<D, L, C, G, K
     ) -> Option<Asking<G, K>>
         requires asked { IsAskedBy K.sent asking.port octets.now asking.client asking.query asking.task }
         requires awaits { AwaitsFor D.calls D.seen L.hears C.ticks K.since asking (query_to server.now over bytes) }
-        ensures settles { IfNone result (SettlesAsking K.sent K.network O.server_port O.counts O.outbox O.posts now asking
-            self.old sockets.old self.new sockets.new) }
+        ensures settles { IfNone result (SettlesAsking K.Client O.Sockets now asking self.old sockets.old self.new sockets.new) }
         ensures unsent { IfSome result (λ unsent. (unsent ≡ asking) × L.hears (query_to server.now over bytes) None) }
         ensures same { OnSome result (self.new ≡ attempted (attempt_of now asking) self.old) }
         ensures tried { self.new.tried ≡ attempt_of now asking }

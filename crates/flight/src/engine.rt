@@ -2,8 +2,9 @@
 
 ghost use Rattle.std.specs.Prelude.{◌≡◌, ◌⊎◌, ◌<◌, ◌≤◌, ◌+◌, None, IfSome};
 ghost use Rattle.system.specs.Counts.{Rises};
+ghost use Rattle.flight.specs.Asking.{SettlesOctets};
 ghost use Rattle.flight.specs.Bounds.{AllGoOn, EachIsSmall, EndsLargest, Relieves, kept_all};
-ghost use Rattle.flight.specs.Clients.{LosesNone, LosesNoneAtAnyTime, SettlesOctets};
+ghost use Rattle.flight.specs.Clients.{LosesNone, LosesNoneAtAnyTime};
 ghost use Rattle.flight.specs.FirstLook.{HeedsLookOf, ListensAt, ListensToEach};
 ghost use Rattle.flight.specs.Waiting.{EarlyGoOn, IsPatient, IsPatientUntil, IsTimely, OthersGoOn};
 ghost use Rattle.flight.specs.Waiting.{outstanding, since_at, time_left};
@@ -85,8 +86,7 @@ impl<D: Numbered, L: InFlight, C: Clock, G: Rng, K: Client> Flight<D, L, C, G, K
         octets: &[u8],
     )
         requires own { K.sent client octets.now }
-        ensures settles { SettlesOctets K.sent K.network O.server_port O.counts O.outbox O.posts now client octets.now
-            self.old sockets.old self.new sockets.new }
+        ensures settles { SettlesOctets K.Client O.Sockets now client octets.now self.old sockets.old self.new sockets.new }
 
         // What the first lookup of its question settles is settled at once, and silence is kept.
         ensures heeds { HeedsLookOf D.calls O.outbox octets.now desk.old self.old sockets.old desk.new self.new sockets.new }

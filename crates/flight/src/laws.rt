@@ -1,6 +1,6 @@
 //! Laws of the definitions at a seat of a shared book.
 
-ghost use Rattle.flight.specs.Laws.{NumbersNeverFall, ReceiptsAreLater, ReceiptsRise};
+ghost use Rattle.flight.specs.Laws.{AllAreLater, NumbersNeverFall, ReceiptsRise};
 
 use crate::in_flight::InFlight;
 use crate::numbered::Numbered;
@@ -28,6 +28,5 @@ pub fn later_law<
     L: InFlight,
     C: Clock,
 >()
-    ensures { ReceiptsAreLater (⟦<Seat<'static, B, P, R> as Desk>⟧.calls) (⟦<Seat<'static, B, P, R> as Numbered>⟧.seen)
-        L.hears C.ticks P.settings }
+    ensures { AllAreLater ⟦<Seat<'static, B, P, R> as Desk>⟧.calls ⟦<Seat<'static, B, P, R> as Numbered>⟧.seen L.hears C.ticks P.settings }
 {}

@@ -5,7 +5,7 @@ ghost use Rattle.std.specs.Prelude.{IfOk, IfSome, IsTrue, OnOk, OnSome};
 ghost use Rattle.slab.specs.Slab.{HasRoomFor, Updates, get, slab_len};
 ghost use Rattle.std.specs.VecDeque.{deque_capacity, deque_len};
 ghost use Rattle.flight.specs.Asking.{attempt_of};
-ghost use Rattle.flight.specs.Beginning.{BeginsIfItMay, DeniesForReason, HasPlaceNow};
+ghost use Rattle.flight.specs.Beginning.{BeginsIfMay, DeniesForReason, HasPlaceNow};
 ghost use Rattle.flight.specs.Bounds.{EachIsSmall, IsWithin, KeepsMost, KeepsTooMuch, MayKeep, kept_by, kept_of};
 ghost use Rattle.flight.specs.Kept.{kept_in};
 ghost use Rattle.flight.specs.Queue.{IsFirstDue, IsQueue, is_queued};
@@ -216,7 +216,7 @@ impl<D: Numbered, L: InFlight, C: Clock, G: Rng, K: Client> Table<D, L, C, G, K>
     ) -> Result<MadeRoom, Denied>
         ensures room { OnOk result (HasRoomFor self.new.jobs 1) }
         ensures queue_room { OnOk result (deque_len self.new.waits < deque_capacity self.new.waits) }
-        ensures may_begin { BeginsIfItMay result K.network now asking.now self.old.latest self.new.asker
+        ensures may_begin { BeginsIfMay result K.network now asking.now self.old.latest self.new.asker
             self.old.jobs.slots self.old.limit }
         ensures denied { DeniesForReason result K.network now asking.now self.new.latest self.new.asker
             self.new.jobs.slots self.new.limit }

@@ -4,7 +4,7 @@ ghost use Rattle.std.specs.Prelude.{◌≡◌, ◌≢◌, ◌⊎◌, ◌<◌, �
 ghost use Rattle.std.specs.VecDeque.{deque_capacity, deque_len};
 ghost use Rattle.slab.specs.Slab.{HasRoomFor};
 ghost use Rattle.flight.specs.Asking.{WantsSend, attempt_of};
-ghost use Rattle.flight.specs.Beginning.{BeginsIfItMay, IsCauseOf, IsRoomFor, IsShown, why_of};
+ghost use Rattle.flight.specs.Beginning.{BeginsIfMay, IsCauseOf, IsRoomFor, IsShown, why_of};
 ghost use Rattle.flight.specs.Bounds.{EachKeepsAtMost, kept_by};
 ghost use Rattle.flight.specs.Kept.{kept_in};
 ghost use Rattle.flight.specs.declared.table.cause.Unserved.TheVariants.{Elsewhere, NoMemory, TooLarge};
@@ -168,7 +168,7 @@ impl<D: Numbered, L: InFlight, C: Clock, G: Rng, K: Client> Table<D, L, C, G, K>
     ) -> Result<(MadeRoom, Asking<G, K>), Cause<K>>
         requires sends { WantsSend D.calls D.seen L.hears C.ticks K.since asking }
         ensures room { OnOk result (HasRoomFor self.new.jobs 1 × (deque_len self.new.waits < deque_capacity self.new.waits)) }
-        ensures may_begin { BeginsIfItMay result K.network now asking self.old.latest self.new.asker self.old.jobs.slots self.old.limit }
+        ensures may_begin { BeginsIfMay result K.network now asking self.old.latest self.new.asker self.old.jobs.slots self.old.limit }
         ensures denied { IfErr result (IsCauseOf K.network now asking self.new.latest self.new.asker self.new.jobs.slots self.new.limit) }
         ensures takes { IfOk result (λ made. IsRoomFor octets.now asking made.0 made.1) }
         ensures exchanges { (self.new.jobs.slots ≡ self.old.jobs.slots) × (self.new.waits.items ≡ self.old.waits.items) }
