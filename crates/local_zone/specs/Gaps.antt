@@ -1,6 +1,6 @@
 -- Records that are taken out of a list, and put back in their places.
 use Rattle.std.proofs.Common.{◌≡◌, ℕ, ◌+◌, ◌<◌, ◌≤◌, ◌⊎◌, Bool, cond, List, [], ◌∷◌, ◌++◌, length, map, take, drop}
-use Rattle.std.specs.Prelude.{⊤}
+use Rattle.std.specs.Prelude.{⊤, filter, not}
 use Rattle.dns_name.specs.Labels.{Labels}
 use Rattle.dns_text.specs.declared.record.Record.{Record}
 use Rattle.local_zone.specs.declared.taken.Taken.{Taken}
@@ -52,3 +52,11 @@ AreApart taken left = (owner : Labels) → (of_owner owner (records_of taken) �
 abbrev pub gaps_where : (Record → Bool) → ℕ → List Record → List ℕ
 gaps_where p gap [] = []
 gaps_where p gap (r ∷ rest) = cond (p r) (gap ∷ gaps_where p 0 rest) (gaps_where p (gap + 1) rest)
+
+-- A law: the records that stay are those that do not pass the test of the gaps.
+abbrev pub GapsLeaveOthers : Type 0
+GapsLeaveOthers = (p : Record → Bool) (records : List Record) → rest_of (gaps_where p 0 records) records ≡ filter (λ r. not (p r)) records
+
+-- A law: records that are taken out go back to their places.
+abbrev pub TakenGoBack : Type 0
+TakenGoBack = (gaps : List ℕ) (records : List Record) → AreWithin gaps records → put_back (at_gaps gaps records) (rest_of gaps records) ≡ records

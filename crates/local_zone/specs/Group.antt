@@ -1,6 +1,7 @@
 -- The records of one owner, and an index of such groups by owner.
-use Rattle.std.specs.Prelude.{◌≡◌, ◌⊎◌, ℕ, List, [], ◌∷◌, ◌++◌, Option, None}
+use Rattle.std.specs.Prelude.{◌≡◌, ◌⊎◌, ℕ, false, List, [], ◌∷◌, ◌++◌, Option, None}
 use Rattle.dns_name.specs.Labels.{Labels, octets_of}
+use Rattle.dns_name.specs.Order.{name_eq}
 use Rattle.dns_text.specs.declared.record.Record.{Record}
 use Rattle.local_zone.specs.Index.{items_in, under, IsGrouped, IsIndexed}
 use Rattle.local_zone.specs.declared.group.Group.{Group}
@@ -44,3 +45,16 @@ IndexesChanged change old new = (records : List Record) → AreGrouped records o
 abbrev pub IndexesAllButLast : Labels → ℕ → List (Labels × Group) → List (Labels × Group) → Type 0
 IndexesAllButLast owner kind old new =
     (front : List Record) (last : Record) → last.owner ≡ owner → last.kind ≡ kind → AreGrouped (front ++ last ∷ []) old → AreGrouped front new
+
+-- The same, but the owner may have an empty group now.
+abbrev pub FindsAllButLast : Labels → ℕ → List (Labels × Group) → List (Labels × Group) → Type 0
+FindsAllButLast owner kind old new =
+    (front : List Record) (last : Record) → last.owner ≡ owner → last.kind ≡ kind → AreIndexed (front ++ last ∷ []) old → AreIndexed front new
+
+-- Each name but this one has the group that it had.
+abbrev pub KeepsOtherGroups : Labels → List (Labels × Group) → List (Labels × Group) → Type 0
+KeepsOtherGroups owner old new = (other : Labels) → name_eq owner other ≡ false → group_of other new ≡ group_of other old
+
+-- The name gets no group, if it had none.
+abbrev pub GetsNoGroup : Labels → List (Labels × Group) → List (Labels × Group) → Type 0
+GetsNoGroup name old new = group_of name old ≡ None → group_of name new ≡ None

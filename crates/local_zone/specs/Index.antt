@@ -1,5 +1,5 @@
 -- The records of an owner, and an index of them.
-use Rattle.std.specs.Prelude.{◌≡◌, ℕ, ◌==◌, List, [], length, Option, None, Some, nat_eq}
+use Rattle.std.specs.Prelude.{◌≡◌, ℕ, ◌==◌, List, [], ◌∷◌, ◌++◌, length, Option, None, Some, nat_eq}
 use Rattle.std.specs.List.{filter}
 use Rattle.std.specs.Map.{lookup}
 use Rattle.std.specs.Cmp.Lexicographic.{pointwise}
@@ -40,3 +40,11 @@ AreOwned octets records groups = (owner : Labels) → of_owner owner records ≡
 -- Under the octets of each name are the records of this owner, and each group has records.
 abbrev pub IsGrouped : {K G : Type 0} → (K → List ℕ) → (G → List Record) → List Record → List (K × G) → Type 0
 IsGrouped octets items records groups = IsIndexed octets items records groups × AreOwned octets records groups
+
+-- These records are those and one more, which is the last.
+abbrev pub HoldOneMore : Record → List Record → List Record → Type 0
+HoldOneMore new old held = (all : List Record) → HoldSame old all → HoldSame held (all ++ new ∷ [])
+
+-- These records are those but for the last, if that has this TYPE.
+abbrev pub HoldAllButLast : ℕ → List Record → List Record → Type 0
+HoldAllButLast kind old held = (front : List Record) (last : Record) → last.kind ≡ kind → HoldSame old (front ++ last ∷ []) → HoldSame held front

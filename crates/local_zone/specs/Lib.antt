@@ -22,4 +22,5 @@ pub mod Zoned
 pub mod Together
 pub mod OtherSet
 pub mod OtherSide
+pub mod OtherCount
 pub mod InPlace

@@ -20,9 +20,14 @@ pub record IsSide (saved : SavedTables) (zones : List Zone) (records : List Reco
   pub sound : AreTables (record { zones = zones; records = records })
   pub counts : AreZoned zones records zoned
 
+-- A removal leads to the other side, where the records at these gaps are not.
+abbrev pub RemovesAt : Turn Zone → List Zone → List ℕ → List Record → Type 0
+RemovesAt turn zones gaps records =
+    IsRemoval (record { zones = zones; records = records }) (record { zones = other_of turn zones; records = rest_of gaps records })
+
 -- A removal leads to the other side, and takes the records at these gaps.
 pub record AreTaken (turn : Turn Zone) (zones : List Zone) (gaps : List ℕ) (records : List Record) : Type 0 where
   pub fits : HasPlace (λ z. z.name) turn zones
   pub within : AreWithin gaps records
   pub apart : AreApart (at_gaps gaps records) (rest_of gaps records)
-  pub removal : IsRemoval (record { zones = zones; records = records }) (record { zones = other_of turn zones; records = rest_of gaps records })
+  pub removal : RemovesAt turn zones gaps records

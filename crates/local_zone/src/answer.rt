@@ -1,11 +1,9 @@
 //! The answer to a question from the table. Finding it takes no memory.
 
-ghost use Rattle.std.specs.Prelude.{◌≡◌, List, Some};
-ghost use Rattle.local_zone.specs.Closest.{closest};
+ghost use Rattle.std.specs.Prelude.{◌≡◌};
 ghost use Rattle.local_zone.specs.CountsBelow.{AreZoned};
-ghost use Rattle.local_zone.specs.declared.zone.Zone.{Zone};
 ghost use Rattle.std.specs.Option.{option_map};
-ghost use Rattle.local_zone.specs.Answer.{absent_in, absent_or_pass, answer_in, data_or, has_record, has_record_below, HoldsInZone};
+ghost use Rattle.local_zone.specs.Answer.{absent_in, absent_or_pass, data_or, has_record, HoldsInZone, IsAnswerInZone, SaysIfRecordBelow};
 ghost use Rattle.local_zone.specs.Answer.{in_redirect, in_static, in_transparent, local_now, local_of, soa_of};
 ghost use Rattle.local_zone.specs.Show.{data_shown};
 
@@ -24,8 +22,7 @@ use named_list::NamedList;
 /// Whether a name, or one below it, has a record that lies in the zone that covers the name. A lookup tells whether the name has one
 /// itself. Two more tell how many are below it, and how many of these lie in other zones.
 fn has_record_below(records: &RecordList, zoned: &CountsBelow, name: &Name) -> bool
-    ensures { (zones : List Zone) (zone : Zone) → closest zones name.now ≡ Some zone → AreZoned zones records.now zoned.now →
-        result ≡ has_record_below name.now zone (record { zones = zones; records = records.now }) }
+    ensures { SaysIfRecordBelow name.now records.now zoned.now result }
 {
     has_owner(records, name) || zoned.of(name) < records.count_below(name)
 }
@@ -160,8 +157,7 @@ fn answer_in<'a>(
     zone: &'a Zone,
     question: &'a Question,
 ) -> Local<LocalSet<'a>, &'a LocalRecord>
-    ensures { HoldsInZone question.now.owner zone.now records.now zoned.now
-        (λ t. local_now result ≡ answer_in t question.now zone.now zone.now.kind) }
+    ensures { IsAnswerInZone question.now zone.now records.now zoned.now (local_now result) }
 {
     let name = &question.owner;
     let kind = question.kind;

@@ -2,7 +2,7 @@
 //! records needs no memory.
 
 ghost use Rattle.std.specs.Prelude.{◌≡◌, false, IfOk, IsOk, None, Some};
-ghost use Rattle.local_zone.specs.Answer.{answer_in, carries_record, data_or, in_redirect, in_static, in_transparent, local_of, soa_of};
+ghost use Rattle.local_zone.specs.Answer.{answer_in, carries_record, data_asked, data_or, in_redirect, in_static, in_transparent, local_of, soa_of};
 ghost use Rattle.local_zone.specs.Closest.{closest};
 ghost use Rattle.local_zone.specs.Show.{data_shown};
 
@@ -52,9 +52,8 @@ fn data_or(
     asked: &Question,
     otherwise: Shares,
 ) -> Result<Shares, NoMemory>
-    ensures ok { IfOk result (λ answer. answer
-        ≡ data_or otherwise (data_shown asked.now.owner asked.now.owner asked.now.kind side.now.records)) }
-    ensures free { data_shown asked.now.owner asked.now.owner asked.now.kind side.now.records ≡ None → IsOk result }
+    ensures ok { IfOk result (λ answer. answer ≡ data_or otherwise (data_asked asked.now side.now.records)) }
+    ensures free { data_asked asked.now side.now.records ≡ None → IsOk result }
 {
     match data_of(alloc, side, asked, &asked.owner)? {
         Some(set) => Ok(Local::Data(set)),

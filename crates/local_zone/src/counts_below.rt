@@ -1,9 +1,9 @@
 //! The number of records strictly below each name, or of those that lie in zones strictly below it. It spares a pass over all records.
 
-ghost use Rattle.std.specs.Prelude.{◌≡◌, ◌+◌, ◌-◌, ◌<◌, ◌≤◌, ℕ, List, None, Some, OnErr, OnOk, MatchOption, IsTrue, false, length, nat_eq, take, if◌then◌else◌};
-ghost use Rattle.std.specs.Cmp.Lexicographic.{pointwise};
-ghost use Rattle.dns_name.specs.Labels.{octets_of, parent_of, Labels};
-ghost use Rattle.local_zone.specs.CountsBelow.{count_under, is_below_from, AreAboveZero};
+ghost use Rattle.std.specs.Prelude.{◌≡◌, ◌<◌, ◌≤◌, None, OnErr, OnOk, MatchOption, IsTrue, false, length, take, if◌then◌else◌};
+ghost use Rattle.dns_name.specs.Labels.{octets_of, parent_of};
+ghost use Rattle.local_zone.specs.CountsBelow.{count_under, AreAboveZero, HasLessUnder, HasNoneAbove, IsAbove, IsAboveFrom, KeepsCounts};
+ghost use Rattle.local_zone.specs.CountsBelow.{KeepsOtherCounts, LowersCount, LowersCounts, LowersNext, PutsCount, RaisesCount, RaisesCounts, RaisesNext};
 ghost use Rattle.local_zone.specs.Index.{under};
 
 use dns_name::{Name, NoMemory};
@@ -14,8 +14,7 @@ use std::marker::Model;
 /// The octets of the name above, if there is one. What is left of `labels` are its labels.
 fn octets_above<'a>(octets: &'a [u8], labels: &mut dns_name::Labels) -> Option<&'a [u8]>
     requires { octets.now ≡ octets_of labels.old }
-    ensures { MatchOption result (parent_of labels.old ≡ None)
-        (λ above. (parent_of labels.old ≡ Some labels.new) × (above.now ≡ octets_of labels.new)) }
+    ensures { MatchOption result (parent_of labels.old ≡ None) (λ above. IsAbove labels.old labels.new above.now) }
 {
     let label = labels.next()?;
     let end = octets.len() - label.len() - 1;
@@ -29,8 +28,7 @@ fn octets_above_from<'a>(
     least: usize,
 ) -> Option<&'a [u8]>
     requires { octets.now ≡ octets_of labels.old }
-    ensures { MatchOption result ((name : Labels) → is_below_from least labels.old name ≡ false)
-        (λ above. (parent_of labels.old ≡ Some labels.new) × (above.now ≡ octets_of labels.new) × (least ≤ length above.now)) }
+    ensures { MatchOption result (HasNoneAbove least labels.old) (λ above. IsAboveFrom least labels.old labels.new above.now) }
 {
     let above = octets_above(octets, labels)?;
     if above.len() < least {
@@ -47,10 +45,8 @@ fn raise(
     more: u64,
 ) -> Result<(), NoMemory>
     requires { 0 < more }
-    ensures ok { OnOk result ((other : List ℕ) → count_under (λ k. k.items) other counts.new.entries
-        ≡ count_under (λ k. k.items) other counts.old.entries + (if pointwise nat_eq octets.now other then more else 0)) }
-    ensures err { OnErr result ((other : List ℕ) → count_under (λ k. k.items) other counts.new.entries
-        ≡ count_under (λ k. k.items) other counts.old.entries) }
+    ensures ok { OnOk result (RaisesCount (λ k. k.items) octets.now more counts.old.entries counts.new.entries) }
+    ensures err { OnErr result (KeepsCounts (λ k. k.items) counts.old.entries counts.new.entries) }
     ensures above_zero { AreAboveZero (λ k. k.items) counts.old.entries → AreAboveZero (λ k. k.items) counts.new.entries }
 {
     match counts.get_mut(octets) {
@@ -70,8 +66,7 @@ fn start(
     count: u64,
 ) -> Result<(), NoMemory>
     requires { under (λ k. k.items) octets.now counts.old.entries ≡ None }
-    ensures ok { OnOk result ((other : List ℕ) → under (λ k. k.items) other counts.new.entries
-        ≡ (if pointwise nat_eq octets.now other then Some count else under (λ k. k.items) other counts.old.entries)) }
+    ensures ok { OnOk result (PutsCount (λ k. k.items) octets.now count counts.old.entries counts.new.entries) }
     ensures err { OnErr result (counts.new.entries ≡ counts.old.entries) }
 {
     let mut key = Vec::new(alloc);
@@ -82,10 +77,8 @@ fn start(
 
 /// Takes from the count under these octets, and returns whether none is left. It takes no memory.
 fn lower_count(counts: &mut IndexMap<Vec<u8>, u64>, octets: &[u8], less: u64) -> bool
-    ensures here { count_under (λ k. k.items) octets.now counts.new.entries
-        ≡ count_under (λ k. k.items) octets.now counts.old.entries - less }
-    ensures others { (other : List ℕ) → pointwise nat_eq octets.now other ≡ false →
-        under (λ k. k.items) other counts.new.entries ≡ under (λ k. k.items) other counts.old.entries }
+    ensures here { HasLessUnder (λ k. k.items) octets.now less counts.old.entries counts.new.entries }
+    ensures others { KeepsOtherCounts (λ k. k.items) octets.now counts.old.entries counts.new.entries }
     ensures empty { IsTrue result → count_under (λ k. k.items) octets.now counts.new.entries ≡ 0 }
     ensures above_zero { result ≡ false → AreAboveZero (λ k. k.items) counts.old.entries → AreAboveZero (λ k. k.items) counts.new.entries }
 {
@@ -100,8 +93,7 @@ fn lower_count(counts: &mut IndexMap<Vec<u8>, u64>, octets: &[u8], less: u64) ->
 
 /// Takes from the count under these octets, and takes the count away if none is left. It takes no memory.
 fn lower(counts: &mut IndexMap<Vec<u8>, u64>, octets: &[u8], less: u64)
-    ensures count { (other : List ℕ) → count_under (λ k. k.items) other counts.new.entries
-        ≡ count_under (λ k. k.items) other counts.old.entries - (if pointwise nat_eq octets.now other then less else 0) }
+    ensures count { LowersCount (λ k. k.items) octets.now less counts.old.entries counts.new.entries }
     ensures above_zero { AreAboveZero (λ k. k.items) counts.old.entries → AreAboveZero (λ k. k.items) counts.new.entries }
 {
     if lower_count(counts, octets, less) {
@@ -112,9 +104,7 @@ fn lower(counts: &mut IndexMap<Vec<u8>, u64>, octets: &[u8], less: u64)
 /// Takes from the counts what other counts have at a place. It takes no memory.
 fn lower_at(counts: &mut IndexMap<Vec<u8>, u64>, less: &IndexMap<Vec<u8>, u64>, place: usize)
     requires { place < length less.now.entries }
-    ensures count { (other : List ℕ) (all : ℕ) →
-        count_under (λ k. k.items) other counts.old.entries ≡ all - count_under (λ k. k.items) other (take place less.now.entries) →
-        count_under (λ k. k.items) other counts.new.entries ≡ all - count_under (λ k. k.items) other (take (place + 1) less.now.entries) }
+    ensures count { LowersNext (λ k. k.items) place less.now.entries counts.old.entries counts.new.entries }
     ensures above_zero { AreAboveZero (λ k. k.items) counts.old.entries → AreAboveZero (λ k. k.items) counts.new.entries }
 {
     // For its law alone: no two counts are of one name.
@@ -127,8 +117,7 @@ fn lower_at(counts: &mut IndexMap<Vec<u8>, u64>, less: &IndexMap<Vec<u8>, u64>, 
 /// Takes from the counts what the first `many` of other counts say. It takes no memory.
 fn lower_first(counts: &mut IndexMap<Vec<u8>, u64>, less: &IndexMap<Vec<u8>, u64>, many: usize)
     requires { many ≤ length less.now.entries }
-    ensures count { (other : List ℕ) → count_under (λ k. k.items) other counts.new.entries
-        ≡ count_under (λ k. k.items) other counts.old.entries - count_under (λ k. k.items) other (take many less.now.entries) }
+    ensures count { LowersCounts (λ k. k.items) (take many less.now.entries) counts.old.entries counts.new.entries }
     ensures above_zero { AreAboveZero (λ k. k.items) counts.old.entries → AreAboveZero (λ k. k.items) counts.new.entries }
 {
     for i in 0..many {
@@ -145,11 +134,8 @@ fn raise_at(
 ) -> Result<(), NoMemory>
     requires place { place < length more.now.entries }
     requires above_zero { AreAboveZero (λ k. k.items) more.now.entries }
-    ensures ok { OnOk result ((other : List ℕ) (all : ℕ) →
-        count_under (λ k. k.items) other counts.old.entries ≡ all + count_under (λ k. k.items) other (take place more.now.entries) →
-        count_under (λ k. k.items) other counts.new.entries ≡ all + count_under (λ k. k.items) other (take (place + 1) more.now.entries)) }
-    ensures err { OnErr result ((other : List ℕ) → count_under (λ k. k.items) other counts.new.entries
-        ≡ count_under (λ k. k.items) other counts.old.entries) }
+    ensures ok { OnOk result (RaisesNext (λ k. k.items) place more.now.entries counts.old.entries counts.new.entries) }
+    ensures err { OnErr result (KeepsCounts (λ k. k.items) counts.old.entries counts.new.entries) }
     ensures above_zero { AreAboveZero (λ k. k.items) counts.old.entries → AreAboveZero (λ k. k.items) counts.new.entries }
 {
     // For its law alone: no two counts are of one name.
@@ -167,10 +153,8 @@ fn raise_all(
     more: &IndexMap<Vec<u8>, u64>,
 ) -> Result<(), NoMemory>
     requires { AreAboveZero (λ k. k.items) more.now.entries }
-    ensures ok { OnOk result ((other : List ℕ) → count_under (λ k. k.items) other counts.new.entries
-        ≡ count_under (λ k. k.items) other counts.old.entries + count_under (λ k. k.items) other more.now.entries) }
-    ensures err { OnErr result ((other : List ℕ) → count_under (λ k. k.items) other counts.new.entries
-        ≡ count_under (λ k. k.items) other counts.old.entries) }
+    ensures ok { OnOk result (RaisesCounts (λ k. k.items) more.now.entries counts.old.entries counts.new.entries) }
+    ensures err { OnErr result (KeepsCounts (λ k. k.items) counts.old.entries counts.new.entries) }
     ensures above_zero { AreAboveZero (λ k. k.items) counts.old.entries → AreAboveZero (λ k. k.items) counts.new.entries }
 {
     for i in 0..more.len() {

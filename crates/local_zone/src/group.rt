@@ -1,10 +1,9 @@
 //! The records of one owner.
 
-ghost use Rattle.std.specs.Prelude.{◌≡◌, ◌++◌, ◌∷◌, [], true, false, List, length, map, OnErr, OnOk};
-ghost use Rattle.dns_text.specs.declared.record.Record.{Record};
+ghost use Rattle.std.specs.Prelude.{◌≡◌, ◌∷◌, [], true, false, length, map, OnErr, OnOk};
 ghost use Rattle.local_zone.specs.Change.{retimed_by};
 ghost use Rattle.local_zone.specs.Group.{records_held};
-ghost use Rattle.local_zone.specs.Index.{of_kind, HoldSame};
+ghost use Rattle.local_zone.specs.Index.{of_kind, HoldAllButLast, HoldOneMore};
 ghost use Rattle.local_zone.specs.Show.{or_list};
 ghost use Rattle.dns_text.specs.declared.types.TheConstants.{CNAME};
 
@@ -60,8 +59,7 @@ impl Group {
 
     /// Puts a record behind those of its TYPE. If memory is refused, nothing has changed.
     pub(crate) fn push(&mut self, alloc: Global, new: LocalRecord) -> Result<(), NoMemory>
-        ensures ok { OnOk result ((all : List Record) → HoldSame (records_held self.old) all →
-            HoldSame (records_held self.new) (all ++ new ∷ [])) }
+        ensures ok { OnOk result (HoldOneMore new (records_held self.old) (records_held self.new)) }
         ensures err { OnErr result (records_held self.new ≡ records_held self.old) }
     {
         match mem::replace(self, Group::Empty) {
@@ -86,7 +84,7 @@ impl Group {
         first: LocalRecord,
         second: LocalRecord,
     ) -> Result<(), NoMemory>
-        ensures ok { OnOk result ((all : List Record) → HoldSame (first ∷ []) all → HoldSame (records_held self.new) (all ++ second ∷ [])) }
+        ensures ok { OnOk result (HoldOneMore second (first ∷ []) (records_held self.new)) }
         ensures err { OnErr result (records_held self.new ≡ first ∷ []) }
     {
         match Sets::of_two(alloc, &first, second) {
@@ -114,8 +112,7 @@ impl Group {
 
     /// Takes the last record of a TYPE out, and returns whether none is left. It takes no memory.
     pub(crate) fn pop(&mut self, kind: u16) -> bool
-        ensures left { (front : List Record) (last : Record) → last.kind ≡ kind → HoldSame (records_held self.old) (front ++ last ∷ []) →
-            HoldSame (records_held self.new) front }
+        ensures left { HoldAllButLast kind (records_held self.old) (records_held self.new) }
         ensures none { result ≡ true → records_held self.new ≡ [] }
         ensures some { result ≡ false → records_held self.new ≡ [] → ⊥ }
     {

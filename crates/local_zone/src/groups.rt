@@ -7,7 +7,7 @@ ghost use Rattle.dns_name.specs.Labels.{Labels};
 ghost use Rattle.dns_name.specs.Order.{name_eq};
 ghost use Rattle.dns_text.specs.declared.record.Record.{Record};
 ghost use Rattle.local_zone.specs.Gaps.{records_of};
-ghost use Rattle.local_zone.specs.Group.{group_of, AreIndexed, IndexesSame, ShareNone};
+ghost use Rattle.local_zone.specs.Group.{group_of, AreIndexed, GetsNoGroup, IndexesSame, ShareNone};
 ghost use Rattle.local_zone.specs.Index.{of_owner};
 ghost use Rattle.local_zone.specs.Show.{data_for, set_of};
 
@@ -62,9 +62,8 @@ fn move_group(owners: &mut IndexMap<Name, Group>, groups: &mut IndexMap<Name, Gr
     // Both together index the same records as before.
     ensures index { IndexesSame (groups.old.entries ++ owners.old.entries) (groups.new.entries ++ owners.new.entries) }
     ensures gone { group_of owner.now owners.new.entries ≡ None }
-    ensures stays { (other : Labels) → group_of other owners.old.entries ≡ None → group_of other owners.new.entries ≡ None }
-    ensures only { (other : Labels) → name_eq owner.now other ≡ false → group_of other groups.old.entries ≡ None →
-        group_of other groups.new.entries ≡ None }
+    ensures stays { (other : Labels) → GetsNoGroup other owners.old.entries owners.new.entries }
+    ensures only { (other : Labels) → name_eq owner.now other ≡ false → GetsNoGroup other groups.old.entries groups.new.entries }
     ensures spare { spare groups.old ≤ spare groups.new + 1 }
     ensures apart { ShareNone groups.new.entries owners.new.entries }
 {
@@ -84,7 +83,7 @@ pub(crate) fn move_groups(
     ensures index { IndexesSame (groups.old.entries ++ owners.old.entries) (groups.new.entries ++ owners.new.entries) }
     ensures gone { AllByRecursion (λ t. group_of t.item.owner owners.new.entries ≡ None) taken.now }
     ensures only { (other : Labels) → of_owner other (records_of taken.now) ≡ [] →
-        group_of other groups.old.entries ≡ None → group_of other groups.new.entries ≡ None }
+        GetsNoGroup other groups.old.entries groups.new.entries }
 {
     for t in taken {
         move_group(owners, groups, t.item.owner());
@@ -101,8 +100,7 @@ pub(crate) fn keep_groups(
     requires apart { ShareNone kept.old.entries owners.old.entries }
     ensures index { IndexesSame (kept.old.entries ++ owners.old.entries) (kept.new.entries ++ owners.new.entries) }
     ensures gone { AllByRecursion (λ r. group_of r.owner owners.new.entries ≡ None) left.now }
-    ensures only { (other : Labels) → of_owner other left.now ≡ [] →
-        group_of other kept.old.entries ≡ None → group_of other kept.new.entries ≡ None }
+    ensures only { (other : Labels) → of_owner other left.now ≡ [] → GetsNoGroup other kept.old.entries kept.new.entries }
 {
     for r in left {
         move_group(owners, kept, r.owner());

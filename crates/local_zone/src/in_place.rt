@@ -1,10 +1,9 @@
 //! Takes few records out of a long list, or puts few back, without a second list.
 
-ghost use Rattle.std.specs.Prelude.{◌≡◌, ◌≤◌, ◌+◌, ◌-◌, ◌++◌, List, take, drop, length};
+ghost use Rattle.std.specs.Prelude.{◌≡◌, ◌≤◌, ◌+◌, ◌-◌, ◌++◌, take, drop, length};
 ghost use Rattle.std.specs.Vec.{vec_len, vec_capacity};
-ghost use Rattle.dns_text.specs.declared.record.Record.{Record};
 ghost use Rattle.local_zone.specs.Gaps.{at_gaps, gaps_of, put_back, records_of, rest_of, AreWithin};
-ghost use Rattle.local_zone.specs.InPlace.{paired};
+ghost use Rattle.local_zone.specs.InPlace.{paired, MovesPast};
 
 use crate::record::LocalRecord;
 use crate::taken::Taken;
@@ -26,9 +25,7 @@ pub(crate) fn moves_in_place(room: usize, stay: usize, moved: usize) -> bool {
 /// Moves `count` records, which begin at `front`, behind the `gap` records that follow them.
 fn shift(list: &mut [LocalRecord], front: usize, count: usize, gap: usize)
     requires { front + count + gap ≤ length list.old }
-    ensures { (before moved passed behind : List Record) → list.old ≡ before ++ (moved ++ (passed ++ behind)) →
-        length before ≡ front → length moved ≡ count → length passed ≡ gap →
-        list.new ≡ before ++ (passed ++ (moved ++ behind)) }
+    ensures { MovesPast front count gap list.old list.new }
 {
     list[front..front + count + gap].rotate_left(count);
 }

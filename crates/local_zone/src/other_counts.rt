@@ -1,17 +1,16 @@
 //! How many records lie at or below a name on the other side of a change, in the zone in which the name lies there.
 
-ghost use Rattle.std.specs.Prelude.{◌≡◌, ◌≤◌, ◌-◌, ◌&&◌, true, not, List, length, if◌then◌else◌};
-ghost use Rattle.dns_name.specs.Labels.{Labels};
-ghost use Rattle.dns_text.specs.declared.record.Record.{Record};
+ghost use Rattle.std.specs.Prelude.{◌≡◌, ◌≤◌, ◌&&◌, not, length};
 ghost use Rattle.local_zone.specs.declared.added.RecordTurn.TheVariants as RecordTurn;
 ghost use Rattle.local_zone.specs.declared.table.TheConstants.{MOST_RECORDS};
 ghost use Rattle.local_zone.specs.Added.{records_before, GoesBack};
 ghost use Rattle.local_zone.specs.Change.{is_there, records_with};
-ghost use Rattle.local_zone.specs.Closest.{closest, lies_in};
+ghost use Rattle.local_zone.specs.Closest.{closest};
 ghost use Rattle.local_zone.specs.Count.{count_of, counts_there, same_zone};
 ghost use Rattle.local_zone.specs.CountsBelow.{AreZoned};
-ghost use Rattle.local_zone.specs.Gaps.{at_gaps, put_back, records_of, rest_of, AreApart, AreWithin};
-ghost use Rattle.local_zone.specs.Saved.{IsRemoval};
+ghost use Rattle.local_zone.specs.Gaps.{at_gaps, rest_of, AreApart, AreWithin};
+ghost use Rattle.local_zone.specs.OtherCount.{count_without, CountsOutside, CountsRemoved};
+ghost use Rattle.local_zone.specs.OtherSide.{RemovesAt};
 ghost use Rattle.named_list.specs.Named.{AreNamed};
 ghost use Rattle.named_list.specs.Turn.{other_of, HasPlace};
 
@@ -131,10 +130,7 @@ pub(crate) fn count_back(
 ) -> u64
     requires fits { HasPlace (λ z. z.name) turn.now zones.now }
     requires sound { AreNamed (λ z. z.name) (other_of turn.now zones.now) }
-    ensures { (records : List Record) → AreApart removed.now records →
-        IsRemoval (record { zones = other_of turn.now zones.now; records = put_back removed.now records })
-        (record { zones = zones.now; records = records }) →
-        result ≡ count_of (other_of turn.now zones.now) name.now (records_of removed.now) }
+    ensures { CountsRemoved turn.now zones.now removed.now name.now result }
 {
     let all = removed.as_slice();
     let _count = all.len();
@@ -156,8 +152,7 @@ fn count_dropped(
     first: &Name,
     name: &Name,
 ) -> u64
-    ensures { AreZoned zones.now records.now zoned.now → (zone : Labels) → lies_in zones.now zone first.now ≡ true →
-        result ≡ (if lies_in zones.now zone name.now then 0 else count_of zones.now name.now records.now) }
+    ensures { AreZoned zones.now records.now zoned.now → CountsOutside zones.now first.now name.now records.now result }
 {
     if lies_with(zones, first, name) {
         return 0;
@@ -177,8 +172,8 @@ fn count_without(
 ) -> u64
     requires fits { HasPlace (λ z. z.name) turn.now zones.now }
     requires sound { AreNamed (λ z. z.name) (other_of turn.now zones.now) }
-    ensures { AreZoned zones.now records.now zoned.now → result ≡ count_of zones.now name.now records.now
-        - (if counts_there (other_of turn.now zones.now) name.now owner.now then many else 0) }
+    ensures { AreZoned zones.now records.now zoned.now →
+        result ≡ count_without turn.now zones.now records.now owner.now many name.now }
 {
     let count = count_of(records, zoned, name);
     if counts_for(zones, turn, name, owner) {
@@ -201,8 +196,7 @@ pub(crate) fn count_left(
     requires zoned { AreZoned zones.now records.now zoned.now }
     requires within { AreWithin gaps.now records.now }
     requires apart { AreApart (at_gaps gaps.now records.now) (rest_of gaps.now records.now) }
-    requires removal { IsRemoval (record { zones = zones.now; records = records.now })
-        (record { zones = other_of turn.now zones.now; records = rest_of gaps.now records.now }) }
+    requires removal { RemovesAt turn.now zones.now gaps.now records.now }
     ensures { result ≡ count_of (other_of turn.now zones.now) name.now (rest_of gaps.now records.now) }
 {
     let Some(first) = first_at(records.as_slice(), gaps) else {

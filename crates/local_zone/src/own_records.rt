@@ -1,17 +1,13 @@
 //! The records of one owner and TYPE on the other side of a change, and whether an owner has any there. None takes memory.
 
-ghost use Rattle.std.specs.Prelude.{◌≡◌, ◌-◌, ◌&&◌, [], true, false, List, length, slice_get, take, if◌then◌else◌};
+ghost use Rattle.std.specs.Prelude.{◌≡◌, ◌-◌, ◌&&◌, [], true, false, length, slice_get, take, if◌then◌else◌};
 ghost use Rattle.std.specs.Option.{option_map};
-ghost use Rattle.dns_name.specs.Labels.{Labels};
 ghost use Rattle.dns_name.specs.Order.{name_eq};
-ghost use Rattle.dns_text.specs.declared.record.Record.{Record};
-ghost use Rattle.local_zone.specs.declared.added.RecordTurn.TheVariants as RecordTurn;
-ghost use Rattle.local_zone.specs.Added.{records_before, GoesBack};
 ghost use Rattle.local_zone.specs.Answer.{has_record};
-ghost use Rattle.local_zone.specs.Change.{records_with};
-ghost use Rattle.local_zone.specs.Closest.{lies_in};
-ghost use Rattle.local_zone.specs.Gaps.{at_gaps, put_back, rest_of, AreApart, AreWithin};
+ghost use Rattle.local_zone.specs.Closest.{lies_in, SaysIfSharesZone};
+ghost use Rattle.local_zone.specs.Gaps.{at_gaps, rest_of, AreWithin};
 ghost use Rattle.local_zone.specs.Index.{of_owner};
+ghost use Rattle.local_zone.specs.OtherSet.{IsSetBack, IsSetBefore, IsSetWith, SaysIfHasBack, SaysIfHasBefore, SaysIfHasWith};
 ghost use Rattle.local_zone.specs.OtherSide.{AreTaken};
 ghost use Rattle.local_zone.specs.Show.{is_for, set_of};
 
@@ -51,8 +47,7 @@ pub(crate) fn set_before<'a>(
     owner: &Name,
     kind: u16,
 ) -> OtherSet<'a>
-    ensures { (records : List Record) → GoesBack (RecordTurn.Added added.now) records →
-        own.now ≡ set_of owner.now kind records → result ≡ set_of owner.now kind (records_before added.now records) }
+    ensures { IsSetBefore added.now owner.now kind own.now result }
 {
     if is_for(added.said.get(), owner, kind) {
         return OtherSet::timed(front_of(own, added.is_new), added.ttl);
@@ -67,8 +62,7 @@ pub(crate) fn set_with<'a>(
     owner: &Name,
     kind: u16,
 ) -> OtherSet<'a>
-    ensures { (records : List Record) →
-        own.now ≡ set_of owner.now kind records → result ≡ set_of owner.now kind (records_with new.now records) }
+    ensures { IsSetWith new.now owner.now kind own.now result }
 {
     let said = new.get();
     if is_for(said, owner, kind) {
@@ -87,8 +81,7 @@ pub(crate) fn set_back<'a>(
     owner: &Name,
     kind: u16,
 ) -> OtherSet<'a>
-    ensures { (records : List Record) → AreApart removed.now records →
-        own.now ≡ set_of owner.now kind records → result ≡ set_of owner.now kind (put_back removed.now records) }
+    ensures { IsSetBack removed.now owner.now kind own.now result }
 {
     if own.is_empty() {
         return OtherSet::same(removed.set_of(owner, kind));
@@ -119,7 +112,7 @@ fn lies_under(zones: &NamedList<Zone>, name: &Name, owner: &Name) -> bool
 
 /// Whether the zone that covers one name covers an owner too.
 pub(crate) fn lies_with(zones: &NamedList<Zone>, first: &Name, owner: &Name) -> bool
-    ensures { (name : Labels) → lies_in zones.now name first.now ≡ true → result ≡ lies_in zones.now name owner.now }
+    ensures { SaysIfSharesZone zones.now first.now owner.now result }
 {
     match closest(zones, first) {
         Some(gone) => lies_under(zones, &gone.name, owner),
@@ -130,8 +123,7 @@ pub(crate) fn lies_with(zones: &NamedList<Zone>, first: &Name, owner: &Name) -> 
 /// Whether a removal takes the records of an owner, if it takes those of `first`: the records of a zone go with it. If it takes no zone,
 /// it takes those of one owner.
 fn goes_with(zones: &NamedList<Zone>, with_zone: bool, first: &Name, owner: &Name) -> bool
-    ensures zone { with_zone ≡ true → (name : Labels) → lies_in zones.now name first.now ≡ true →
-        result ≡ lies_in zones.now name owner.now }
+    ensures zone { with_zone ≡ true → SaysIfSharesZone zones.now first.now owner.now result }
     ensures owner { with_zone ≡ false → result ≡ name_eq owner.now first.now }
 {
     if with_zone {
@@ -188,8 +180,7 @@ fn is_new_of(added: &Added, owner: &Name) -> bool
 
 /// Whether an owner has a record, without one that was added.
 pub(crate) fn has_before(count: u64, added: &Added, owner: &Name) -> bool
-    ensures { (records : List Record) → GoesBack (RecordTurn.Added added.now) records →
-        count ≡ length (of_owner owner.now records) → result ≡ has_record owner.now (records_before added.now records) }
+    ensures { SaysIfHasBefore added.now owner.now count result }
 {
     if is_new_of(added, owner) {
         return count > 1;
@@ -199,16 +190,14 @@ pub(crate) fn has_before(count: u64, added: &Added, owner: &Name) -> bool
 
 /// Whether an owner has a record, with one that is added.
 pub(crate) fn has_with(count: u64, new: &Record, owner: &Name) -> bool
-    ensures { (records : List Record) →
-        count ≡ length (of_owner owner.now records) → result ≡ has_record owner.now (records_with new.now records) }
+    ensures { SaysIfHasWith new.now owner.now count result }
 {
     count > 0 || new.owner == *owner
 }
 
 /// Whether an owner has a record, with those that come back.
 pub(crate) fn has_back(count: u64, removed: &Removed, owner: &Name) -> bool
-    ensures { (records : List Record) →
-        count ≡ length (of_owner owner.now records) → result ≡ has_record owner.now (put_back removed.now records) }
+    ensures { SaysIfHasBack removed.now owner.now count result }
 {
     count > 0 || removed.count_of(owner) > 0
 }

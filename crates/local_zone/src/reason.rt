@@ -1,13 +1,13 @@
 //! Reasons to refuse a change. Finding one takes no memory.
 
-ghost use Rattle.std.specs.Prelude.{◌≡◌, ◌≤◌, List, length};
+ghost use Rattle.std.specs.Prelude.{◌≡◌, ◌≤◌, length};
+ghost use Rattle.local_zone.specs.Answer.{HoldsByCounts};
 ghost use Rattle.local_zone.specs.Reason.{clashes, has_data_below, reason_of_add, reason_of_set, redirects_below};
 ghost use Rattle.local_zone.specs.ZoneType.{is_redirect};
 ghost use Rattle.local_zone.specs.Closest.{closest};
 ghost use Rattle.local_zone.specs.CountsBelow.{AreZoned};
 ghost use Rattle.local_zone.specs.Tables.{is_cname};
 ghost use Rattle.local_zone.specs.declared.table.TheConstants.{MOST_ZONES, MOST_RECORDS};
-ghost use Rattle.local_zone.specs.declared.zone.Zone.{Zone};
 
 use crate::counts_below::CountsBelow;
 use crate::fault::TableFault;
@@ -36,8 +36,7 @@ fn is_redirect(kind: ZoneType) -> bool
 /// Whether a record would lie strictly below the name of the redirect zone. A lookup tells how many records are below the name, and
 /// another how many of these lie in other zones.
 fn has_data_below(records: &RecordList, zoned: &CountsBelow, new: &Zone) -> bool
-    ensures { (zones : List Zone) → AreZoned zones records.now zoned.now →
-        result ≡ has_data_below new.now (record { zones = zones; records = records.now }) }
+    ensures { HoldsByCounts records.now zoned.now (λ t. result ≡ has_data_below new.now t) }
 {
     is_redirect(new.kind) && zoned.of(&new.name) < records.count_below(&new.name)
 }

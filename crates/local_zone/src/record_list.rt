@@ -1,17 +1,15 @@
 //! Records in the order of their arrival, with an index by owner.
 
-ghost use Rattle.std.specs.Prelude.{◌≡◌, ◌≤◌, ◌+◌, ◌++◌, ◌∷◌, [], IfOk, MatchOption, OnErr, OnOk};
+ghost use Rattle.std.specs.Prelude.{◌≡◌, ◌≤◌, ◌+◌, ◌++◌, ◌∷◌, [], IfOk, OnErr, OnOk};
 ghost use Rattle.std.specs.Vec.{vec_len, vec_capacity};
 ghost use Rattle.local_zone.specs.Gaps.{at_gaps, gaps_of, put_back, records_of, rest_of, AreApart, AreWithin};
-ghost use Rattle.std.specs.Prelude.{◌-◌, List, None, map, take, length, false, IsTrue, ◌&&◌, ◌==◌, not};
+ghost use Rattle.std.specs.Prelude.{◌-◌, None, map, take, length, false, IsTrue, ◌&&◌, ◌==◌, not};
 ghost use Rattle.std.specs.List.{list_any};
 ghost use Rattle.local_zone.specs.CountsBelow.{count_below, AreCounted, CountMoreBy};
 ghost use Rattle.local_zone.specs.Tables.{is_of_set};
 ghost use Rattle.local_zone.specs.Change.{retimed_by};
-ghost use Rattle.dns_name.specs.Labels.{Labels};
-ghost use Rattle.dns_text.specs.declared.record.Record.{Record};
-ghost use Rattle.dns_name.specs.Order.{name_eq};
-ghost use Rattle.local_zone.specs.Group.{group_of, records_in, AreIndexed, IndexesAllButLast, IndexesChanged, IndexesSame};
+ghost use Rattle.local_zone.specs.Group.{group_of, records_in, FindsAllButLast, IndexesAllButLast, IndexesChanged, IndexesSame, KeepsOtherGroups};
+ghost use Rattle.local_zone.specs.InPlace.{HasRoomFor};
 ghost use Rattle.local_zone.specs.Index.{of_owner};
 ghost use Rattle.local_zone.specs.Show.{data_for, set_of};
 
@@ -87,11 +85,9 @@ fn unindex_last(owners: &mut IndexMap<Name, Group>, owner: &Name, kind: u16)
 
 /// Takes the last record of a TYPE out of the group of an owner, and returns whether none is left.
 fn pop_under(owners: &mut IndexMap<Name, Group>, owner: &Name, kind: u16) -> bool
-    ensures front { (front : List Record) (last : Record) → last.owner ≡ owner.now → last.kind ≡ kind →
-        AreIndexed (front ++ last ∷ []) owners.old.entries → AreIndexed front owners.new.entries }
+    ensures front { FindsAllButLast owner.now kind owners.old.entries owners.new.entries }
     ensures some { result ≡ false → IndexesAllButLast owner.now kind owners.old.entries owners.new.entries }
-    ensures others { (other : Labels) → name_eq owner.now other ≡ false →
-        group_of other owners.new.entries ≡ group_of other owners.old.entries }
+    ensures others { KeepsOtherGroups owner.now owners.old.entries owners.new.entries }
     ensures empty { IsTrue result → records_in (group_of owner.now owners.new.entries) ≡ [] }
 {
     match owners.get_mut(owner) {
@@ -133,8 +129,7 @@ fn room_for(
     taken: &[Taken],
 ) -> Result<Option<Vec<LocalRecord>>, NoMemory>
     ensures items { list.new.items ≡ list.old.items }
-    ensures room { IfOk result (λ second. MatchOption second (vec_len list.new + length taken.now ≤ vec_capacity list.new)
-        (λ to. (to.items ≡ []) × (vec_len list.new + length taken.now ≤ vec_capacity to))) }
+    ensures room { IfOk result (HasRoomFor (length taken.now) list.new) }
 {
     if moves_in_place(list.capacity(), list.len(), taken.len()) {
         list.reserve_exact(taken.len())?;
@@ -152,8 +147,7 @@ fn put_all(
     second: Option<Vec<LocalRecord>>,
 )
     requires gaps { gaps.now ≡ gaps_of taken.items }
-    requires room { MatchOption second (vec_len list.old + vec_len taken ≤ vec_capacity list.old)
-        (λ to. (to.items ≡ []) × (vec_len list.old + vec_len taken ≤ vec_capacity to)) }
+    requires room { HasRoomFor (vec_len taken) list.old second }
     ensures { list.new.items ≡ put_back taken.items list.old.items }
 {
     match second {

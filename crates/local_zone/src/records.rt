@@ -7,11 +7,12 @@ ghost use Rattle.local_zone.specs.Gaps.{at_gaps, gaps_of, gaps_where, put_back, 
 ghost use Rattle.std.specs.List.{Contains, list_any};
 ghost use Rattle.dns_text.specs.declared.record.Record.{Record};
 ghost use Rattle.local_zone.specs.Added.{ttl_of, records_before, records_need, GoesBack, PutsBack, TurnsRecords};
+ghost use Rattle.local_zone.specs.Answer.{has_record, has_record_in};
 ghost use Rattle.local_zone.specs.declared.added.RecordTurn.TheVariants as RecordTurn;
 ghost use Rattle.local_zone.specs.Tables.{is_of_set};
 ghost use Rattle.local_zone.specs.Change.{is_there, records_with, with_record};
-ghost use Rattle.local_zone.specs.CountsBelow.{AreZoned};
-ghost use Rattle.local_zone.specs.Together.{LieTogether, MoveTogether};
+ghost use Rattle.local_zone.specs.CountsBelow.{AreZoned, StayZoned};
+ghost use Rattle.local_zone.specs.Together.{LieTogether, LieTogetherAt, MoveTogether};
 ghost use Rattle.local_zone.specs.declared.table.TheConstants.{MOST_RECORDS};
 
 use crate::added::{Added, RecordTurn};
@@ -217,8 +218,7 @@ fn put_in(
     ensures ok { OnOk result (records.new ≡ put_back removed.old records.old) }
     ensures gaps { IfOk result (λ gaps. gaps.items ≡ gaps_of removed.old) }
     ensures err { OnErr result ((records.new ≡ records.old) × (removed.new ≡ removed.old)) }
-    ensures zoned { LieTogether zones.now removed.old → AreZoned zones.now records.old zoned.old →
-        AreZoned zones.now records.new zoned.new }
+    ensures zoned { LieTogether zones.now removed.old → StayZoned zones.now records.old zoned.old records.new zoned.new }
 {
     count_zones(alloc, zones, zoned, removed.as_slice())?;
     let gaps = records.put_in(alloc, removed);
@@ -240,8 +240,7 @@ fn put_again(
     requires { GoesBack (RecordTurn.Removed removed) records.old }
     ensures turns { OnOk result (TurnsRecords (RecordTurn.Removed removed) records.old turn.new records.new) }
     ensures err { OnErr result ((records.new ≡ records.old) × (turn.new ≡ RecordTurn.Removed removed)) }
-    ensures zoned { LieTogether zones.now removed → AreZoned zones.now records.old zoned.old →
-        AreZoned zones.now records.new zoned.new }
+    ensures zoned { LieTogether zones.now removed → StayZoned zones.now records.old zoned.old records.new zoned.new }
 {
     let mut removed = removed;
     match put_in(alloc, zones, records, zoned, &mut removed) {
@@ -269,8 +268,7 @@ fn take_out(
     ensures ok { OnOk result (records.new ≡ rest_of gaps.now records.old) }
     ensures removed { IfOk result (λ removed. removed ≡ at_gaps gaps.now records.old) }
     ensures err { OnErr result (records.new ≡ records.old) }
-    ensures zoned { LieTogether zones.now (at_gaps gaps.now records.old) → AreZoned zones.now records.old zoned.old →
-        AreZoned zones.now records.new zoned.new }
+    ensures zoned { LieTogetherAt zones.now gaps.now records.old → StayZoned zones.now records.old zoned.old records.new zoned.new }
 {
     let removed = records.take_out(alloc, gaps)?;
     uncount_zones(zones, zoned, removed.as_slice());
@@ -289,8 +287,7 @@ fn take_again(
     requires { GoesBack (RecordTurn.Removes gaps) records.old }
     ensures turns { OnOk result (TurnsRecords (RecordTurn.Removes gaps) records.old turn.new records.new) }
     ensures err { OnErr result ((records.new ≡ records.old) × (turn.new ≡ RecordTurn.Removes gaps)) }
-    ensures zoned { LieTogether zones.now (at_gaps gaps.items records.old) → AreZoned zones.now records.old zoned.old →
-        AreZoned zones.now records.new zoned.new }
+    ensures zoned { LieTogetherAt zones.now gaps.items records.old → StayZoned zones.now records.old zoned.old records.new zoned.new }
 {
     match take_out(alloc, zones, records, zoned, gaps.as_slice()) {
         Ok(removed) => {
@@ -317,8 +314,7 @@ pub(crate) fn turn_over(
     ensures turns { OnOk result (TurnsRecords turn.old records.old turn.new records.new) }
     ensures err { OnErr result ((records.new ≡ records.old) × (turn.new ≡ turn.old)) }
     ensures free { records_need turn.old ≡ false → IsOk result }
-    ensures zoned { MoveTogether turn.old zones.now records.old → AreZoned zones.now records.old zoned.old →
-        AreZoned zones.now records.new zoned.new }
+    ensures zoned { MoveTogether turn.old zones.now records.old → StayZoned zones.now records.old zoned.old records.new zoned.new }
 {
     match mem::replace(turn, RecordTurn::Nothing) {
         RecordTurn::Nothing => Ok(()),
@@ -390,8 +386,7 @@ fn take_gaps(
     ensures err { OnErr result (records.new ≡ records.old) }
     ensures free { gaps.now ≡ [] → IsOk result }
     ensures frees { IfOk result (λ turn. gaps.now ≡ [] → records_need turn ≡ false) }
-    ensures zoned { LieTogether zones.now (at_gaps gaps.now records.old) → AreZoned zones.now records.old zoned.old →
-        AreZoned zones.now records.new zoned.new }
+    ensures zoned { LieTogetherAt zones.now gaps.now records.old → StayZoned zones.now records.old zoned.old records.new zoned.new }
 {
     if gaps.is_empty() {
         return Ok(RecordTurn::Nothing);
@@ -412,9 +407,8 @@ pub(crate) fn take_in(
     ensures ok { OnOk result (records.new ≡ filter (λ r. not (lies_in zones.now name.now r.owner)) records.old) }
     ensures saved { IfOk result (λ turn. PutsBack turn records.new records.old) }
     ensures err { OnErr result (records.new ≡ records.old) }
-    ensures free { list_any (λ r. lies_in zones.now name.now r.owner) records.old ≡ false → IsOk result }
-    ensures frees { IfOk result (λ turn. list_any (λ r. lies_in zones.now name.now r.owner) records.old ≡ false →
-        records_need turn ≡ false) }
+    ensures free { has_record_in zones.now name.now records.old ≡ false → IsOk result }
+    ensures frees { IfOk result (λ turn. has_record_in zones.now name.now records.old ≡ false → records_need turn ≡ false) }
     ensures zoned { AreZoned zones.now records.old zoned.old → AreZoned zones.now records.new zoned.new }
 {
     let gaps = gaps_in(alloc, records.as_slice(), zones, name)?;
@@ -434,8 +428,8 @@ pub(crate) fn take_of(
     ensures ok { OnOk result (records.new ≡ filter (λ r. not (name_eq r.owner owner.now)) records.old) }
     ensures saved { IfOk result (λ turn. PutsBack turn records.new records.old) }
     ensures err { OnErr result (records.new ≡ records.old) }
-    ensures free { list_any (λ r. name_eq r.owner owner.now) records.old ≡ false → IsOk result }
-    ensures frees { IfOk result (λ turn. list_any (λ r. name_eq r.owner owner.now) records.old ≡ false → records_need turn ≡ false) }
+    ensures free { has_record owner.now records.old ≡ false → IsOk result }
+    ensures frees { IfOk result (λ turn. has_record owner.now records.old ≡ false → records_need turn ≡ false) }
     ensures zoned { AreZoned zones.now records.old zoned.old → AreZoned zones.now records.new zoned.new }
 {
     let gaps = gaps_of(alloc, records.as_slice(), owner)?;

@@ -1,10 +1,9 @@
 //! The records of an owner that has several, with those of each TYPE side by side.
 
-ghost use Rattle.std.specs.Prelude.{◌≡◌, ◌<◌, ◌≤◌, ◌++◌, ◌∷◌, [], List, map, length, IfOk, OnErr, OnOk};
+ghost use Rattle.std.specs.Prelude.{◌≡◌, ◌<◌, ◌≤◌, ◌∷◌, [], map, length, IfOk, OnErr, OnOk};
 ghost use Rattle.std.specs.List.{AllWithin};
-ghost use Rattle.dns_text.specs.declared.record.Record.{Record};
 ghost use Rattle.local_zone.specs.Change.{retimed_by};
-ghost use Rattle.local_zone.specs.Index.{of_kind, HoldSame};
+ghost use Rattle.local_zone.specs.Index.{of_kind, HoldAllButLast, HoldOneMore};
 ghost use Rattle.local_zone.specs.Sets.{AreInOrder};
 
 use crate::record::{LocalRecord, retime_each};
@@ -58,7 +57,7 @@ impl Sets {
         first: &LocalRecord,
         second: LocalRecord,
     ) -> Result<Sets, NoMemory>
-        ensures { IfOk result (λ sets. (all : List Record) → HoldSame (first.now ∷ []) all → HoldSame sets (all ++ second ∷ [])) }
+        ensures { IfOk result (HoldOneMore second (first.now ∷ [])) }
     {
         let mut records = Vec::with_capacity(alloc, 2)?;
         records.push_reserved(first.share()?);
@@ -85,7 +84,7 @@ impl Sets {
 
     /// Puts a record behind those of its TYPE. If memory is refused, nothing has changed.
     pub(crate) fn push(&mut self, new: LocalRecord) -> Result<(), NoMemory>
-        ensures ok { OnOk result ((all : List Record) → HoldSame self.old all → HoldSame self.new (all ++ new ∷ [])) }
+        ensures ok { OnOk result (HoldOneMore new self.old self.new) }
         ensures err { OnErr result (self.new ≡ self.old) }
     {
         let end = count_up_to(&self.records, new.kind());
@@ -94,8 +93,7 @@ impl Sets {
 
     /// Takes the last record of a TYPE out. It takes no memory.
     pub(crate) fn pop(&mut self, kind: u16)
-        ensures { (front : List Record) (last : Record) → last.kind ≡ kind → HoldSame self.old (front ++ last ∷ []) →
-            HoldSame self.new front }
+        ensures { HoldAllButLast kind self.old self.new }
     {
         let end = count_up_to(&self.records, kind);
         if end > 0 && self.records[end - 1].kind() == kind {

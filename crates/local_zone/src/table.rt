@@ -1,9 +1,6 @@
 //! Local zones and local data.
 
 ghost use Rattle.std.specs.Prelude.{◌≡◌, [], true, false, IfErr, IfOk, IsOk, OnErr, OnOk, None};
-ghost use Rattle.std.specs.List.{list_any};
-ghost use Rattle.dns_name.specs.Order.{name_eq};
-ghost use Rattle.local_zone.specs.Closest.{lies_in};
 
 use crate::added::RecordTurn;
 use crate::answer::answer;
@@ -57,9 +54,9 @@ impl Model for ZoneTable {
 
 impl ZoneTable {
     ghost use Rattle.local_zone.specs.Tables.{Tables};
-    ghost use Rattle.local_zone.specs.Answer.{carries_record, local_now, local_of};
-    ghost use Rattle.local_zone.specs.Change.{after_set, after_drop, after_add, after_drop_name, has_zone};
-    ghost use Rattle.local_zone.specs.Reason.{reason_of_set, reason_of_add, IsFaultFor};
+    ghost use Rattle.local_zone.specs.Answer.{carries_record, has_record, has_record_in, local_now, local_of};
+    ghost use Rattle.local_zone.specs.Change.{after_drop, after_add, after_drop_name, has_zone};
+    ghost use Rattle.local_zone.specs.Reason.{reason_of_add, IsFaultFor, RefusesZone, SetsZone};
     ghost use Rattle.local_zone.specs.Saved.{before_of, needs_memory, TakesBack, TurnsOver};
     ghost use Rattle.named_list.specs.Turn.{puts_in};
 
@@ -98,10 +95,8 @@ impl ZoneTable {
 
     /// Adds a zone, or gives the zone of this name another type. The only faults are `DataBelow`, `TooMany` and `NoMemory`.
     pub fn set(&mut self, name: Name, kind: ZoneType) -> Result<SavedTables, TableFault>
-        ensures ok { OnOk result ((reason_of_set (record { name = name; kind = kind }) self.old ≡ None)
-            × (self.new ≡ after_set (record { name = name; kind = kind }) self.old)) }
-        ensures err { IfErr result (λ fault. IsFaultFor (reason_of_set (record { name = name; kind = kind }) self.old) fault
-            × (self.new ≡ self.old)) }
+        ensures ok { OnOk result (SetsZone (record { name = name; kind = kind }) self.old self.new) }
+        ensures err { IfErr result (RefusesZone (record { name = name; kind = kind }) self.old self.new) }
         ensures saved { IfOk result (λ saved. TakesBack saved self.new self.old) }
         ensures frees { IfOk result (λ saved. needs_memory saved ≡ false) }
     {
@@ -164,7 +159,7 @@ impl ZoneTable {
         ensures ok { OnOk result (self.new ≡ after_drop name.now self.old) }
         ensures err { IfErr result (λ fault. (fault ≡ TableFault.NoMemory) × (self.new ≡ self.old)) }
         ensures saved { IfOk result (λ saved. TakesBack saved self.new self.old) }
-        ensures free { list_any (λ r. lies_in self.old.zones name.now r.owner) self.old.records ≡ false → IsOk result }
+        ensures free { has_record_in self.old.zones name.now self.old.records ≡ false → IsOk result }
         ensures frees { IfOk result (λ saved. has_zone self.old.zones name.now ≡ false → needs_memory saved ≡ false) }
     {
         let records = take_in(
@@ -183,9 +178,8 @@ impl ZoneTable {
         ensures ok { OnOk result (self.new ≡ after_drop_name name.now self.old) }
         ensures err { IfErr result (λ fault. (fault ≡ TableFault.NoMemory) × (self.new ≡ self.old)) }
         ensures saved { IfOk result (λ saved. TakesBack saved self.new self.old) }
-        ensures free { list_any (λ r. name_eq r.owner name.now) self.old.records ≡ false → IsOk result }
-        ensures frees { IfOk result (λ saved. list_any (λ r. name_eq r.owner name.now) self.old.records ≡ false →
-            needs_memory saved ≡ false) }
+        ensures free { has_record name.now self.old.records ≡ false → IsOk result }
+        ensures frees { IfOk result (λ saved. has_record name.now self.old.records ≡ false → needs_memory saved ≡ false) }
     {
         let records = take_of(
             self.alloc,

@@ -1,17 +1,15 @@
 //! Counts of the records that lie in zones strictly below each name.
 
 ghost use Rattle.std.specs.Option.{option_map};
-ghost use Rattle.std.specs.Prelude.{◌≡◌, List, Some, OnErr, OnOk, length, if◌then◌else◌};
-ghost use Rattle.dns_name.specs.Labels.{Labels};
+ghost use Rattle.std.specs.Prelude.{◌≡◌, List, OnErr, OnOk, if◌then◌else◌};
 ghost use Rattle.local_zone.specs.Closest.{closest};
 ghost use Rattle.local_zone.specs.Count.{count_of};
-ghost use Rattle.local_zone.specs.CountsBelow.{count_zoned, is_below_from, is_zone_below, is_zoned, octets_over, AreZoned, CountLessBy, CountMoreBy, CountTheSame};
-ghost use Rattle.local_zone.specs.Gaps.{records_of};
-ghost use Rattle.local_zone.specs.Together.{LieTogether};
-ghost use Rattle.local_zone.specs.Zoned.{zone_out, CountsIn, CountsOut};
+ghost use Rattle.local_zone.specs.CountsBelow.{is_below_from, is_zoned, octets_over, AreZoned, CountLessBy, CountMoreBy, CountTheSame};
+ghost use Rattle.local_zone.specs.Together.{CountsAboveZone, CountsTaken, LieTogether, UncountsTaken};
+ghost use Rattle.local_zone.specs.Zoned.{zone_out, CountsIn, CountsMoved, CountsOut, CountsStepIn, CountsStepOut};
 ghost use Rattle.local_zone.specs.declared.zone.Zone.{Zone};
 ghost use Rattle.named_list.specs.Named.{AreNamed};
-ghost use Rattle.named_list.specs.Turn.{name_in, other_of, HasPlace};
+ghost use Rattle.named_list.specs.Turn.{other_of, HasPlace};
 
 use crate::counts_below::CountsBelow;
 use crate::record_list::RecordList;
@@ -49,8 +47,7 @@ pub(crate) fn uncount_zone(zones: &NamedList<Zone>, zoned: &mut CountsBelow, own
 
 /// The zone of the first record that was taken, if there is one and a zone covers it.
 fn zone_of_first<'a>(zones: &'a NamedList<Zone>, taken: &[Taken]) -> Option<&'a Zone>
-    ensures { LieTogether zones.now taken.now → (name : Labels) → count_zoned zones.now name (records_of taken.now)
-        ≡ (if is_zone_below name (option_map (λ z. z.now) result) then length taken.now else 0) }
+    ensures { LieTogether zones.now taken.now → CountsAboveZone zones.now taken.now (option_map (λ z. z.now) result) }
 {
     match taken.first() {
         Some(first) => closest(zones, first.item.owner()),
@@ -65,8 +62,7 @@ pub(crate) fn count_zones(
     zoned: &mut CountsBelow,
     taken: &[Taken],
 ) -> Result<(), NoMemory>
-    ensures ok { OnOk result (LieTogether zones.now taken.now →
-        CountMoreBy (λ name. count_zoned zones.now name (records_of taken.now)) zoned.old zoned.new) }
+    ensures ok { OnOk result (LieTogether zones.now taken.now → CountsTaken zones.now taken.now zoned.old zoned.new) }
     ensures err { OnErr result (CountTheSame zoned.old zoned.new) }
 {
     match zone_of_first(zones, taken) {
@@ -77,8 +73,7 @@ pub(crate) fn count_zones(
 
 /// Counts records that were taken, all of one zone, no more. It takes no memory.
 pub(crate) fn uncount_zones(zones: &NamedList<Zone>, zoned: &mut CountsBelow, taken: &[Taken])
-    ensures { LieTogether zones.now taken.now →
-        CountLessBy (λ name. count_zoned zones.now name (records_of taken.now)) zoned.old zoned.new }
+    ensures { LieTogether zones.now taken.now → UncountsTaken zones.now taken.now zoned.old zoned.new }
 {
     if let Some(zone) = zone_of_first(zones, taken) {
         zoned.remove_from(&zone.name, 0, taken.len() as u64);
@@ -151,8 +146,7 @@ pub(crate) fn count_step_in(
     zoned: &mut CountsBelow,
     turn: &Turn<Zone>,
 ) -> Result<(), NoMemory>
-    ensures ok { OnOk result ((name : Labels) → name_in (λ z. z.name) turn.now ≡ Some name →
-        CountsIn zones.now name records.now zoned.old zoned.new) }
+    ensures ok { OnOk result (CountsStepIn turn.now zones.now records.now zoned.old zoned.new) }
     ensures err { OnErr result (CountTheSame zoned.old zoned.new) }
 {
     match turn.name_in() {
@@ -168,8 +162,7 @@ pub(crate) fn count_step_out(
     zoned: &mut CountsBelow,
     turn: &Turn<Zone>,
 )
-    ensures { (name : Labels) → name_in (λ z. z.name) turn.now ≡ Some name →
-        CountsOut zones.now name records.now zoned.old zoned.new }
+    ensures { CountsStepOut turn.now zones.now records.now zoned.old zoned.new }
 {
     if let Some(name) = turn.name_in() {
         count_out(zones, records, zoned, name);
@@ -192,9 +185,7 @@ fn count_moved(
     above: Option<&Zone>,
     name: &Name,
 ) -> u64
-    ensures { (zones : List Zone) → AreZoned zones records.now zoned.now →
-        result ≡ (if is_below_from (octets_over (option_map (λ z. z.now) above.entry)) zone.now name.now
-        then count_of zones zone.now records.now else 0) }
+    ensures { CountsMoved zone.now (option_map (λ z. z.now) above.entry) name.now records.now zoned.now result }
 {
     if is_below_from(octets_in(above), zone, name) {
         count_of(records, zoned, zone)
