@@ -4,7 +4,7 @@ use Rattle.std.proofs.lemmas.Bool.{cases_eq}
 use Rattle.std.proofs.lemmas.List.{map-append}
 use Rattle.std.specs.Prelude.{slice_index_or}
 use Rattle.slab.specs.Slab.{Slab, get, slab_len, Updates}
-use Rattle.flight.specs.declared.table.Attempt.{Attempt}
+use Rattle.flight.specs.declared.table.BeginAttempt.{BeginAttempt}
 use Rattle.flight.specs.declared.table.Wait.{Wait}
 use Rattle.flight.proofs.Counting.{time_over, fewer_over_then}
 use Rattle.flight.specs.Origin.{Origin}
@@ -24,26 +24,26 @@ stays_then now of old between new first second = record {
   attempts = elim second.attempts [
     | inl same ↦ elim first.attempts [
       | inl before ↦ inl (same ∙ before)
-      | inr one ↦ inr (subst (λ (attempt : Attempt). IsAttempt now of attempt) (sym same) one)
+      | inr one ↦ inr (subst (λ (attempt : BeginAttempt). IsAttempt now of attempt) (sym same) one)
     ]
     | inr one ↦ inr one
   ];
 }
 
 -- A question makes an attempt.
-pub attempted_now : (now : ℕ) (origin : Origin) (attempt : Attempt) → attempt ≡ record { at = now; began = origin.began } → IsAttempt now (λ o. o ≡ origin) attempt
-attempted_now now origin attempt is = record { at = ap (λ (a : Attempt). a.at) is; origin = origin; is = refl; began = ap (λ (a : Attempt). a.began) is }
+pub attempted_now : (now : ℕ) (origin : Origin) (attempt : BeginAttempt) → attempt ≡ record { at = now; began = origin.began } → IsAttempt now (λ o. o ≡ origin) attempt
+attempted_now now origin attempt is = record { at = ap (λ (a : BeginAttempt). a.at) is; origin = origin; is = refl; began = ap (λ (a : BeginAttempt). a.began) is }
 
-pub stays_tried : (now : ℕ) (origin : Origin) (old new : FlightState) (attempt : Attempt) → new ≡ attempted attempt old → attempt ≡ record { at = now; began = origin.began } → Stays now (λ o. o ≡ origin) old new
+pub stays_tried : (now : ℕ) (origin : Origin) (old new : FlightState) (attempt : BeginAttempt) → new ≡ attempted attempt old → attempt ≡ record { at = now; began = origin.began } → Stays now (λ o. o ≡ origin) old new
 stays_tried now origin old new attempt same is =
     let tried : new.tried ≡ attempt = ap (λ (state : FlightState). state.tried) same in
     record {
-      same = same ∙ ap (λ (a : Attempt). attempted a old) (sym tried);
+      same = same ∙ ap (λ (a : BeginAttempt). attempted a old) (sym tried);
       attempts = inr (attempted_now now origin new.tried (tried ∙ is));
     }
 
 -- An attempt is of a question of which less is said.
-attempt_as : (now : ℕ) (of of' : Origin → Type 0) (attempt : Attempt) → IsAttempt now of attempt → ((origin : Origin) → of origin → of' origin) → IsAttempt now of' attempt
+attempt_as : (now : ℕ) (of of' : Origin → Type 0) (attempt : BeginAttempt) → IsAttempt now of attempt → ((origin : Origin) → of origin → of' origin) → IsAttempt now of' attempt
 attempt_as now of of' attempt one implies = record { at = one.at; origin = one.origin; is = implies one.origin one.is; began = one.began }
 
 pub stays_as : (now : ℕ) (of of' : Origin → Type 0) (old new : FlightState) → Stays now of old new → ((origin : Origin) → of origin → of' origin) → Stays now of' old new
@@ -258,7 +258,7 @@ pub attempts_on : (now : ℕ) (old between new : FlightState) → KeepsOrigins o
 attempts_on now old between new origins first second = elim second [
   | inl same ↦ elim first [
     | inl before ↦ inl (same ∙ before)
-    | inr one ↦ inr (subst (λ (attempt : Attempt). IsAttempt now (HasQuestion old) attempt) (sym same) one)
+    | inr one ↦ inr (subst (λ (attempt : BeginAttempt). IsAttempt now (HasQuestion old) attempt) (sym same) one)
   ]
   | inr one ↦
       let waited : (origin : Origin) → HasQuestion between origin → HasQuestion old origin = λ origin has.

@@ -1,7 +1,7 @@
 -- A client that is settled.
 use Rattle.std.proofs.Common.{◌≡◌, ◌∙◌, ℕ, List, [], ◌∷◌, Option, is_some, count_by, ap, inl, inr, refl, subst, sym, arith}
 use Rattle.flight.specs.declared.counts.Counts.{Counts}
-use Rattle.flight.specs.declared.table.Attempt.{Attempt}
+use Rattle.flight.specs.declared.table.BeginAttempt.{BeginAttempt}
 use Rattle.flight.specs.Bounds.{kept_all, kept_by}
 use Rattle.flight.specs.Clients.{LosesNone, Settles, SettlesOrWaits}
 use Rattle.flight.specs.Counted.{CountsSettled}
@@ -15,10 +15,10 @@ use Rattle.flight.proofs.Flights.{as_it_was, attempts_on, on_or_begun_then, orig
 use Rattle.flight.proofs.Places.{joins_none_on, joins_none_same, kept_same}
 
 -- what is seen of the questions in flight, by its parts
-abbrev state_of : List (Option UnderWay) → List ℕ → ℕ → ℕ → Attempt → FlightState
+abbrev state_of : List (Option UnderWay) → List ℕ → ℕ → ℕ → BeginAttempt → FlightState
 state_of exchanges begun latest limit tried = record { exchanges = exchanges; begun = begun; latest = latest; limit = limit; tried = tried }
 
-same_parts : (exchanges exchanges' : List (Option UnderWay)) (begun begun' : List ℕ) (latest latest' limit limit' : ℕ) (tried tried' : Attempt)
+same_parts : (exchanges exchanges' : List (Option UnderWay)) (begun begun' : List ℕ) (latest latest' limit limit' : ℕ) (tried tried' : BeginAttempt)
     → exchanges' ≡ exchanges → begun' ≡ begun → latest' ≡ latest → limit' ≡ limit → tried' ≡ tried → state_of exchanges' begun' latest' limit' tried' ≡ state_of exchanges begun latest limit tried
 same_parts exchanges exchanges' begun begun' latest latest' limit limit' tried tried' is_exchanges is_begun is_latest is_limit is_tried = cc
 

@@ -20,7 +20,7 @@ use Rattle.history.specs.declared.event.Reply.{Reply}
 use Rattle.clock.specs.Ticks.{Ticks}
 use Rattle.replies.specs.Calls.{Calls}
 use Rattle.flight.specs.declared.asking.Asking.{Asking}
-use Rattle.flight.specs.declared.table.Attempt.{Attempt}
+use Rattle.flight.specs.declared.table.BeginAttempt.{BeginAttempt}
 use Rattle.flight.specs.declared.sockets.Listened.{Listened}
 use Rattle.flight.specs.declared.counts.Counts.{Counts}
 use Rattle.flight.specs.declared.sockets.Client.{Ghosts as OfClient}
@@ -36,7 +36,7 @@ abbrev pub origin_in : {G K : Type 0} → (K → ℕ) → Asking G K → Origin
 origin_in network asking = origin_of asking.began asking.query.question.owner (network asking.client)
 
 -- the attempt of a question to begin an exchange now
-abbrev pub attempt_of : {G K : Type 0} → ℕ → Asking G K → Attempt
+abbrev pub attempt_of : {G K : Type 0} → ℕ → Asking G K → BeginAttempt
 attempt_of now asking = record { at = now; began = asking.began }
 
 -- The client may have sent these octets, they are this query, and the task is for its question.

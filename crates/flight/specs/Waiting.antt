@@ -1,7 +1,7 @@
 -- The clients that wait, each for one exchange.
 use Rattle.std.specs.Prelude.{◌≡◌, ◌≢◌, ◌⊎◌, ◌<◌, ◌≤◌, ℕ, ◌+◌, ◌-◌, min, max, Bool, false, Option, Some, None, is_some, count_by, slice_index_or, List, [], ◌∷◌, ◌++◌}
 use Rattle.flight.specs.declared.counts.Counts.{Counts}
-use Rattle.flight.specs.declared.table.Attempt.{Attempt}
+use Rattle.flight.specs.declared.table.BeginAttempt.{BeginAttempt}
 use Rattle.flight.specs.Counted.{NeverFall, IsFull}
 use Rattle.flight.specs.Flight.{Sent}
 use Rattle.flight.specs.Origin.{Origin}
@@ -20,10 +20,10 @@ pub record FlightState : Type 0 where
   pub begun : List ℕ  -- the moments at which exchanges began, in order: those under way, and some that have ended since
   pub latest : ℕ  -- the latest moment at which one began
   pub limit : ℕ  -- how many exchanges may be under way
-  pub tried : Attempt  -- the latest attempt to begin one
+  pub tried : BeginAttempt  -- the latest attempt to begin one
 
 -- the same state after this attempt
-abbrev pub attempted : Attempt → FlightState → FlightState
+abbrev pub attempted : BeginAttempt → FlightState → FlightState
 attempted attempt state = record state { tried = attempt }
 
 -- how many exchanges are under way; one client waits for each
@@ -79,7 +79,7 @@ pub record IsAccounted (more waiting : ℕ) (old : Counts) (waiting' : ℕ) (new
   pub add_up : AddUp more waiting old waiting' new ⊎ IsFull new
 
 -- Such a question wanted to begin an exchange at this moment.
-pub record IsAttempt (now : ℕ) (of : Origin → Type 0) (attempt : Attempt) : Type 0 where
+pub record IsAttempt (now : ℕ) (of : Origin → Type 0) (attempt : BeginAttempt) : Type 0 where
   pub at : attempt.at ≡ now
   pub origin : Origin
   pub is : of origin

@@ -68,7 +68,7 @@ pub(crate) struct Wait {
 
 /// A question wanted to begin an exchange: the moment at which it did, and that at which it began, in milliseconds.
 #[derive(Clone, Copy)]
-pub(crate) struct Attempt {
+pub(crate) struct BeginAttempt {
     at: u64,
     began: u64,
 }
@@ -107,7 +107,7 @@ pub(crate) struct Table<D: Numbered, L: InFlight, C: Clock, G: Rng, K: Client> {
     limit: usize,
     asker: Asker,
     /// The latest attempt to begin an exchange. Contracts alone read it: at that moment a question was refused, if it was.
-    tried: Attempt,
+    tried: BeginAttempt,
     /// The octets that the questions keep, together.
     kept: usize,
     ghost queue: { IsQueue jobs.slots waits.items latest },
@@ -134,7 +134,7 @@ impl<D: Numbered, L: InFlight, C: Clock, G: Rng, K: Client> Table<D, L, C, G, K>
                 network: 0,
                 since: 0,
             },
-            tried: Attempt { at: 0, began: 0 },
+            tried: BeginAttempt { at: 0, began: 0 },
             kept: 0,
         }
     }
@@ -148,7 +148,7 @@ impl<D: Numbered, L: InFlight, C: Clock, G: Rng, K: Client> Table<D, L, C, G, K>
         ensures asker { self.new.asker ≡ asker_after (max now self.old.latest) (K.network asking.now.client) self.old.asker }
         ensures tried { self.new.tried ≡ attempt_of now asking.now }
     {
-        self.tried = Attempt {
+        self.tried = BeginAttempt {
             at: now,
             began: asking.began,
         };
