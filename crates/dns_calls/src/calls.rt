@@ -1,7 +1,7 @@
 //! The table of calls by their words.
 
 use crate::arguments::arguments_in;
-use crate::denials::denial_in;
+use crate::denials::{Words, denial_in};
 use crate::drawn::drawn_words;
 use crate::fault::CallFault;
 use crate::harvests::harvest_in;
@@ -39,14 +39,18 @@ fn answer(alloc: Global, word: &[u8], arguments: &[Vec<u8>]) -> Result<Vec<u8>, 
         (b"fault", [octets, rcode]) => fault_reply_to(alloc, octets, rcode),
         (b"cut", [query, octets]) => reply_over_udp(alloc, query, octets),
         (b"reply", [query, octets]) => reply_octets(alloc, query, octets),
-        (b"denial", [octets, owner, kind, zone]) => denial_in(alloc, octets, owner, kind, zone),
-        (b"harvest", [octets, owner, kind, zone]) => harvest_in(alloc, octets, owner, kind, zone),
+        (b"denial", [octets, owner, kind, zone]) => {
+            denial_in(alloc, octets, Words { owner, kind, zone })
+        }
+        (b"harvest", [octets, owner, kind, zone]) => {
+            harvest_in(alloc, octets, Words { owner, kind, zone })
+        }
         (b"lent", [query, owner, kind, ttl, data @ ..]) => {
             lent_octets(alloc, query, owner, kind, ttl, data)
         }
         (b"query", [id, owner, kind]) => query_octets(alloc, id, owner, kind),
         (b"judge", [octets, over, id, zone, owner, kind]) => {
-            verdict_in(alloc, octets, (over, id), zone, owner, kind)
+            verdict_in(alloc, octets, (over, id), Words { owner, kind, zone })
         }
         (b"drawn", []) => drawn_words(alloc),
         _ => Err(CallFault::NoCall),

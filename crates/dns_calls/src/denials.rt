@@ -16,6 +16,20 @@ pub fn question_of(alloc: Global, owner: &[u8], kind: &[u8]) -> Result<Question,
     Ok(Question { owner, kind })
 }
 
+/// The words for a question, and for the zone whose server is asked it.
+#[derive(Clone, Copy)]
+pub struct Words<'a> {
+    pub owner: &'a [u8],
+    pub kind: &'a [u8],
+    pub zone: &'a [u8],
+}
+
+/// The question and the zone that words say.
+pub fn asked_of(alloc: Global, words: Words<'_>) -> Result<(Question, Name), CallFault> {
+    let question = question_of(alloc, words.owner, words.kind)?;
+    Ok((question, Name::from_text(alloc, words.zone)?))
+}
+
 /// Writes ` TYPE`, or nothing if the scope is every type.
 pub fn push_scope(scope: Scope, out: &mut Vec<u8>) -> Result<(), NoMemory> {
     match scope {
@@ -55,15 +69,8 @@ pub fn denial_words(alloc: Global, find: &Find) -> Result<Vec<u8>, NoMemory> {
 }
 
 /// The negative answer of a message from a zone to a question of this name and type, or `none`.
-pub fn denial_in(
-    alloc: Global,
-    octets: &[u8],
-    owner: &[u8],
-    kind: &[u8],
-    zone: &[u8],
-) -> Result<Vec<u8>, CallFault> {
-    let question = question_of(alloc, owner, kind)?;
-    let zone = Name::from_text(alloc, zone)?;
+pub fn denial_in(alloc: Global, octets: &[u8], words: Words<'_>) -> Result<Vec<u8>, CallFault> {
+    let (question, zone) = asked_of(alloc, words)?;
     let message = decode(alloc, octets)?;
     match negative_of(alloc, &message, &question, &zone)? {
         Some(find) => Ok(denial_words(alloc, &find)?),

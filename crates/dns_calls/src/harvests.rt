@@ -1,8 +1,8 @@
 //! Calls for the harvest of a message.
 
-use crate::denials::{denial_words, push_scope, question_of};
+use crate::denials::{Words, asked_of, denial_words, push_scope};
 use crate::fault::CallFault;
-use dns_name::{Name, NoMemory};
+use dns_name::NoMemory;
 use dns_text::{Data, push_data, push_type};
 use dns_wire::decode;
 use harvest::{Harvest, PassingSet, harvest};
@@ -69,15 +69,8 @@ fn harvest_words(alloc: Global, harvest: &Harvest) -> Result<Vec<u8>, NoMemory> 
 }
 
 /// The harvest of a message from a server of a zone that was asked a question of this name and type.
-pub fn harvest_in(
-    alloc: Global,
-    octets: &[u8],
-    owner: &[u8],
-    kind: &[u8],
-    zone: &[u8],
-) -> Result<Vec<u8>, CallFault> {
-    let question = question_of(alloc, owner, kind)?;
-    let zone = Name::from_text(alloc, zone)?;
+pub fn harvest_in(alloc: Global, octets: &[u8], words: Words<'_>) -> Result<Vec<u8>, CallFault> {
+    let (question, zone) = asked_of(alloc, words)?;
     let message = decode(alloc, octets)?;
     Ok(harvest_words(alloc, &harvest(alloc, &message, &question, &zone)?)?)
 }

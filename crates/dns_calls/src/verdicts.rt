@@ -1,10 +1,10 @@
 //! Calls for the verdict on a response.
 
-use crate::denials::{denial_words, question_of};
+use crate::denials::{Words, asked_of, denial_words, question_of};
 use crate::fault::CallFault;
 use crate::harvests::{find_words, passing_words};
 use crate::names::digits;
-use dns_name::{Name, NoMemory};
+use dns_name::NoMemory;
 use dns_query::{Believed, Heard, Over, Referral, Says, Verdict, believed, judge, query};
 use dns_text::types::CNAME;
 use dns_text::{Question, push_addr};
@@ -118,12 +118,9 @@ pub fn verdict_in(
     alloc: Global,
     octets: &[u8],
     sent: (&[u8], &[u8]),
-    zone: &[u8],
-    owner: &[u8],
-    kind: &[u8],
+    words: Words<'_>,
 ) -> Result<Vec<u8>, CallFault> {
-    let question = question_of(alloc, owner, kind)?;
-    let zone = Name::from_text(alloc, zone)?;
+    let (question, zone) = asked_of(alloc, words)?;
     let (over, id) = sent;
     let verdict = judge(
         alloc,
