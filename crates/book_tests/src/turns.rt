@@ -148,18 +148,10 @@ fn flushes<B: Book>(
 
 /// Caches 281 names, of which 280 have another version since a flush of everything. The other one lives for 10 seconds.
 fn fill_book<B: Book>(book: &mut B, alloc: Global) -> anyhow::Result<()> {
-    for number in 0..SHORT {
-        admits(
-            book,
-            alloc,
-            0,
-            &letters(number),
-            Rank::AuthoritativeAnswer,
-            1_000,
-        )?;
-    }
-    admits(book, alloc, 0, b"x.test", Rank::AuthoritativeAnswer, 10)?;
-    for number in SHORT..280 {
+    for number in 0..280u16 {
+        if number == SHORT {
+            admits(book, alloc, 0, b"x.test", Rank::AuthoritativeAnswer, 10)?;
+        }
         admits(
             book,
             alloc,
