@@ -7,18 +7,8 @@ use iterate::{AnswerSet, Soa};
 use ranked::{Body, Find, Scope};
 use std::alloc::Global;
 
-/// Writes `NAME TTL TYPE DATA` after a bar.
-fn push_listed(
-    alloc: Global,
-    owner: &Name,
-    ttl: u32,
-    kind: u16,
-    body: &Data,
-    out: &mut Vec<u8>,
-) -> Result<(), NoMemory> {
-    out.extend_from_slice(b" | ")?;
-    push_record(alloc, owner, ttl, kind, body, out)
-}
+/// What stands before each record.
+const BAR: &[u8] = b" | ";
 
 /// Writes the records of a find, or the record by which it denies.
 pub fn push_find(alloc: Global, find: &Find, ttl: u32, out: &mut Vec<u8>) -> Result<(), NoMemory> {
@@ -26,7 +16,8 @@ pub fn push_find(alloc: Global, find: &Find, ttl: u32, out: &mut Vec<u8>) -> Res
         Body::Set(data) => push_set(alloc, &find.owner, ttl, find.scope, data.as_slice(), out),
         Body::NoData(soa) | Body::NoName(soa) => {
             let soa = soa.get();
-            push_listed(alloc, &soa.owner, ttl, soa.kind, &soa.body, out)
+            out.extend_from_slice(BAR)?;
+            push_record(alloc, &soa.owner, ttl, soa.kind, &soa.body, out)
         }
     }
 }
@@ -43,7 +34,8 @@ fn push_set(
         return Ok(());
     };
     for datum in data {
-        push_listed(alloc, owner, ttl, kind, datum, out)?;
+        out.extend_from_slice(BAR)?;
+        push_record(alloc, owner, ttl, kind, datum, out)?;
     }
     Ok(())
 }
@@ -54,7 +46,8 @@ pub fn push_told(alloc: Global, told: &AnswerSet, out: &mut Vec<u8>) -> Result<(
         AnswerSet::Find { ttl, find } => push_find(alloc, find.find(), *ttl, out),
         AnswerSet::Local(records) => {
             for r in records.get().as_slice() {
-                push_listed(alloc, r.owner(), r.ttl().seconds(), r.kind(), r.body(), out)?;
+                out.extend_from_slice(BAR)?;
+                push_record(alloc, r.owner(), r.ttl().seconds(), r.kind(), r.body(), out)?;
             }
             Ok(())
         }
@@ -76,6 +69,9 @@ pub fn push_told(alloc: Global, told: &AnswerSet, out: &mut Vec<u8>) -> Result<(
 pub fn push_soa(alloc: Global, soa: &Soa, out: &mut Vec<u8>) -> Result<(), NoMemory> {
     match soa {
         Soa::Find { ttl, find } => push_find(alloc, find.find(), *ttl, out),
-        Soa::Local(r) => push_listed(alloc, r.owner(), r.ttl().seconds(), r.kind(), r.body(), out),
+        Soa::Local(r) => {
+            out.extend_from_slice(BAR)?;
+            push_record(alloc, r.owner(), r.ttl().seconds(), r.kind(), r.body(), out)
+        }
     }
 }
