@@ -32,8 +32,8 @@ pub trait Changing: Drop {
         ensures { IfOk result (λ saved. takes_back saved self.new) };
 
     /// Takes the last change back.
-    fn take_back(&mut self, saved: Self::Saved) -> Result<(), NoMemory>
-        requires { takes_back saved self.old };
+    fn take_back(&mut self, saved: &mut Self::Saved) -> Result<(), NoMemory>
+        requires { takes_back saved.old self.old };
 
     /// Writes what the table has.
     fn push_rows(&self, alloc: Global, out: &mut Vec<u8>) -> Result<(), NoMemory>;
@@ -62,18 +62,13 @@ fn push_fault<F: Display + Drop>(
 fn show_and_take_back<T: Changing>(
     alloc: Global,
     table: &mut T,
-    saved: T::Saved,
+    saved: &mut T::Saved,
     out: &mut Vec<u8>,
 ) -> Result<(), NoMemory>
-    requires { T.takes_back saved table.old }
+    requires { T.takes_back saved.old table.old }
 {
-    match table.push_rows(alloc, out) {
-        Ok(()) => table.take_back(saved),
-        Err(fault) => {
-            drop(saved);
-            Err(fault)
-        }
-    }
+    table.push_rows(alloc, out)?;
+    table.take_back(saved)
 }
 
 /// Makes the change that a text asks for. It is taken back at once unless it is `kept`.
@@ -88,13 +83,15 @@ fn obey_change<T: Changing>(
         return out.extend_from_slice(b"what?\n");
     };
     match table.make(new) {
-        Ok(saved) => {
-            if kept {
-                // A call drops it: the prover follows any other drop variant by variant.
-                drop(saved);
-                return Ok(());
-            }
-            show_and_take_back(alloc, table, saved, out)
+        Ok(mut saved) => {
+            let done = if kept {
+                Ok(())
+            } else {
+                show_and_take_back(alloc, table, &mut saved, out)
+            };
+            // A call drops it: the prover follows any other drop variant by variant.
+            drop(saved);
+            done
         }
         Err(fault) => push_fault(alloc, fault, out),
     }

@@ -46,11 +46,8 @@ impl Changing for StubTable {
         }
     }
 
-    fn take_back(&mut self, saved: SavedStubs) -> Result<(), NoMemory> {
-        let mut saved = saved;
-        let done = self.back(&mut saved);
-        drop(saved);
-        done
+    fn take_back(&mut self, saved: &mut SavedStubs) -> Result<(), NoMemory> {
+        self.back(saved)
     }
 
     fn push_rows(&self, _: Global, out: &mut Vec<u8>) -> Result<(), NoMemory> {

@@ -48,11 +48,8 @@ impl Changing for ZoneTable {
         }
     }
 
-    fn take_back(&mut self, saved: SavedTables) -> Result<(), NoMemory> {
-        let mut saved = saved;
-        let done = self.back(&mut saved);
-        drop(saved);
-        done
+    fn take_back(&mut self, saved: &mut SavedTables) -> Result<(), NoMemory> {
+        self.back(saved)
     }
 
     fn push_rows(&self, alloc: Global, out: &mut Vec<u8>) -> Result<(), NoMemory> {
