@@ -38,14 +38,8 @@ pub trait Changing: Drop {
     /// Writes what the table has.
     fn push_rows(&self, alloc: Global, out: &mut Vec<u8>) -> Result<(), NoMemory>;
 
-    /// Obeys a line of this table alone, by its first word.
-    fn obey_own(
-        &mut self,
-        alloc: Global,
-        word: &[u8],
-        rest: &[u8],
-        out: &mut Vec<u8>,
-    ) -> Result<(), NoMemory>;
+    /// Obeys a line that only this table knows.
+    fn obey_own(&mut self, alloc: Global, line: &[u8], out: &mut Vec<u8>) -> Result<(), NoMemory>;
 }
 
 /// Writes why a change is not made.
@@ -112,7 +106,7 @@ fn obey_line<T: Changing>(
         b"do" => obey_change(alloc, table, true, rest, out),
         b"undo" => obey_change(alloc, table, false, rest, out),
         b"list" => table.push_rows(alloc, out),
-        _ => table.obey_own(alloc, word, rest, out),
+        _ => table.obey_own(alloc, line, out),
     }
 }
 

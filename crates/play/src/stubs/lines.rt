@@ -5,6 +5,7 @@ use crate::questions::name_in;
 use crate::stubs::change::{Change, change_in, fill, made};
 use crate::stubs::shown::{push_list, push_stub};
 use dns_name::{Name, NoMemory};
+use dns_text::next_word;
 use std::alloc::Global;
 use std::mem;
 use stub_table::{SavedStubs, StubFault, StubTable};
@@ -54,13 +55,10 @@ impl Changing for StubTable {
         push_list(self, out)
     }
 
-    fn obey_own(
-        &mut self,
-        alloc: Global,
-        word: &[u8],
-        rest: &[u8],
-        out: &mut Vec<u8>,
-    ) -> Result<(), NoMemory> {
+    fn obey_own(&mut self, alloc: Global, line: &[u8], out: &mut Vec<u8>) -> Result<(), NoMemory> {
+        let Some((word, rest)) = next_word(line) else {
+            return Ok(());
+        };
         match word {
             b"new" => {
                 drop(mem::replace(self, StubTable::new(alloc)));

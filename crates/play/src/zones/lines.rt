@@ -6,6 +6,7 @@ use crate::zones::change::{Change, change_in, made};
 use crate::zones::full::fill_zones;
 use crate::zones::shown::{push_answer, push_lists};
 use dns_name::NoMemory;
+use dns_text::next_word;
 use local_zone::{SavedTables, TableFault, ZoneTable};
 use std::alloc::Global;
 use std::mem;
@@ -56,13 +57,10 @@ impl Changing for ZoneTable {
         push_lists(alloc, self, out)
     }
 
-    fn obey_own(
-        &mut self,
-        alloc: Global,
-        word: &[u8],
-        rest: &[u8],
-        out: &mut Vec<u8>,
-    ) -> Result<(), NoMemory> {
+    fn obey_own(&mut self, alloc: Global, line: &[u8], out: &mut Vec<u8>) -> Result<(), NoMemory> {
+        let Some((word, rest)) = next_word(line) else {
+            return Ok(());
+        };
         match word {
             b"new" => {
                 drop(mem::replace(self, ZoneTable::new(alloc)));
