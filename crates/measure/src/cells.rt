@@ -70,7 +70,7 @@ fn flush_of(word: &str) -> anyhow::Result<Moved> {
 }
 
 /// Makes a call: a number of names, alone or behind the word for a flush.
-fn call(alloc: Global, call: &str, count: u32) -> anyhow::Result<u32> {
+fn run(alloc: Global, call: &str, count: u32) -> anyhow::Result<u32> {
     match call.split_once("-") {
         Some((word, names)) => {
             let names = names.parse()?;
@@ -93,11 +93,5 @@ const CALLS: [&str; 5] = [
 /// Makes lookups in a cache of so many names as the first word says, and prints a sum over what they show. With the word for a flush before
 /// the number, undoes and redoes that flush, and prints a sum over the tickets.
 pub fn measure_cells<R: Print>(rt: &R, alloc: Global, words: &[String]) -> anyhow::Result<()> {
-    run_calls(
-        rt,
-        words,
-        &CALLS,
-        64,
-        |words, count| call(alloc, words, count),
-    )
+    run_calls(rt, words, &CALLS, 64, |call, count| run(alloc, call, count))
 }

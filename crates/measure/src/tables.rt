@@ -134,7 +134,7 @@ fn moves(alloc: Global, kind: &str, words: &str, count: u32) -> anyhow::Result<u
 }
 
 /// Makes a call: a number of records, alone or behind a kind of command and its place.
-fn call(alloc: Global, call: &str, count: u32) -> anyhow::Result<u32> {
+fn run(alloc: Global, call: &str, count: u32) -> anyhow::Result<u32> {
     match call.split_once("-") {
         Some((kind, words)) => moves(alloc, kind, words, count),
         None => answer(alloc, call, count),
@@ -161,11 +161,5 @@ const CALLS: [&str; 13] = [
 /// Asks for names of so many local records as the first word says, and prints a sum over the answers. With a kind of command and its place
 /// before the number, undoes and redoes that command, and prints a sum over the tickets.
 pub fn measure_tables<R: Print>(rt: &R, alloc: Global, words: &[String]) -> anyhow::Result<()> {
-    run_calls(
-        rt,
-        words,
-        &CALLS,
-        64,
-        |words, count| call(alloc, words, count),
-    )
+    run_calls(rt, words, &CALLS, 64, |call, count| run(alloc, call, count))
 }
