@@ -1,12 +1,12 @@
 -- Names as text: only what stands for a name is read as it.
 use Rattle.std.proofs.Common.{◌≡◌, ◌≢◌, ◌⊎◌, ℕ, zero, suc, ◌+◌, ◌-◌, ◌<◌, ◌≤◌, List, [], ◌∷◌, ◌++◌, length, map, take, drop, get_or, Option, Some, None, Result, Ok, Err, refl, sym, ap, subst, ◌∙◌, append_assoc, arith, length-append, inl, inr}
-use Rattle.std.proofs.lemmas.Bool.{eqb-true, ltb-true, cases_Bool}
+use Rattle.std.proofs.lemmas.Bool.{eqb-true, cases_Bool}
 use Rattle.std.proofs.lemmas.List.{append-nil, length-map, take-append-drop}
 use Rattle.std.proofs.lemmas.Bool.Decides.{nat_tests}
 use Rattle.std.proofs.lemmas.Slice.Eq.{bytes_eq-Decides}
 use Rattle.std.specs.Prelude.{◌==◌, nat_lt, IfOk, IfErr}
 use Rattle.std.specs.Str.{bytes_eq}
-use Rattle.std.specs.Char.{to_ascii_lowercase, is_ascii_digit, is_ascii_graphic, IsAsciiDigit}
+use Rattle.std.specs.Char.{to_ascii_lowercase, is_ascii_graphic}
 use Rattle.std.specs.List.{concat, join_with_byte}
 use Rattle.dns_name.specs.declared.text.Atom.{Atom}
 use Rattle.dns_name.specs.declared.text.Atom.TheVariants.{Dot, Octet}
@@ -19,10 +19,10 @@ use Rattle.dns_name.specs.Octets.{lower_label}
 use Rattle.dns_name.proofs.OctetLaws.{no_labels, stands_push}
 use Rattle.dns_name.specs.Results.{or_fault}
 use Rattle.dns_name.specs.ResultLaws.{bound_ok, or_fault-ok}
-use Rattle.dns_name.specs.Reading.{ReadsWhatStands, decimal_in, escape_in, octet_of, atom_at, after_atom, labels_at_end, read, name_in}
-use Rattle.dns_name.specs.Text.{decimal, IsOctetText, itself, quoted, numbered, EachPair, IsLabelText, IsNameText, HasRoom}
+use Rattle.dns_name.specs.Reading.{ReadsWhatStands, escape_in, octet_of, atom_at, after_atom, labels_at_end, read, name_in}
+use Rattle.dns_name.specs.Text.{IsOctetText, itself, quoted, numbered, EachPair, IsLabelText, IsNameText, HasRoom}
 use Rattle.dns_name.proofs.MakingLaws.{memory_alone}
-use Rattle.dns_name.specs.TextLaws.{graphic_from, digit_from, digit_apart, IsLastDot, what_stands_is_read}
+use Rattle.dns_name.specs.TextLaws.{graphic_from, escape_found, IsLastDot, what_stands_is_read}
 
 -- what an atom is written as
 abbrev pub IsAtomText : List ℕ → Atom → Type 0
@@ -34,31 +34,10 @@ abbrev pub IsFound : List ℕ → Option (Atom × ℕ) → Type 0
 IsFound text None = Unit {0}
 IsFound text (Some found) = IsAtomText (take found.1 text) found.0 × (0 < found.1)
 
-found_number : (x : ℕ) (text : List ℕ) → IsAsciiDigit x → IsFound (92 ∷ x ∷ text) (octet_of (decimal_in x text))
-found_number x [] dx = tt
-found_number x (y ∷ []) dx = tt
-found_number x (y ∷ z ∷ text) dx =
-    elim (cases_Bool (is_ascii_digit y)) [
-      | inr other ↦ rw other tt
-      | inl dy ↦ elim (cases_Bool (is_ascii_digit z)) [
-        | inr other ↦ rw (dy, other) tt
-        | inl dz ↦ elim (cases_Bool (nat_lt (decimal x y z) 256)) [
-          | inr other ↦ rw (dy, dz, other) tt
-          | inl small ↦ rw (dy, dz, small) (numbered x y z dx (digit_from y dy) (digit_from z dz) refl (ltb-true _ _ small) refl, omega arith)
-        ]
-      ]
-    ]
-
 found_escape : (text : List ℕ) → IsFound (92 ∷ text) (octet_of (escape_in text))
-found_escape [] = tt
-found_escape (x ∷ text) =
-    elim (cases_Bool (is_ascii_digit x)) [
-      | inl digit ↦ rw digit (found_number x text (digit_from x digit))
-      | inr other ↦ elim (cases_Bool (is_ascii_graphic x)) [
-        | inl graphic ↦ rw (other, graphic) (quoted (graphic_from x graphic) (digit_apart x other) refl, omega arith)
-        | inr bad ↦ rw (other, bad) tt
-      ]
-    ]
+found_escape text =
+    escape_found (λ front found. IsFound (92 ∷ front) (octet_of found)) (λ front. tt) (λ x rest graphic digit. (quoted graphic digit refl, omega arith))
+    (λ x y z rest dx dy dz small. (numbered x y z dx dy dz refl small refl, omega arith)) text
 
 pub found_atom : (text : List ℕ) → IsFound text (atom_at text)
 found_atom [] = tt

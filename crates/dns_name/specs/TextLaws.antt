@@ -1,11 +1,11 @@
 -- Names as text: a text that stands for a name is read as that name, and the text that is written stands for it. Lemmas, which proofs here and in
 -- the crates above cite; no contract needs them.
-use Rattle.std.proofs.Common.{◌≡◌, ◌≢◌, ◌⊎◌, ℕ, zero, suc, ◌+◌, ◌-◌, ◌/◌, ◌%◌, ◌<◌, ◌≤◌, Bool, true, false, cond, eqb, List, [], ◌∷◌, ◌++◌, length, map, drop, Some, None, Ok, Err, refl, sym, ap, subst, ◌∙◌, append_assoc, arith, length-append, inl, inr}
-use Rattle.std.proofs.lemmas.Bool.{eqb-true, ne_eqb, le-ltb, lt-ltb, cases_Bool, agree_below, agree_below_at, and_parts, not-true, false_from_ne_true}
+use Rattle.std.proofs.Common.{◌≡◌, ◌≢◌, ◌⊎◌, ℕ, zero, suc, ◌+◌, ◌-◌, ◌/◌, ◌%◌, ◌<◌, ◌≤◌, Bool, true, false, cond, eqb, List, [], ◌∷◌, ◌++◌, length, map, drop, Option, Some, None, Ok, Err, refl, sym, ap, subst, ◌∙◌, append_assoc, arith, length-append, inl, inr}
+use Rattle.std.proofs.lemmas.Bool.{eqb-true, ne_eqb, le-ltb, lt-ltb, ltb-true, cases_Bool, agree_below, agree_below_at, and_parts, not-true, false_from_ne_true}
 use Rattle.std.proofs.lemmas.List.{append-nil, drop_at, length-map}
 use Rattle.std.proofs.lemmas.Bool.Decides.{nat_tests}
 use Rattle.std.proofs.lemmas.Slice.Eq.{bytes_eq-Decides}
-use Rattle.std.specs.Prelude.{◌&&◌, not, ◌==◌}
+use Rattle.std.specs.Prelude.{◌&&◌, not, ◌==◌, nat_lt}
 use Rattle.std.specs.Str.{bytes_eq}
 use Rattle.std.specs.Char.{to_ascii_lowercase, is_ascii_digit, is_ascii_graphic, IsAsciiDigit, IsAsciiGraphic}
 use Rattle.std.specs.List.{AllByRecursion, flat_map, concat, join_with_byte}
@@ -16,7 +16,7 @@ use Rattle.dns_name.specs.declared.fault.NameFault.TheVariants.{BadEscape}
 use Rattle.dns_name.specs.declared.limits.TheConstants.{MAX_LABEL_OCTETS, MAX_NAME_OCTETS}
 use Rattle.dns_name.specs.Labels.{Labels, IsLabel, IsLowerOctet, IsName, spelled, wire_len, wire_len_with, with_length}
 use Rattle.dns_name.specs.Octets.{spelled-append, length-spelled_push, lower_itself}
-use Rattle.dns_name.specs.Reading.{atom_at, after_atom, labels_at_end, read, name_in}
+use Rattle.dns_name.specs.Reading.{decimal_in, escape_in, atom_at, after_atom, labels_at_end, read, name_in}
 use Rattle.dns_name.specs.Text.{decimal, IsOctetText, itself, quoted, numbered, EachPair, IsLabelText, IsNameText, is_special, octet_text, label_text, text_of}
 
 -- ---- one atom after another
@@ -56,10 +56,12 @@ read_end before part (c ∷ text) e = absurd (omega arith)
 
 -- ---- what stands for a name is read as it
 
-graphic_true : (b : ℕ) → IsAsciiGraphic b → is_ascii_graphic b ≡ true
+-- a printable octet passes the test
+pub graphic_true : (b : ℕ) → IsAsciiGraphic b → is_ascii_graphic b ≡ true
 graphic_true b h = grind (arith, nat_tests)
 
-digit_true : (b : ℕ) → IsAsciiDigit b → is_ascii_digit b ≡ true
+-- a digit passes the test
+pub digit_true : (b : ℕ) → IsAsciiDigit b → is_ascii_digit b ≡ true
 digit_true b h = grind (arith, nat_tests)
 
 -- an octet that passes the test is printable
@@ -73,6 +75,35 @@ digit_from b h = grind (arith, nat_tests)
 -- an octet that fails the test is no digit
 pub digit_apart : (b : ℕ) → is_ascii_digit b ≡ false → ¬ IsAsciiDigit b
 digit_apart b e h = let e' : is_ascii_digit b ≡ true = digit_true b h in cc
+
+-- After a backslash there is nothing, a printable octet that is no digit, or three digits with their number. What holds in each case holds of what is found.
+module _ (P : List ℕ → Option (ℕ × ℕ) → Type 0) (nothing : (text : List ℕ) → P text None) (printable : (x : ℕ) (text : List ℕ) → IsAsciiGraphic x → ¬ IsAsciiDigit x → P (x ∷ text) (Some (x, 2)))
+    (digits : (x y z : ℕ) (text : List ℕ) → IsAsciiDigit x → IsAsciiDigit y → IsAsciiDigit z → decimal x y z < 256 → P (x ∷ y ∷ z ∷ text) (Some (decimal x y z, 4))) where
+  number_found : (x : ℕ) (text : List ℕ) → IsAsciiDigit x → P (x ∷ text) (decimal_in x text)
+  number_found x [] dx = nothing (x ∷ [])
+  number_found x (y ∷ []) dx = nothing (x ∷ y ∷ [])
+  number_found x (y ∷ z ∷ text) dx =
+      elim (cases_Bool (is_ascii_digit y)) [
+        | inr other ↦ rw other (nothing (x ∷ y ∷ z ∷ text))
+        | inl dy ↦ elim (cases_Bool (is_ascii_digit z)) [
+          | inr other ↦ rw (dy, other) (nothing (x ∷ y ∷ z ∷ text))
+          | inl dz ↦ elim (cases_Bool (nat_lt (decimal x y z) 256)) [
+            | inr other ↦ rw (dy, dz, other) (nothing (x ∷ y ∷ z ∷ text))
+            | inl small ↦ rw (dy, dz, small) (digits x y z text dx (digit_from y dy) (digit_from z dz) (ltb-true _ _ small))
+          ]
+        ]
+      ]
+
+  pub escape_found : (text : List ℕ) → P text (escape_in text)
+  escape_found [] = nothing []
+  escape_found (x ∷ text) =
+      elim (cases_Bool (is_ascii_digit x)) [
+        | inl digit ↦ rw digit (number_found x text (digit_from x digit))
+        | inr other ↦ elim (cases_Bool (is_ascii_graphic x)) [
+          | inl graphic ↦ rw (other, graphic) (printable x text (graphic_from x graphic) (digit_apart x other))
+          | inr bad ↦ rw (other, bad) (nothing (x ∷ text))
+        ]
+      ]
 
 -- the text of an octet is read as that octet, whatever follows
 pub atom_of_piece : (piece : List ℕ) (b : ℕ) (rest : List ℕ) → IsOctetText piece b → atom_at (piece ++ rest) ≡ Some (Octet b, length piece)

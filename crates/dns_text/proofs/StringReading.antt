@@ -1,13 +1,14 @@
 -- Strings are read from a text exactly where the text stands for them.
-use Rattle.std.proofs.Common.{◌≡◌, ◌⊎◌, ℕ, zero, suc, ◌+◌, ◌-◌, ◌<◌, ◌≤◌, true, false, List, [], ◌∷◌, ◌++◌, length, take, drop, Option, Some, None, refl, sym, ap, subst, ◌∙◌, inl, inr, arith, append_assoc, length-append, length-drop, ltb-true, lt-ltb, le-ltb, eqb-true, ne_eqb}
-use Rattle.std.specs.Prelude.{◌==◌, nat_lt, option_map}
-use Rattle.std.specs.Char.{is_ascii_digit, is_ascii_graphic, IsAsciiDigit, IsAsciiGraphic}
+use Rattle.std.proofs.Common.{◌≡◌, ◌⊎◌, ℕ, zero, suc, ◌+◌, ◌-◌, ◌<◌, ◌≤◌, List, [], ◌∷◌, ◌++◌, length, take, drop, Option, Some, None, refl, sym, ap, subst, ◌∙◌, inl, inr, arith, append_assoc, length-append, length-drop, lt-ltb, le-ltb, eqb-true, ne_eqb}
+use Rattle.std.specs.Prelude.{◌==◌, option_map}
+use Rattle.std.specs.Char.{is_ascii_digit}
 use Rattle.std.specs.List.{concat}
 use Rattle.std.proofs.lemmas.Bool.{cases_Bool, cases_lt, false_from_ne_true}
 use Rattle.std.proofs.lemmas.Bool.Decides.{nat_tests}
 use Rattle.std.proofs.lemmas.List.{append-nil, drop_at, take-append-drop}
-use Rattle.dns_name.specs.Reading.{decimal_in, escape_in}
+use Rattle.dns_name.specs.Reading.{escape_in}
 use Rattle.dns_name.specs.Text.{decimal, EachPair}
+use Rattle.dns_name.specs.TextLaws.{digit_from, digit_true, escape_found, graphic_true}
 use Rattle.dns_text.specs.Word.{next_word, AreWords}
 use Rattle.dns_text.specs.String.{IsStringOctet, itself, escaped, numbered, IsStringText, IsStringsText, ReadsStrings, octet_at, with_octet, octets_after, before_last_quote, inside_quotes, string_in, then_string, strings_after, some_strings, strings_in}
 use Rattle.dns_text.proofs.OptionLaws.{stepped, some_list}
@@ -16,51 +17,15 @@ use Rattle.dns_text.proofs.StringLaws.{octets-skip, octets_step, last_quote}
 
 -- ---- one octet
 
-graphic_true : (b : ℕ) → IsAsciiGraphic b → is_ascii_graphic b ≡ true
-graphic_true b h = grind (arith, nat_tests)
-
-digit_true : (b : ℕ) → IsAsciiDigit b → is_ascii_digit b ≡ true
-digit_true b h = grind (arith, nat_tests)
-
-graphic_from : (b : ℕ) → is_ascii_graphic b ≡ true → IsAsciiGraphic b
-graphic_from b h = grind (arith, nat_tests)
-
-digit_from : (b : ℕ) → is_ascii_digit b ≡ true → IsAsciiDigit b
-digit_from b h = grind (arith, nat_tests)
-
-digit_apart : (b : ℕ) → is_ascii_digit b ≡ false → ¬ IsAsciiDigit b
-digit_apart b e h = let e' : is_ascii_digit b ≡ true = digit_true b h in cc
-
 -- what is found at the front of a text is written there
 abbrev IsFound : List ℕ → Option (ℕ × ℕ) → Type 0
 IsFound text None = Unit {0}
 IsFound text (Some found) = IsStringOctet (take found.1 text) found.0 × (0 < found.1)
 
-found_number : (x : ℕ) (text : List ℕ) → IsAsciiDigit x → IsFound (92 ∷ x ∷ text) (decimal_in x text)
-found_number x [] dx = tt
-found_number x (y ∷ []) dx = tt
-found_number x (y ∷ z ∷ text) dx =
-    elim (cases_Bool (is_ascii_digit y)) [
-      | inr other ↦ rw other tt
-      | inl dy ↦ elim (cases_Bool (is_ascii_digit z)) [
-        | inr other ↦ rw (dy, other) tt
-        | inl dz ↦ elim (cases_Bool (nat_lt (decimal x y z) 256)) [
-          | inr other ↦ rw (dy, dz, other) tt
-          | inl small ↦ rw (dy, dz, small) (numbered x y z dx (digit_from y dy) (digit_from z dz) refl (ltb-true _ _ small) refl, omega arith)
-        ]
-      ]
-    ]
-
 found_escape : (text : List ℕ) → IsFound (92 ∷ text) (escape_in text)
-found_escape [] = tt
-found_escape (x ∷ text) =
-    elim (cases_Bool (is_ascii_digit x)) [
-      | inl digit ↦ rw digit (found_number x text (digit_from x digit))
-      | inr other ↦ elim (cases_Bool (is_ascii_graphic x)) [
-        | inl graphic ↦ rw (other, graphic) (escaped (graphic_from x graphic) (digit_apart x other) refl, omega arith)
-        | inr bad ↦ rw (other, bad) tt
-      ]
-    ]
+found_escape text =
+    escape_found (λ front found. IsFound (92 ∷ front) found) (λ front. tt) (λ x rest graphic digit. (escaped graphic digit refl, omega arith))
+    (λ x y z rest dx dy dz small. (numbered x y z dx dy dz refl small refl, omega arith)) text
 
 found_octet : (text : List ℕ) → IsFound text (octet_at text)
 found_octet [] = tt
