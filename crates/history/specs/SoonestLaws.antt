@@ -8,7 +8,7 @@ use Rattle.std.specs.declared.cmp.Ordering.TheVariants.{Less, Equal, Greater}
 use Rattle.std.proofs.lemmas.Bool.{cases_Bool, eqb-true}
 use Rattle.std.proofs.lemmas.Bool.Decides.{nat_tests}
 use Rattle.dns_name.specs.Labels.{Labels}
-use Rattle.dns_name.specs.Order.{IsNotAfter, name_cmp, name_cmp_exact, name_eq, name_eq_exact, name_total}
+use Rattle.dns_name.specs.Order.{IsNotAfter, name_cmp, name_cmp_exact, name_eq, name_eq_exact, name_total, not_after_back, not_after_itself, not_after_then}
 use Rattle.ranked.specs.declared.cell.Admitted.{Admitted}
 use Rattle.ranked.specs.declared.find.Find.{Find}
 use Rattle.ranked.specs.Cell.{end_of, is_alive}
@@ -27,26 +27,6 @@ equal_by Greater y is low high = absurd cc
 
 not_after_both : (a b : Labels) → IsNotAfter a b → IsNotAfter b a → a ≡ b
 not_after_both a b low high = name_cmp_exact a b (equal_by (name_cmp a b) (name_cmp b a) (name_total.antisymm a b) low high)
-
-back_by : (x y : Ordering) → x ≡ ordering_reverse y → is_le x ≡ false → IsTrue (is_le y)
-back_by Less y is past = absurd cc
-back_by Equal y is past = absurd cc
-back_by Greater Less is past = refl
-back_by Greater Equal is past = refl
-back_by Greater Greater is past = absurd cc
-
-not_after_back : (a b : Labels) → is_le (name_cmp a b) ≡ false → IsNotAfter b a
-not_after_back a b past = back_by (name_cmp a b) (name_cmp b a) (name_total.antisymm a b) past
-
-le_then : (a b c : Labels) (x y : Ordering) → name_cmp a b ≡ x → name_cmp b c ≡ y → IsTrue (is_le x) → IsTrue (is_le y) → IsNotAfter a c
-le_then a b c Less Less p q low high = subst (λ o. IsTrue (is_le o)) (sym (name_total.trans a b c p q)) refl
-le_then a b c Less Equal p q low high = subst (λ (n : Labels). IsTrue (is_le (name_cmp a n))) (name_cmp_exact b c q) (subst (λ o. IsTrue (is_le o)) (sym p) low)
-le_then a b c Less Greater p q low high = absurd cc
-le_then a b c Equal y p q low high = subst (λ (n : Labels). IsTrue (is_le (name_cmp n c))) (sym (name_cmp_exact a b p)) (subst (λ o. IsTrue (is_le o)) (sym q) high)
-le_then a b c Greater y p q low high = absurd cc
-
-not_after_then : (a b c : Labels) → IsNotAfter a b → IsNotAfter b c → IsNotAfter a c
-not_after_then a b c low high = le_then a b c (name_cmp a b) (name_cmp b c) refl refl low high
 
 -- ---- one name alone is the oldest
 
@@ -97,16 +77,7 @@ module _ (ends : List (Labels × ℕ)) where
   Sooner n m = IsSooner (last n) n (last m) m
 
   sooner_itself : (n : Labels) → Sooner n n
-  sooner_itself n = inr (refl, itself_by (name_cmp n n) (name_cmp n n) (name_total.antisymm n n) refl)
-    where
-      itself_by : (x y : Ordering) → x ≡ ordering_reverse y → x ≡ y → IsTrue (is_le x)
-      itself_by Less Less is also = refl
-      itself_by Less Equal is also = refl
-      itself_by Less Greater is also = refl
-      itself_by Equal y is also = refl
-      itself_by Greater Less is also = absurd cc
-      itself_by Greater Equal is also = absurd cc
-      itself_by Greater Greater is also = absurd cc
+  sooner_itself n = inr (refl, not_after_itself n)
 
   sooner_then : (a b c : Labels) → Sooner a b → Sooner b c → Sooner a c
   sooner_then a b c (inl p) (inl q) = inl (omega arith)

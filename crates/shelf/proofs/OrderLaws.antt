@@ -1,39 +1,13 @@
 -- The order of names by the ends of their last finds, and the places at or below a node.
-use Rattle.std.proofs.Common.{◌≡◌, ℕ, zero, suc, ◌+◌, ◌*◌, ◌/◌, ◌<◌, ◌≤◌, false, [], ◌∷◌, reverse, refl, sym, ap, ◌∙◌, subst, arith, ◌⊎◌, inl, inr}
+use Rattle.std.proofs.Common.{◌≡◌, ℕ, zero, suc, ◌+◌, ◌*◌, ◌/◌, ◌<◌, ◌≤◌, [], ◌∷◌, reverse, refl, sym, ap, ◌∙◌, subst, arith, ◌⊎◌, inl, inr}
 use Rattle.std.specs.Prelude.{IsTrue}
-use Rattle.std.specs.Ordering.{is_le, ordering_reverse}
-use Rattle.std.specs.declared.cmp.Ordering.{Ordering}
-use Rattle.std.specs.declared.cmp.Ordering.TheVariants.{Less, Equal, Greater}
-use Rattle.std.proofs.lemmas.Cmp.{tied_itself}
+use Rattle.std.specs.Ordering.{is_le}
 use Rattle.dns_name.specs.Labels.{Labels}
-use Rattle.dns_name.specs.Order.{labels_cmp, name_cmp, name_cmp_exact, name_total, IsNotAfter}
+use Rattle.dns_name.specs.Order.{labels_cmp, not_after_itself, not_after_then, IsNotAfter}
 use Rattle.winner_tree.specs.Tree.{up, IsBelow}
 use Rattle.shelf.specs.First.{IsSooner}
 
 -- ---- names
-
-then_by : (a b c : Labels) (x y : Ordering) → name_cmp a b ≡ x → name_cmp b c ≡ y → IsTrue (is_le x) → IsTrue (is_le y) → IsTrue (is_le (name_cmp a c))
-then_by a b c Less Less p q low high = subst (λ o. IsTrue (is_le o)) (sym (name_total.trans a b c p q)) refl
-then_by a b c Less Equal p q low high = subst (λ (n : Labels). IsTrue (is_le (name_cmp a n))) (name_cmp_exact b c q) (subst (λ o. IsTrue (is_le o)) (sym p) low)
-then_by a b c Less Greater p q low high = absurd cc
-then_by a b c Equal y p q low high = subst (λ (n : Labels). IsTrue (is_le (name_cmp n c))) (sym (name_cmp_exact a b p)) (subst (λ o. IsTrue (is_le o)) (sym q) high)
-then_by a b c Greater y p q low high = absurd cc
-
-not_after_then : (a b c : Labels) → IsNotAfter a b → IsNotAfter b c → IsNotAfter a c
-not_after_then a b c low high = then_by a b c (name_cmp a b) (name_cmp b c) refl refl low high
-
-not_after_itself : (a : Labels) → IsNotAfter a a
-not_after_itself a = subst (λ o. IsTrue (is_le o)) (sym (tied_itself name_total a)) refl
-
-back_by : (x y : Ordering) → x ≡ ordering_reverse y → (is_le x ≡ false) → IsTrue (is_le y)
-back_by Less y is past = absurd cc
-back_by Equal y is past = absurd cc
-back_by Greater Less is past = refl
-back_by Greater Equal is past = refl
-back_by Greater Greater is past = absurd cc
-
-pub not_after_back : (a b : Labels) → is_le (name_cmp a b) ≡ false → IsNotAfter b a
-not_after_back a b past = back_by (name_cmp a b) (name_cmp b a) (name_total.antisymm a b) past
 
 none_first : (l : Labels) → IsTrue (is_le (labels_cmp [] l))
 none_first [] = refl

@@ -1,6 +1,6 @@
 use Rattle.std.proofs.Common.{sym, ap, ◌∙◌}
 use Rattle.std.specs.Ordering.{is_le}
-use Rattle.shelf.proofs.OrderLaws.{not_after_back}
+use Rattle.dns_name.specs.Order.{not_after_back}
 use Rattle.shelf.proofs.lasts.is_not_after.Goals as goal
 
 pub returns-clause-no : goal.returns-clause-no
