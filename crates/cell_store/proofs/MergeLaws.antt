@@ -8,9 +8,7 @@ use Rattle.std.proofs.lemmas.Bool.{eqb-true, and_parts, false≢true, cases_eq}
 use Rattle.std.proofs.lemmas.List.{get_or_default}
 use Rattle.std.proofs.lemmas.List.Edits.{get_or-remove_below}
 use Rattle.ranked.specs.declared.cell.Admitted.{Admitted}
-use Rattle.ranked.specs.declared.rank.Rank.{Rank}
-use Rattle.ranked.specs.declared.rank.Rank.TheVariants.{Additional, Answer, Authority, AuthoritativeAnswer}
-use Rattle.ranked.specs.Rank.{level_of, rank_at}
+use Rattle.ranked.specs.EqualLaws.{level_exact}
 use Rattle.cell_store.specs.declared.version.Place.{Place}
 use Rattle.cell_store.specs.declared.version.Version.{Version}
 use Rattle.cell_store.specs.Version.{nothing, later_place, place_at, IsFromStart}
@@ -20,15 +18,6 @@ use Rattle.cell_store.specs.Few.{AreRanked}
 use Rattle.cell_store.specs.Merge.{same_held, holds_same, started, AreApart}
 use Rattle.cell_store.specs.TestLaws.{le_of, gt_of, lt_of, ge_of, yes_le, no_le, or_right}
 
-rank_back : (rank : Rank) → rank_at (level_of rank) ≡ Some rank
-rank_back Additional = refl
-rank_back Answer = refl
-rank_back Authority = refl
-rank_back AuthoritativeAnswer = refl
-
-same_rank : (a b : Rank) → level_of a ≡ level_of b → a ≡ b
-same_rank a b is = let same : Some a ≡ Some b = sym (rank_back a) ∙ (ap rank_at is ∙ rank_back b) in cc
-
 pub held_exact : (a b : Option (Admitted ℕ)) → same_held a b ≡ true → a ≡ b
 held_exact None None is = refl
 held_exact None (Some b) is = absurd (false≢true is)
@@ -37,7 +26,7 @@ held_exact (Some a) (Some b) is =
     let p = and_parts _ _ is in
     let q = and_parts _ _ p.1 in
     let r = and_parts _ _ q.1 in
-    let rank : a.rank ≡ b.rank = same_rank a.rank b.rank (eqb-true _ _ p.0) in
+    let rank : a.rank ≡ b.rank = level_exact a.rank b.rank (eqb-true _ _ p.0) in
     let ttl : a.ttl ≡ b.ttl = eqb-true _ _ q.0 in
     let since : a.since ≡ b.since = eqb-true _ _ r.0 in
     let body : a.body ≡ b.body = eqb-true _ _ r.1 in

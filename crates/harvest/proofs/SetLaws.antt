@@ -1,5 +1,5 @@
 -- The sets of records, and those with one record more.
-use Rattle.std.proofs.Common.{◌≡◌, ℕ, true, false, ◌||◌, List, [], ◌∷◌, ◌++◌, map, cond, min, refl, sym, ap, ◌∙◌, subst, inl, inr, eq-eqb, Some}
+use Rattle.std.proofs.Common.{◌≡◌, ℕ, true, false, ◌||◌, List, [], ◌∷◌, ◌++◌, map, cond, min, refl, sym, ap, ◌∙◌, subst, inl, inr, eq-eqb}
 use Rattle.std.specs.List.{list_any, fold}
 use Rattle.std.specs.Cmp.Derive.{both_true}
 use Rattle.std.proofs.lemmas.Bool.{cases_Bool, and_parts, or_parts, or_left, false≢true, eqb-true}
@@ -10,27 +10,17 @@ use Rattle.std.proofs.lemmas.List.Folds.{list_any-append}
 use Rattle.std.proofs.Math.Bool.{or_assoc, or-false}
 use Rattle.dns_name.specs.Labels.{Labels}
 use Rattle.dns_name.specs.Order.{name_eq_exact, name_eq_itself}
-use Rattle.dns_name.specs.ResultLaws.{some_same}
 use Rattle.dns_text.specs.Equal.{data_eq}
 use Rattle.dns_text.specs.declared.record.Data.{Data}
-use Rattle.ranked.specs.Rank.{level_of, rank_at}
+use Rattle.ranked.specs.EqualLaws.{level_exact}
+use Rattle.ranked.specs.Rank.{level_of}
 use Rattle.ranked.specs.Set.{each_once, with_datum, is_among}
 use Rattle.ranked.specs.declared.find.TheConstants.{LONGEST_TTL}
 use Rattle.ranked.specs.declared.rank.Rank.{Rank}
-use Rattle.ranked.specs.declared.rank.Rank.TheVariants.{Additional, Answer, Authority, AuthoritativeAnswer}
 use Rattle.harvest.specs.Counted.{Ranked}
 use Rattle.harvest.specs.Sets.{Key, Set, key_of, same_key, own, least_ttl, set_among, sets_of, joined, begun, has_set}
 
 -- ---- keys that are equal are one
-
-rank_back : (a : Rank) → rank_at (level_of a) ≡ Some a
-rank_back Additional = refl
-rank_back Answer = refl
-rank_back Authority = refl
-rank_back AuthoritativeAnswer = refl
-
-level_exact : (a b : Rank) → level_of a ≡ level_of b → a ≡ b
-level_exact a b e = some_same (sym (rank_back a) ∙ ap rank_at e ∙ rank_back b)
 
 pub same_key_exact : (a b : Key) → same_key a b ≡ true → a ≡ b
 same_key_exact a b e =

@@ -1,5 +1,5 @@
--- Equality by `==` is equality of finds, and each find is equal to itself: lemmas for the crates above.
-use Rattle.std.proofs.Common.{◌≡◌, ℕ, ◌≤◌, true, eqb, eq-eqb, refl, ap, sym, ◌∙◌, Decides}
+-- Finds that are equal by `==` are the same, and so are ranks of one level. Each find is equal to itself: lemmas for the crates above.
+use Rattle.std.proofs.Common.{◌≡◌, ℕ, ◌≤◌, true, eqb, eq-eqb, Some, refl, ap, sym, ◌∙◌, Decides}
 use Rattle.std.proofs.lemmas.Bool.{and_parts, false≢true, eqb-true}
 use Rattle.std.proofs.lemmas.Slice.Eq.{slice_eq-Decides}
 use Rattle.std.specs.Cmp.Derive.{both_true}
@@ -8,6 +8,7 @@ use mathlib.Core.HLevel.{is_prop→PathP}
 use mathlib.Core.Bool.{Bool-set}
 use native.Mathlib.Bridge.{le_prop}
 use Rattle.dns_name.specs.Order.{name_eq_exact, name_eq_itself}
+use Rattle.dns_name.specs.ResultLaws.{some_same}
 use Rattle.dns_text.specs.declared.record.Data.{Data}
 use Rattle.dns_text.specs.Equal.{data_eq}
 use Rattle.dns_text.specs.EqualLaws.{data_eq_exact, data_eq_itself, record_eq_exact, record_eq_itself}
@@ -20,6 +21,7 @@ use Rattle.ranked.specs.declared.find.Body.{Body}
 use Rattle.ranked.specs.declared.find.Body.TheVariants.{Set, NoData, NoName}
 use Rattle.ranked.specs.Body.{has_data, has_rank, longest_ttl, HasForms, HasForms-prop}
 use Rattle.ranked.specs.Equal.{rank_eq, scope_eq, body_eq, find_eq}
+use Rattle.ranked.specs.Rank.{level_of, rank_at}
 
 -- Ranks that `==` calls equal are the same.
 pub rank_eq_exact : (a b : Rank) → rank_eq a b ≡ true → a ≡ b
@@ -28,6 +30,16 @@ rank_eq_exact Answer Answer e = refl
 rank_eq_exact Authority Authority e = refl
 rank_eq_exact AuthoritativeAnswer AuthoritativeAnswer e = refl
 rank_eq_exact _ _ e = absurd (false≢true e)
+
+rank_back : (a : Rank) → rank_at (level_of a) ≡ Some a
+rank_back Additional = refl
+rank_back Answer = refl
+rank_back Authority = refl
+rank_back AuthoritativeAnswer = refl
+
+-- Ranks of the same level are the same.
+pub level_exact : (a b : Rank) → level_of a ≡ level_of b → a ≡ b
+level_exact a b e = some_same (sym (rank_back a) ∙ ap rank_at e ∙ rank_back b)
 
 scope_eq_exact : (a b : Scope) → scope_eq a b ≡ true → a ≡ b
 scope_eq_exact (One kind) (One other) e = ap One (eqb-true kind other e)
