@@ -1,19 +1,18 @@
 -- Referrals: responses that only name servers nearer to the question's name (RFC 1034, section 5.3.3, step 4b).
-use Rattle.std.specs.Prelude.{◌≡◌, ℕ, ◌==◌, ◌&&◌, ◌||◌, Bool, not, true, false, List, [], ◌∷◌, ◌++◌, length, map, filter, Option, Some, None, MatchOption, if◌then◌else◌}
+use Rattle.std.specs.Prelude.{◌≡◌, ℕ, ◌==◌, ◌&&◌, ◌||◌, Bool, not, true, false, List, [], ◌++◌, length, map, filter, Option, Some, None, MatchOption, if◌then◌else◌}
 use Rattle.std.specs.List.{filter_map, find, flat_map, list_any, list_all}
 use Rattle.std.specs.Option.{option_map}
 use Rattle.dns_name.specs.Labels.{Labels, IsAtOrBelow}
 use Rattle.dns_name.specs.Order.{name_eq}
 use Rattle.dns_text.specs.declared.addr.Addr.{Addr}
-use Rattle.dns_text.specs.declared.addr.Ip.TheVariants.{V4, V6}
 use Rattle.dns_text.specs.declared.record.Data.{Data}
-use Rattle.dns_text.specs.declared.record.Data.TheVariants.{A, Aaaa}
 use Rattle.dns_text.specs.declared.record.Question.{Question}
 use Rattle.dns_text.specs.declared.record.Record.{Record}
 use Rattle.dns_text.specs.declared.types.TheConstants as types
 use Rattle.dns_wire.specs.declared.message.Classed.{Classed}
 use Rattle.dns_wire.specs.declared.message.Message.{Message}
 use Rattle.dns_wire.specs.declared.message.TheConstants.{CLASS_IN}
+use Rattle.ranked.specs.Addrs.{addr_of}
 use Rattle.ranked.specs.Body.{data_of}
 use Rattle.ranked.specs.Find.{has_kind}
 use Rattle.ranked.specs.Set.{each_once}
@@ -71,12 +70,6 @@ target_in r = if is_of types.NS r then target_of r.item.body else None
 -- the servers that a section names, without duplicates (RFC 2181, section 5)
 abbrev pub targets_in : List (Classed Record) → List Labels
 targets_in section = each_once name_eq (filter_map target_in section)
-
--- the address in the data of an A or AAAA record, with this port; other data has none
-abbrev pub addr_of : ℕ → Data → List Addr
-addr_of port (A octets) = (record { ip = V4 octets; port = port }) ∷ []
-addr_of port (Aaaa octets) = (record { ip = V6 octets; port = port }) ∷ []
-addr_of port _ = []
 
 -- the data that a find has for a name and a type, whatever its rank
 abbrev pub data_found : Labels → ℕ → Said → List Data

@@ -1,7 +1,6 @@
 //! The servers that a response names, and their addresses.
 
 ghost use Rattle.std.specs.Prelude.{◌≡◌, ◌==◌, ◌∷◌, ◌++◌, [], filter, map, if◌then◌else◌, IfOk, OnOk};
-ghost use Rattle.std.specs.List.{flat_map};
 ghost use Rattle.std.specs.Option.{option_map};
 ghost use Rattle.dns_name.specs.Order.{name_eq};
 ghost use Rattle.ranked.specs.Body.{data_of};
@@ -10,15 +9,15 @@ ghost use Rattle.ranked.specs.Set.{with_datum};
 ghost use Rattle.neg_rule.specs.Negative.{said_by};
 ghost use Rattle.harvest.specs.Learnt.{set_of};
 ghost use Rattle.dns_query.specs.Indexed.{addrs_at, HasEach, AddsAddrs, HasAddrs, lacks_addr};
-ghost use Rattle.dns_query.specs.Referral.{addr_of, addrs_of, target_in, targets_in, addrs_found, addrs_harvested, addrs_owned, addrs_passing};
+ghost use Rattle.dns_query.specs.Referral.{addrs_of, target_in, targets_in, addrs_found, addrs_harvested, addrs_owned, addrs_passing};
 
 use crate::referred_zone::is_of;
 use dns_name::{Name, NoMemory};
 use dns_text::types::{A, AAAA, NS};
-use dns_text::{Addr, Data, Ip, Record, Shared};
+use dns_text::{Addr, Data, Record, Shared};
 use dns_wire::Classed;
 use harvest::{Harvest, PassingSet};
-use ranked::{Body, Find, Scope, SharedFind};
+use ranked::{Body, Find, Scope, SharedFind, push_addrs};
 use std::alloc::Global;
 use std::collections::{BTreeMap, BTreeSet};
 
@@ -64,29 +63,6 @@ pub(crate) fn targets_in(alloc: Global, section: &[Classed<Record>]) -> Result<V
         }
     }
     Ok(targets)
-}
-
-/// Adds the address in the data of an A or AAAA record; other data has none.
-fn push_addr(port: u16, datum: &Data, out: &mut Vec<Addr>) -> Result<(), NoMemory>
-    ensures { OnOk result (out.new.items ≡ out.old.items ++ addr_of port datum.now) }
-{
-    let ip = match datum {
-        Data::A(octets) => Ip::V4(*octets),
-        Data::Aaaa(octets) => Ip::V6(*octets),
-        _ => return Ok(()),
-    };
-    out.push(Addr { ip, port })?;
-    Ok(())
-}
-
-/// Adds the addresses in the data of a set.
-fn push_addrs(port: u16, set: &[Data], out: &mut Vec<Addr>) -> Result<(), NoMemory>
-    ensures { OnOk result (out.new.items ≡ out.old.items ++ flat_map (addr_of port) set.now) }
-{
-    for datum in set {
-        push_addr(port, datum, out)?;
-    }
-    Ok(())
 }
 
 /// The data of a find; a negative answer has none.

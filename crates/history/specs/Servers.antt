@@ -6,13 +6,13 @@ use Rattle.dns_name.specs.Labels.{Labels}
 use Rattle.dns_name.specs.Closest.{closest_with}
 use Rattle.dns_text.specs.declared.record.Question.{Question}
 use Rattle.dns_text.specs.declared.addr.Addr.{Addr}
-use Rattle.dns_text.specs.declared.addr.Ip.TheVariants.{V4, V6}
 use Rattle.dns_text.specs.declared.record.Data.{Data}
-use Rattle.dns_text.specs.declared.record.Data.TheVariants.{A, Aaaa, One}
+use Rattle.dns_text.specs.declared.record.Data.TheVariants.{One}
 use Rattle.dns_text.specs.declared.types.TheConstants as number
 use Rattle.dns_name.specs.Below.{is_at_or_below}
 use Rattle.ranked.specs.declared.find.Find.{Find}
 use Rattle.ranked.specs.declared.cell.Shown.{Shown}
+use Rattle.ranked.specs.Addrs.{addr_of}
 use Rattle.ranked.specs.Body.{data_of}
 use Rattle.stub_table.specs.declared.stub.Stub.{Stub}
 use Rattle.stub_table.specs.Stubs.{Stubs}
@@ -39,12 +39,6 @@ data_at shown kind name = data_shown (shown (record { owner = name; kind = kind 
 abbrev pub target_of : Data → List Labels
 target_of (One name) = name ∷ []
 target_of _ = []
-
--- the address that a datum of an A or AAAA set has, with this port
-abbrev pub addr_of : ℕ → Data → List Addr
-addr_of port (A octets) = (record { ip = V4 octets; port = port }) ∷ []
-addr_of port (Aaaa octets) = (record { ip = V6 octets; port = port }) ∷ []
-addr_of port _ = []
 
 -- the addresses of a server, those of IPv4 first
 abbrev pub addrs_at : Settings → (Question → Option (Shown Find)) → Labels → List Addr

@@ -5,15 +5,15 @@ ghost use Rattle.std.specs.List.{flat_map, list_any};
 ghost use Rattle.dns_name.specs.Below.{is_at_or_below};
 ghost use Rattle.ranked.specs.Body.{data_of};
 ghost use Rattle.history.specs.Cells.{shown_now};
-ghost use Rattle.history.specs.Servers.{AddsMissing, addr_of, addrs_at, data_at, data_shown, target_of};
+ghost use Rattle.history.specs.Servers.{AddsMissing, addrs_at, data_at, data_shown, target_of};
 ghost use Rattle.history.specs.Servers.{cached_servers, is_usable, servers_named};
 
 use crate::event::Settings;
 use crate::servers::{Origin, Servers};
 use crate::source::CellSource;
 use dns_name::{Name, NoMemory};
-use dns_text::{Addr, Data, Ip, Items, types};
-use ranked::{Body, Held};
+use dns_text::{Addr, Data, Items, types};
+use ranked::{Body, Held, push_addrs};
 use std::alloc::Global;
 
 /// The servers that the cache has at this very name, if they are usable.
@@ -137,29 +137,8 @@ fn push_addrs_at<C: CellSource>(
 {
     let port = settings.server_port;
     let (v4, v6) = cells.shows_both(name, types::A, types::AAAA, moment);
-    push_addrs(data_shown(v4), port, out)?;
-    push_addrs(data_shown(v6), port, out)
-}
-
-fn push_addrs(set: &[Data], port: u16, out: &mut Vec<Addr>) -> Result<(), NoMemory>
-    ensures { OnOk result (out.new.items ≡ out.old.items ++ flat_map (addr_of port) set.now) }
-{
-    for datum in set {
-        push_addr(datum, port, out)?;
-    }
-    Ok(())
-}
-
-fn push_addr(datum: &Data, port: u16, out: &mut Vec<Addr>) -> Result<(), NoMemory>
-    ensures { OnOk result (out.new.items ≡ out.old.items ++ addr_of port datum.now) }
-{
-    let ip = match datum {
-        Data::A(octets) => Ip::V4(*octets),
-        Data::Aaaa(octets) => Ip::V6(*octets),
-        _ => return Ok(()),
-    };
-    out.push(Addr { ip, port })?;
-    Ok(())
+    push_addrs(port, data_shown(v4), out)?;
+    push_addrs(port, data_shown(v6), out)
 }
 
 /// Whether these servers of a zone, which have these names, lead to an answer.

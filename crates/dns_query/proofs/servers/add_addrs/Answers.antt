@@ -1,8 +1,8 @@
 use Rattle.std.proofs.Common.{◌≡◌, ◌++◌, [], refl, rules, arith}
 use Rattle.std.specs.List.{flat_map}
 use Rattle.std.proofs.lemmas.Grind.{common_steps}
+use Rattle.ranked.specs.Addrs.{addr_of}
 use Rattle.dns_query.specs.Indexed.{addrs_at}
-use Rattle.dns_query.specs.Referral.{addr_of}
 use Rattle.dns_query.proofs.IndexedLaws.{addrs_updated, on_ok}
 use Rattle.dns_query.proofs.servers.add_addrs.Goals as goal
 

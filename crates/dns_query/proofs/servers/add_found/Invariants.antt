@@ -1,9 +1,10 @@
 use Rattle.std.proofs.Common.{◌≡◌, ◌++◌, map, take}
 use Rattle.std.specs.List.{flat_map}
 use Rattle.dns_name.specs.Labels.{Labels}
+use Rattle.ranked.specs.Addrs.{addr_of}
 use Rattle.neg_rule.specs.Negative.{said_by}
 use Rattle.dns_query.specs.Indexed.{addrs_at}
-use Rattle.dns_query.specs.Referral.{addr_of, data_found}
+use Rattle.dns_query.specs.Referral.{data_found}
 use Rattle.dns_query.proofs.servers.add_found.Given as goal
 
 -- those of the finds so far

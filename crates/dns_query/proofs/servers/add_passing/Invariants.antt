@@ -1,9 +1,10 @@
 use Rattle.std.proofs.Common.{◌≡◌, ◌++◌, map, take}
 use Rattle.std.specs.List.{flat_map}
 use Rattle.dns_name.specs.Labels.{Labels}
+use Rattle.ranked.specs.Addrs.{addr_of}
 use Rattle.harvest.specs.Learnt.{set_of}
 use Rattle.dns_query.specs.Indexed.{addrs_at}
-use Rattle.dns_query.specs.Referral.{addr_of, data_passing}
+use Rattle.dns_query.specs.Referral.{data_passing}
 use Rattle.dns_query.proofs.servers.add_passing.Given as goal
 
 -- those of the sets so far

@@ -1,7 +1,7 @@
 use Rattle.std.proofs.Common.{◌≡◌, ◌++◌, take}
 use Rattle.std.specs.List.{flat_map}
-use Rattle.dns_query.specs.Referral.{addr_of}
-use Rattle.dns_query.proofs.servers.push_addrs.Given as goal
+use Rattle.ranked.specs.Addrs.{addr_of}
+use Rattle.ranked.proofs.addrs.push_addrs.Given as goal
 
 -- those of the data so far
 abbrev pub invariant-loop-datum : goal.invariant-loop-datum
