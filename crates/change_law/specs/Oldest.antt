@@ -1,11 +1,11 @@
 -- The name to forget first: the one whose last find ends first, over each choice of the kept changes, the undone ones among them.
-use Rattle.std.specs.Prelude.{◌≡◌, ◌≢◌, ◌⊎◌, ◌<◌, ◌≤◌, ℕ, Bool, Option, Some, List, [], ◌∷◌}
+use Rattle.std.specs.Prelude.{◌≡◌, ◌≢◌, ◌<◌, ℕ, Bool, Option, Some, List, [], ◌∷◌}
 use Rattle.std.specs.List.{AllByRecursion}
 use Rattle.dns_name.specs.Labels.{Labels}
-use Rattle.dns_name.specs.Order.{IsNotAfter}
 use Rattle.ranked.specs.declared.cell.Admitted.{Admitted}
 use Rattle.ranked.specs.declared.find.Find.{Find}
 use Rattle.ranked.specs.Cell.{end_of}
+use Rattle.ranked.specs.Oldest.{EndsFirst, NoneEnds}
 use Rattle.change_law.specs.declared.kept.KeptChange.{KeptChange}
 use Rattle.change_law.specs.declared.kept.Standing.TheVariants.{Cleared}
 use Rattle.change_law.specs.Choice.{IsChoice}
@@ -26,21 +26,6 @@ pub record IsEnding {W S T : Type 0} (table : S → Option ℕ) (face : W → Li
   pub alive : alive_at t ((face world kept chosen).cell (record { owner = name; kind = kind })) ≡ Some held
   pub at : end_of held ≡ end
 
--- Of the seconds in which finds of a name end, it is the last.
-pub record IsLastEnding (Ends : Labels → ℕ → Type 0) (name : Labels) (end : ℕ) : Type 0 where
-  pub ending : Ends name end
-  pub last : (other : ℕ) → Ends name other → other ≤ end
-
--- The last find of no other name ends sooner. Of the names whose last finds end in the same second this is the first in the order of names.
-pub record IsOldest (Ends : Labels → ℕ → Type 0) (name : Labels) : Type 0 where
-  pub end : ℕ
-  pub own : IsLastEnding Ends name end
-  pub first : (other : Labels) (later : ℕ) → IsLastEnding Ends other later → (end < later) ⊎ ((end ≡ later) × IsNotAfter name other)
-
--- No find of any name ends.
-abbrev pub NoneEnds : (Labels → ℕ → Type 0) → Type 0
-NoneEnds Ends = (name : Labels) (end : ℕ) → Ends name end → ⊥
-
 -- Whatever changes the world keeps: if a find of the name is alive at some moment, by some choice of them, this holds.
 abbrev pub HoldsIfEnding : {W S T : Type 0} → (S → Option ℕ) → (W → List (KeptChange S) → Type 0) → (W → List (KeptChange S) → (ℕ → Bool) → Face T) →
     W → Labels → Type 0 → Type 0
@@ -51,7 +36,7 @@ HoldsIfEnding {S = S} table keeps face world name P =
 abbrev pub IsOldestOf : {W S T : Type 0} → (S → Option ℕ) → (W → List (KeptChange S) → Type 0) → (W → List (KeptChange S) → (ℕ → Bool) → Face T) →
     W → ℕ → Labels → Type 0
 IsOldestOf {S = S} table keeps face world t name =
-    (kept : List (KeptChange S)) → keeps world kept → AreCurrent kept → IsOldest (IsEnding table face world kept t) name
+    (kept : List (KeptChange S)) → keeps world kept → AreCurrent kept → EndsFirst (IsEnding table face world kept t) name
 
 -- Whatever changes the world keeps, no name has a find that is alive at a moment.
 abbrev pub HasNoneEnding : {W S T : Type 0} → (S → Option ℕ) → (W → List (KeptChange S) → Type 0) → (W → List (KeptChange S) → (ℕ → Bool) → Face T) →

@@ -1,11 +1,11 @@
 -- The name to forget first: the one whose last find ends first, over each choice of the commands of the journal, the undone ones among them.
-use Rattle.std.specs.Prelude.{◌≡◌, ◌≢◌, ◌⊎◌, ℕ, ◌<◌, ◌≤◌, Bool, true, Option, Some, None}
+use Rattle.std.specs.Prelude.{◌≡◌, ◌≢◌, ℕ, Bool, true, Option, Some, None}
 use Rattle.std.specs.List.{AllByRecursion}
 use Rattle.dns_name.specs.Labels.{Labels}
-use Rattle.dns_name.specs.Order.{IsNotAfter}
 use Rattle.ranked.specs.declared.cell.Admitted.{Admitted}
 use Rattle.ranked.specs.declared.find.Find.{Find}
 use Rattle.ranked.specs.Cell.{end_of, is_alive}
+use Rattle.ranked.specs.Oldest.{EndsFirst, NoneEnds}
 use Rattle.history.specs.Cells.{cell_by}
 use Rattle.history.specs.History.{Past, is_unstruck, standing_with}
 use Rattle.history.specs.Journal.{commands_of}
@@ -21,18 +21,7 @@ pub record IsEnding (past : Past) (t : ℕ) (name : Labels) (end : ℕ) : Type 0
   pub alive : is_alive held t ≡ true
   pub at : end_of held ≡ end
 
--- It is the last of these seconds.
-pub record IsLastEnding (past : Past) (t : ℕ) (name : Labels) (end : ℕ) : Type 0 where
-  pub ending : IsEnding past t name end
-  pub last : (other : ℕ) → IsEnding past t name other → other ≤ end
-
--- The last find of no other name ends sooner. Of the names whose last finds end in the same second this is the first in the order of names.
-pub record EndsFirst (past : Past) (t : ℕ) (name : Labels) : Type 0 where
-  pub end : ℕ
-  pub own : IsLastEnding past t name end
-  pub first : (other : Labels) (later : ℕ) → IsLastEnding past t other later → (end < later) ⊎ ((end ≡ later) × IsNotAfter name other)
-
 -- The name to forget first at a moment. There is none where no name has a find that is alive, whichever commands of the journal are in force.
 abbrev pub IsOldest : Past → ℕ → Option Labels → Type 0
-IsOldest past t (Some name) = EndsFirst past t name
-IsOldest past t None = (name : Labels) (end : ℕ) → IsEnding past t name end → ⊥
+IsOldest past t (Some name) = EndsFirst (IsEnding past t) name
+IsOldest past t None = NoneEnds (IsEnding past t)

@@ -12,8 +12,9 @@ use Rattle.dns_name.specs.Order.{IsNotAfter, name_cmp, name_cmp_exact, name_eq, 
 use Rattle.ranked.specs.declared.cell.Admitted.{Admitted}
 use Rattle.ranked.specs.declared.find.Find.{Find}
 use Rattle.ranked.specs.Cell.{end_of, is_alive}
+use Rattle.ranked.specs.Oldest.{IsLastEnding}
 use Rattle.history.specs.History.{Past}
-use Rattle.history.specs.Oldest.{IsEnding, IsLastEnding, IsOldest}
+use Rattle.history.specs.Oldest.{IsEnding, IsOldest}
 use Rattle.history.specs.OldestFound.{is_sooner, last_end, later_end, oldest_in, sooner_of}
 
 -- ---- the order of names
@@ -199,7 +200,7 @@ module _ (past : Past) (t : ℕ) where
   ending_is_some : (name : Labels) (end : ℕ) → IsEnding past t name end → 1 ≤ end
   ending_is_some name end is = omega (arith, alive_later t is.held is.alive, is.at)
 
-  last_is : (name : Labels) (ends : List (Labels × ℕ)) → AreEndings past t ends → 1 ≤ last_end ends name → IsLastEnding past t name (last_end ends name)
+  last_is : (name : Labels) (ends : List (Labels × ℕ)) → AreEndings past t ends → 1 ≤ last_end ends name → IsLastEnding (IsEnding past t) name (last_end ends name)
   last_is name ends are some = record {
     ending = elim (last_ended name ends 0 (inl refl) are.sound) [ inl none ↦ absurd (omega (arith, none)) | inr is ↦ is ];
     last = λ other is. are.whole name other is;

@@ -9,6 +9,7 @@ use Rattle.dns_name.specs.Order.{name_eq, name_eq_exact, name_equiv, IsNotAfter}
 use Rattle.dns_text.specs.declared.record.Question.{Question}
 use Rattle.ranked.specs.declared.find.Find.{Find}
 use Rattle.ranked.specs.declared.cell.Admitted.{Admitted}
+use Rattle.ranked.specs.Oldest.{IsLastEnding}
 use Rattle.cell_store.specs.declared.owner.OwnerCells.{OwnerCells}
 use Rattle.cell_store.specs.Life.{alive_before_end, ends_later, life_end, IsAliveTo}
 use Rattle.cell_store.specs.Store.{cell_by_owner}
@@ -20,7 +21,7 @@ use Rattle.shelf.specs.declared.oldest.Candidate.{Candidate}
 use Rattle.shelf.specs.Settling.{settled_version}
 use Rattle.shelf.specs.Told.{chosen_version, face_of, only}
 use Rattle.shelf.specs.First.{cell_at_name, life_at, name_at, name_life, IsBefore, IsFirst}
-use Rattle.shelf.specs.Oldest.{IsEnding, IsLastEnding, IsNoneAlive, IsOldest}
+use Rattle.shelf.specs.Oldest.{IsEnding, IsNoneAlive, IsOldest}
 use Rattle.shelf.proofs.LifeLaws.{name_most, name_there, only_version}
 use Rattle.shelf.proofs.OrderLaws.{below_root}
 use Rattle.shelf.proofs.RoomLaws.{chosen_is_version}
@@ -74,7 +75,7 @@ module _ (shelf : Shelf) (unique : IsUnique name_eq shelf.owners) (t : ℕ) wher
         alive = subst (λ (h : Option (Admitted Find)). IsAliveTo t h (life_at settlings kept entries i)) (sym face) (subst (λ n. IsAliveTo t (cell_at_name settlings name cells k v) n) life alive);
       }
 
-  last_there : (i : ℕ) (name : Labels) (cells : OwnerCells) → slice_get entries i ≡ Some (name, cells) → t < life_at settlings kept entries i → IsLastEnding shelf t name (life_at settlings kept entries i)
+  last_there : (i : ℕ) (name : Labels) (cells : OwnerCells) → slice_get entries i ≡ Some (name, cells) → t < life_at settlings kept entries i → IsLastEnding (IsEnding shelf t) name (life_at settlings kept entries i)
   last_there i name cells there before = record {
     ending = ending_there i name cells there before;
     last = λ other is. (ending_low i name cells there other is).0;
@@ -102,7 +103,7 @@ module _ (shelf : Shelf) (unique : IsUnique name_eq shelf.owners) (t : ℕ) wher
   name_is i name cells there = ap (λ (o : Option (Labels × OwnerCells)). option_map_or (λ e. e.0) o []) there
 
   first_of : (p : ℕ) (name : Labels) → name_at entries p ≡ name → ((i : ℕ) → IsBelow 0 i → t < life_at settlings kept entries i → IsBefore settlings kept entries p i)
-      → (other : Labels) (later : ℕ) → IsLastEnding shelf t other later → (life_at settlings kept entries p < later) ⊎ ((life_at settlings kept entries p ≡ later) × IsNotAfter name other)
+      → (other : Labels) (later : ℕ) → IsLastEnding (IsEnding shelf t) other later → (life_at settlings kept entries p < later) ⊎ ((life_at settlings kept entries p ≡ later) × IsNotAfter name other)
   first_of p name named first other later is =
       let at = found other later is.ending in
       let i = at.0 in
@@ -129,7 +130,7 @@ module _ (shelf : Shelf) (unique : IsUnique name_eq shelf.owners) (t : ℕ) wher
           let named : own.name.now ≡ e.0 = is.candidate.name ∙ name_is own.place e.0 e.1 at in
           record {
             end = life_at settlings kept entries own.place;
-            own = subst (λ (n : Labels). IsLastEnding shelf t n (life_at settlings kept entries own.place)) (sym named) (last_there own.place e.0 e.1 at alive);
+            own = subst (λ (n : Labels). IsLastEnding (IsEnding shelf t) n (life_at settlings kept entries own.place)) (sym named) (last_there own.place e.0 e.1 at alive);
             first = first_of own.place own.name.now (sym is.candidate.name) is.beats;
           }
 

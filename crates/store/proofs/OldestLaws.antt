@@ -4,11 +4,13 @@ use Rattle.std.specs.Prelude.{◌||◌, is_some}
 use Rattle.std.specs.List.{AllByRecursion}
 use Rattle.dns_name.specs.Labels.{Labels}
 use Rattle.dns_text.specs.declared.record.Question.{Question}
+use Rattle.ranked.specs.Oldest.{EndsFirst, NoneEnds}
+use Rattle.ranked.specs.OldestLaws.{none_alike, oldest_alike}
 use Rattle.change_law.specs.declared.kept.KeptChange.{KeptChange}
 use Rattle.change_law.specs.Choice.{Agree, IsChoice}
 use Rattle.change_law.specs.ChoiceLaws.{also_choice, has_also, with_tables, HasAlso}
 use Rattle.change_law.specs.Face.{alive_at}
-use Rattle.change_law.specs.Oldest.{AreCurrent, IsEnding, IsLastEnding, IsOldest, NoneEnds}
+use Rattle.change_law.specs.Oldest.{AreCurrent, IsEnding}
 use Rattle.shelf.specs.declared.shelf.Shelf.{Shelf}
 use Rattle.shelf.specs.Oldest as shelf
 use Rattle.table_changes.specs.Part.{with_part, part}
@@ -24,25 +26,6 @@ use Rattle.store.specs.StoreLaws.{cells_agree, no_table}
 use Rattle.store.specs.SumLaws.{choice_part}
 use Rattle.store.specs.World.{shelved, cell_by, face_by, KeepsFlushes}
 use Rattle.store.specs.WorldLaws.{same_alive}
-
--- ---- names that end alike have the same oldest
-
-module _ (Ends Others : Labels → ℕ → Type 0) (there : (name : Labels) (end : ℕ) → Ends name end → Others name end) (back : (name : Labels) (end : ℕ) → Others name end → Ends name end) where
-  last_alike : (name : Labels) (end : ℕ) → IsLastEnding Ends name end → IsLastEnding Others name end
-  last_alike name end is = record { ending = there name end is.ending; last = λ other at. is.last other (back name other at) }
-
-  last_back : (name : Labels) (end : ℕ) → IsLastEnding Others name end → IsLastEnding Ends name end
-  last_back name end is = record { ending = back name end is.ending; last = λ other at. is.last other (there name other at) }
-
-  oldest_alike : (name : Labels) → IsOldest Ends name → IsOldest Others name
-  oldest_alike name is = record {
-    end = is.end;
-    own = last_alike name is.end is.own;
-    first = λ other later at. is.first other later (last_back other later at);
-  }
-
-  none_alike : NoneEnds Ends → NoneEnds Others
-  none_alike none name end is = none name end (back name end is)
 
 -- ---- the cache
 
@@ -76,18 +59,8 @@ module _ (own : Shelf) (kept : List (KeptChange SavedFlush)) (t : ℕ) where
         at = is.alive.at;
       }
 
-  last_there : AreCurrent kept → (name : Labels) (end : ℕ) → shelf.IsLastEnding own t name end → IsLastEnding (IsEnding no_table face_by (shelved own) kept t) name end
-  last_there current name end is = record { ending = ending_there current name end is.ending; last = λ other at. is.last other (ending_back name other at) }
-
-  last_kept : AreCurrent kept → (name : Labels) (end : ℕ) → IsLastEnding (IsEnding no_table face_by (shelved own) kept t) name end → shelf.IsLastEnding own t name end
-  last_kept current name end is = record { ending = ending_back name end is.ending; last = λ other at. is.last other (ending_there current name other at) }
-
-  pub oldest_there : AreCurrent kept → (name : Labels) → shelf.IsOldest own t name → IsOldest (IsEnding no_table face_by (shelved own) kept t) name
-  oldest_there current name is = record {
-    end = is.end;
-    own = last_there current name is.end is.own;
-    first = λ other later at. is.first other later (last_kept current other later at);
-  }
+  pub oldest_there : AreCurrent kept → (name : Labels) → shelf.IsOldest own t name → EndsFirst (IsEnding no_table face_by (shelved own) kept t) name
+  oldest_there current name is = oldest_alike (shelf.IsEnding own t) (IsEnding no_table face_by (shelved own) kept t) (ending_there current) ending_back name is
 
   pub none_there : shelf.IsNoneAlive own t → NoneEnds (IsEnding no_table face_by (shelved own) kept t)
   none_there none name end is = none name end (ending_back name end is)
@@ -140,7 +113,7 @@ module _ (x : Store) (kept : List (KeptChange SavedChange)) (t : ℕ) where
       }
 
   pub store_oldest : KeepsStore x kept → AreCurrent kept → (name : Labels) →
-      ((kept : List (KeptChange SavedFlush)) → KeepsFlushes x.cells kept → AreCurrent kept → IsOldest (IsEnding no_table face_by x.cells kept t) name) → IsOldest (IsEnding store_table store_face x kept t) name
+      ((kept : List (KeptChange SavedFlush)) → KeepsFlushes x.cells kept → AreCurrent kept → EndsFirst (IsEnding no_table face_by x.cells kept t) name) → EndsFirst (IsEnding store_table store_face x kept t) name
   store_oldest h current name is =
       oldest_alike (IsEnding no_table face_by x.cells (part of_cells kept) t) (IsEnding store_table store_face x kept t) (store_ends h current) cells_end name
       (is (part of_cells kept) h.1 (part_current kept current))

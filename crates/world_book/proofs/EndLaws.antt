@@ -8,6 +8,8 @@ use Rattle.dns_text.specs.declared.record.Question.{Question}
 use Rattle.ranked.specs.declared.cell.Admitted.{Admitted}
 use Rattle.ranked.specs.declared.find.Find.{Find}
 use Rattle.ranked.specs.Cell.{is_alive}
+use Rattle.ranked.specs.Oldest.{EndsFirst, NoneEnds}
+use Rattle.ranked.specs.OldestLaws.{none_alike, oldest_alike}
 use Rattle.change_law.specs.declared.kept.KeptChange.{KeptChange}
 use Rattle.change_law.specs.declared.kept.Standing.{Standing}
 use Rattle.change_law.specs.declared.kept.Standing.TheVariants.{Done, Undone, Cleared}
@@ -15,7 +17,7 @@ use Rattle.change_law.specs.declared.world.World.{Ghosts}
 use Rattle.change_law.specs.Choice.{Agree, AllowsAt, AreLeftOut, IsChoice}
 use Rattle.change_law.specs.ChoiceLaws.{also_choice, has_also, other_number, outside, same_number, with_tables}
 use Rattle.change_law.specs.Face.{alive_at}
-use Rattle.change_law.specs.Oldest.{AreCurrent, IsEnding, IsLastEnding, IsOldest, NoneEnds}
+use Rattle.change_law.specs.Oldest.{AreCurrent, IsEnding}
 use Rattle.undo_journal.specs.Journal.{Changes, AreChanges, tickets_of, told_of}
 use Rattle.world_book.specs.Course.{AreAscending, IsFair}
 use Rattle.history.specs.declared.event.Command.{Command}
@@ -261,18 +263,8 @@ module _ {W S : Type 0} (by : Ghosts W Tables S Command) (w : W) (changes : Chan
           at = is.at;
         }
 
-    last_in_past : (name : Labels) (end : ℕ) → IsLastEnding Ends name end → of_past.IsLastEnding past t name end
-    last_in_past name end is = record { ending = ends_in_past name end is.ending; last = λ other at. is.last other (ends_in_face t less name other at) }
-
-    last_in_face : (name : Labels) (end : ℕ) → of_past.IsLastEnding past t name end → IsLastEnding Ends name end
-    last_in_face name end is = record { ending = ends_in_face t less name end is.ending; last = λ other at. is.last other (ends_in_past name other at) }
-
-    pub oldest_in_past : (name : Labels) → IsOldest Ends name → of_past.IsOldest past t (Some name)
-    oldest_in_past name is = record {
-      end = is.end;
-      own = last_in_past name is.end is.own;
-      first = λ other later at. is.first other later (last_in_face other later at);
-    }
+    pub oldest_in_past : (name : Labels) → EndsFirst Ends name → of_past.IsOldest past t (Some name)
+    oldest_in_past name is = oldest_alike Ends (of_past.IsEnding past t) ends_in_past (ends_in_face t less) name is
 
     pub none_in_past : NoneEnds Ends → of_past.IsOldest past t None
-    none_in_past none name end is = none name end (ends_in_face t less name end is)
+    none_in_past none = none_alike Ends (of_past.IsEnding past t) ends_in_past (ends_in_face t less) none
