@@ -21,6 +21,7 @@ use Rattle.dns_name.specs.Below.{is_at_or_below}
 use Rattle.cell_store.specs.Owner.{cell_in, CanSettle, HasSameCells, IsUpTo}
 use Rattle.cell_store.specs.Store.{cell_by_owner, cell_of, name_place, AreSameCells, AreUpTo, CanSettleAt, StayBut, StayButAt}
 use Rattle.cell_store.specs.Count.{has_pair, has_place, pair_eq, scope_eq, AddPair, KeepPairs, KeepsPlaces}
+use Rattle.cell_store.specs.StoredLaws.{others_at}
 use Rattle.cell_store.specs.TestLaws.{or_right}
 
 module _ {S : Type 0} (old before after : IndexMap Labels OwnerCells S) (owner key : Labels) (new : OwnerCells) (known : before ≡ old) (one : key ≡ owner) (updates : Updates name_eq before after key (Some new)) where
@@ -178,13 +179,6 @@ keys_at : (entries : List (Labels × OwnerCells)) (place : ℕ) (new : OwnerCell
 keys_at [] place new = refl
 keys_at (e ∷ entries) zero new = refl
 keys_at (e ∷ entries) (suc place) new = ap (λ (l : List Labels). e.0 ∷ l) (keys_at entries place new)
-
-others_at : (entries : List (Labels × OwnerCells)) (place : ℕ) (new : OwnerCells) (i : ℕ) → (i ≡ place → ⊥) → slice_get (set_value_at entries place new) i ≡ slice_get entries i
-others_at [] place new i off = refl
-others_at (e ∷ entries) zero new zero off = absurd (off refl)
-others_at (e ∷ entries) zero new (suc i) off = refl
-others_at (e ∷ entries) (suc place) new zero off = refl
-others_at (e ∷ entries) (suc place) new (suc i) off = others_at entries place new i (λ same. off (ap suc same))
 
 pub stays_at : (entries : List (Labels × OwnerCells)) (place : ℕ) (new : OwnerCells) → StayButAt place entries (set_value_at entries place new)
 stays_at entries place new = record { others = others_at entries place new; names = keys_at entries place new }

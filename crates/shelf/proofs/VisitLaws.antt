@@ -17,6 +17,7 @@ use Rattle.cell_store.specs.Ends.{latest, name_end}
 use Rattle.cell_store.specs.EndLaws.{alive_before, alive_earlier, some_alive, whole_before, whole_earlier}
 use Rattle.cell_store.specs.Owner.{cell_in}
 use Rattle.cell_store.specs.Store.{AreLeft, AreSameCells, EachCounts, HaveTop}
+use Rattle.cell_store.specs.StoredLaws.{others_at}
 use Rattle.cell_store.specs.Mixed.{has_mixed, IsLikeFirst}
 use Rattle.cell_store.specs.Sweep.{alive_at, is_dead}
 use Rattle.ranked.specs.declared.find.Find.{Find}
@@ -62,13 +63,6 @@ each_at kept t (e ∷ entries) zero key old new there is =
     let one : e ≡ (key, old) = cc in
     ((refl, subst (λ (x : Labels × OwnerCells). IsLessened kept t x.0 x.1 new) (sym one) is), each_same kept t entries)
 each_at kept t (e ∷ entries) (suc place) key old new there is = ((refl, less_same_cells kept t e.0 e.1), each_at kept t entries place key old new there is)
-
-others_at : (entries : List (Labels × OwnerCells)) (place : ℕ) (new : OwnerCells) (i : ℕ) → (i ≡ place → ⊥) → slice_get (set_value_at entries place new) i ≡ slice_get entries i
-others_at [] place new i off = refl
-others_at (e ∷ entries) zero new zero off = absurd (off refl)
-others_at (e ∷ entries) zero new (suc i) off = refl
-others_at (e ∷ entries) (suc place) new zero off = refl
-others_at (e ∷ entries) (suc place) new (suc i) off = others_at entries place new i (λ same. off (ap suc same))
 
 size_at : (entries : List (Labels × OwnerCells)) (place : ℕ) (new : OwnerCells) → length (set_value_at entries place new) ≡ length entries
 size_at [] place new = refl
