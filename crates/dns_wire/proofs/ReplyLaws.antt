@@ -12,7 +12,8 @@ use Rattle.dns_wire.specs.WellFormed.{IsHead}
 use Rattle.dns_wire.specs.Write.Header.{header_octets}
 use Rattle.dns_wire.specs.Write.Question.{IsQuestionOctets}
 use Rattle.dns_wire.specs.Write.Message.{octets_with}
-use Rattle.dns_wire.proofs.WrittenSize.{length-octets_with, not_long, as_long}
+use Rattle.dns_wire.specs.Write.SizeLaws.{length-octets_with}
+use Rattle.dns_wire.proofs.WrittenSize.{not_long, as_long}
 use Rattle.dns_wire.proofs.WrittenMessage.{message_written, reply_written}
 
 pub head_spelled : (h : Head) → IsHead h → SpelledMessage (header_octets h 0 0 0 0) (head_alone h)

@@ -21,7 +21,8 @@ use Rattle.dns_wire.specs.Write.Question.{question_octets, first_name, in_class_
 use Rattle.dns_wire.specs.Write.Record.{records_octets}
 use Rattle.dns_wire.specs.Write.Message.{octets_with, message_octets, IsTooLong}
 use Rattle.dns_wire.proofs.MessageLaws.{spelled_once}
-use Rattle.dns_wire.proofs.WrittenSize.{HasRoomForAll, all_fits, length-octets_with, many_questions, as_long}
+use Rattle.dns_wire.specs.Write.SizeLaws.{length-octets_with}
+use Rattle.dns_wire.proofs.WrittenSize.{HasRoomForAll, all_fits, many_questions, as_long}
 use Rattle.dns_wire.proofs.WrittenName.{StandsAt, stands_first, stands_second}
 use Rattle.dns_wire.proofs.WrittenHead.{flags_small, flags_written}
 use Rattle.dns_wire.proofs.WrittenRecord.{cased_question, questions_written, FirstAt, no_question, first, later, records_written}

@@ -13,8 +13,8 @@ use Rattle.dns_wire.specs.declared.message.Classed.{Classed}
 use Rattle.dns_wire.specs.declared.message.Message.{Message}
 use Rattle.dns_wire.specs.Lent.{Records, records_of}
 use Rattle.dns_wire.specs.Write.Size.{within, records_len, IsRoom}
+use Rattle.dns_wire.specs.Write.SizeLaws.{length-octets_with}
 use Rattle.dns_wire.specs.Write.Number.{u16_octets, u32_octets}
-use Rattle.dns_wire.specs.Write.Header.{header_octets}
 use Rattle.dns_wire.specs.Write.Name.{name_octets, owner_octets}
 use Rattle.dns_wire.specs.Write.Question.{question_octets, in_class_in, IsQuestionOctets, first_name}
 use Rattle.dns_wire.specs.Write.Rdata.{data_octets}
@@ -74,14 +74,6 @@ pub length-question_octets : (q : Classed Question) → length (question_octets 
 length-question_octets q = simp length-append (omega arith)
 
 -- ---- whole messages
-
-pub length-octets_with : (questions : List ℕ) (v : Message) → length (octets_with questions v) ≡ 12 + length questions + records_len (first_name v.questions) (records_of v)
-unfolding octets_with header_octets
-length-octets_with questions v =
-    let answer = records_octets (first_name v.questions) v.answer in
-    let authority = records_octets (first_name v.questions) v.authority in
-    let additional = records_octets (first_name v.questions) v.additional in
-    omega (arith, length-append questions (answer ++ authority ++ additional), length-append (answer ++ authority) additional, length-append answer authority)
 
 -- Questions and records take an octet each at least.
 pub many_questions : (questions : List (Classed Question)) → length questions ≤ length (flat_map question_octets questions)

@@ -6,4 +6,5 @@ pub mod Rdata
 pub mod Record
 pub mod Message
 pub mod Size
+pub mod SizeLaws
 pub mod Encoding

@@ -12,9 +12,8 @@ use Rattle.dns_text.specs.declared.record.Data.{Data}
 use Rattle.dns_text.specs.declared.record.Record.{Record}
 use Rattle.dns_wire.specs.declared.message.Classed.{Classed}
 use Rattle.dns_wire.specs.declared.message.Head.{Head}
-use Rattle.dns_wire.specs.declared.message.Message.{Message}
 use Rattle.dns_wire.specs.declared.server.query.Query.{Query}
-use Rattle.dns_wire.specs.Lent.{Parts, in_order, lent_reply, records_of, set_records}
+use Rattle.dns_wire.specs.Lent.{Parts, in_order, lent_reply, set_records}
 use Rattle.dns_wire.specs.Read.Header.{head_in}
 use Rattle.dns_wire.specs.Read.Number.{u16_at}
 use Rattle.dns_wire.specs.WellFormed.{IsHead, IsQuestion, IsWellFormed}
@@ -23,10 +22,10 @@ use Rattle.dns_wire.specs.Write.Header.{header_octets}
 use Rattle.dns_wire.specs.Write.Message.{octets_with, IsTooLong}
 use Rattle.dns_wire.specs.Write.Name.{owner_octets}
 use Rattle.dns_wire.specs.Write.Number.{u16_octets, u32_octets}
-use Rattle.dns_wire.specs.Write.Question.{first_name, in_class_in, question_octets, IsQuestionOctets}
+use Rattle.dns_wire.specs.Write.Question.{in_class_in, question_octets, IsQuestionOctets}
 use Rattle.dns_wire.specs.Write.Rdata.{data_octets}
 use Rattle.dns_wire.specs.Write.Record.{behind_owner_octets, record_octets, records_octets}
-use Rattle.dns_wire.specs.Write.Size.{records_len}
+use Rattle.dns_wire.specs.Write.SizeLaws.{length-octets_with}
 use Rattle.dns_query.specs.declared.over.Over.TheVariants.{Udp}
 use Rattle.iterate.specs.declared.answer.AnswerSet.{AnswerSet}
 use Rattle.iterate.specs.Told.{kinds_of}
@@ -92,14 +91,6 @@ found_counted first find kind ttl bodies scope body =
     ap (λ (some : List (Classed Record)). records_size first some) (of_scope ∙ (of_body ∙ alone)) ∙ set_counted first find.owner kind (seconds_written ttl) bodies
 
 -- ---- messages
-
-length-octets_with : (questions : List ℕ) (v : Message) → length (octets_with questions v) ≡ 12 + length questions + records_len (first_name v.questions) (records_of v)
-unfolding octets_with header_octets
-length-octets_with questions v =
-    let answer = records_octets (first_name v.questions) v.answer in
-    let authority = records_octets (first_name v.questions) v.authority in
-    let additional = records_octets (first_name v.questions) v.additional in
-    omega (arith, length-append questions (answer ++ authority ++ additional), length-append (answer ++ authority) additional, length-append answer authority)
 
 -- A record takes an octet at least.
 many_records : (first : Labels) (records : List (Classed Record)) → length records ≤ records_size first records
