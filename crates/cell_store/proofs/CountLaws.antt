@@ -22,6 +22,7 @@ use Rattle.std.specs.Map.{keys_of, values_of}
 use Rattle.indexmap.proofs.MapLemmas.{Found-position, some_index}
 use Rattle.std.specs.Prelude.{position, swap_remove}
 use Rattle.dns_name.specs.Labels.{Labels}
+use Rattle.dns_name.specs.ListLaws.{never_past}
 use Rattle.dns_name.specs.Order.{name_eq}
 use Rattle.cell_store.proofs.OwnerLaws.{column_push, column_here}
 use Rattle.cell_store.specs.TestLaws.{or_right}
@@ -34,12 +35,7 @@ held_seen {F} finds (Some held) low = split (slice_get finds held.body) refl
   where
     split : (o : Option F) → slice_get finds held.body ≡ o → is_some (option_map (λ (find : F). admitted_map (λ _. find) held) o) ≡ true
     split (Some f) is = refl
-    split None is = absurd (none finds held.body low is)
-      where
-        none : (l : List F) (i : ℕ) → i < length l → slice_get l i ≡ None → ⊥
-        none [] i few e = absurd (omega arith)
-        none (x ∷ l) zero few e = let same : Some x ≡ None = e in cc
-        none (x ∷ l) (suc i) few e = none l i (omega arith) e
+    split None is = absurd (never_past finds held.body low is)
 
 pub counted_seen : {F : Type 0} (finds : List F) (versions : List (Version ℕ)) → AllByRecursion (IsWithin (length finds)) versions → list_any has_find (map (version_of finds) versions) ≡ list_any has_find versions
 counted_seen finds [] within = refl

@@ -1,8 +1,9 @@
 -- The first moment at which a find of a column is dead: by slot and by find.
-use Rattle.std.proofs.Common.{◌≡◌, ℕ, ◌<◌, zero, suc, min, Option, Some, None, List, [], ◌∷◌, length, map, refl, ap, ◌∙◌, arith}
+use Rattle.std.proofs.Common.{◌≡◌, ℕ, min, Option, Some, None, List, [], ◌∷◌, length, map, refl, ap, ◌∙◌}
 use Rattle.std.specs.Prelude.{fold, slice_get}
 use Rattle.std.specs.List.{AllByRecursion}
 use Rattle.std.specs.Option.{option_map}
+use Rattle.dns_name.specs.ListLaws.{never_past}
 use Rattle.ranked.specs.declared.cell.Admitted.{Admitted}
 use Rattle.ranked.specs.Cell.{admitted_map}
 use Rattle.cell_store.specs.declared.version.Version.{Version}
@@ -15,12 +16,7 @@ end_seen {F} finds (Some held) low = split (slice_get finds held.body) refl
   where
     split : (o : Option F) → slice_get finds held.body ≡ o → cell_end (option_map (λ (find : F). admitted_map (λ _. find) held) o) ≡ cell_end (Some held)
     split (Some f) is = refl
-    split None is = absurd (none finds held.body low is)
-      where
-        none : (l : List F) (i : ℕ) → i < length l → slice_get l i ≡ None → ⊥
-        none [] i few e = absurd (omega arith)
-        none (x ∷ l) zero few e = let same : Some x ≡ None = e in cc
-        none (x ∷ l) (suc i) few e = none l i (omega arith) e
+    split None is = absurd (never_past finds held.body low is)
 
 fold_seen : {F : Type 0} (finds : List F) (versions : List (Version ℕ)) (end : ℕ) → AllByRecursion (IsWithin (length finds)) versions → fold earlier end (map (version_of finds) versions) ≡ fold earlier end versions
 fold_seen finds [] end within = refl

@@ -1,5 +1,5 @@
 -- Laws of lists that std lacks: lemmas, which proofs here and in the crates above cite. No contract needs them.
-use Rattle.std.proofs.Common.{◌≡◌, ℕ, zero, suc, ◌<◌, List, [], ◌∷◌, ◌++◌, length, get_or, take, drop, reverse, refl, ap, arith, length-append}
+use Rattle.std.proofs.Common.{◌≡◌, ℕ, zero, suc, ◌<◌, Some, None, List, [], ◌∷◌, ◌++◌, length, get_or, slice_get, take, drop, reverse, refl, ap, arith, length-append}
 use Rattle.std.specs.List.{AllByRecursion}
 use Rattle.std.proofs.lemmas.List.{reverse-append}
 
@@ -42,6 +42,14 @@ all-reverse P (x ∷ xs) h =
 pub all_weaker : {X : Type 0} (P Q : X → Type 0) → ((x : X) → P x → Q x) → (xs : List X) → AllByRecursion P xs → AllByRecursion Q xs
 all_weaker P Q weaker [] h = tt
 all_weaker P Q weaker (x ∷ xs) h = (weaker x h.0, all_weaker P Q weaker xs h.1)
+
+-- ---- the places of a list
+
+-- each place before the end has an element
+pub never_past : {X : Type 0} (xs : List X) (n : ℕ) → n < length xs → slice_get xs n ≡ None → ⊥
+never_past [] n within e = absurd (omega arith)
+never_past (x ∷ xs) zero within e = let same : Some x ≡ None = e in cc
+never_past (x ∷ xs) (suc n) within e = never_past xs n (omega arith) e
 
 -- ---- lists of octets
 

@@ -7,7 +7,7 @@ use Rattle.std.proofs.lemmas.Bool.{cases_Bool, eq-eqb, false≢true}
 use Rattle.std.proofs.lemmas.Bool.Decides.{nat_tests}
 use Rattle.std.proofs.lemmas.List.{append-nil, take-append-drop}
 use Rattle.std.proofs.lemmas.List.Elements.{filter-append}
-use Rattle.dns_name.specs.ListLaws.{all_split, all_weaker}
+use Rattle.dns_name.specs.ListLaws.{all_split, all_weaker, never_past}
 use Rattle.change_law.specs.declared.kept.KeptChange.{KeptChange}
 use Rattle.change_law.specs.declared.kept.Standing.{Standing}
 use Rattle.change_law.specs.declared.kept.Standing.TheVariants.{Done, Undone}
@@ -15,7 +15,7 @@ use Rattle.change_law.specs.Choice.{IsFounded, IsOneTable, IsUncovered, is_done}
 use Rattle.change_law.specs.ChoiceLaws.{same_number, other_number}
 use Rattle.undo_journal.specs.Journal.{AreAscending, AreChanges, AreInTurn, CanBeRedone, CanBeUndone, Changes, IsPlaceOf, NeedsNone, first_of, in_effect, is_among, is_one_table, last_of, lies_on, lies_under, standing_in, table_at, tickets_of}
 use Rattle.undo_journal.specs.Needs.{UndoNeedsNone}
-use Rattle.undo_journal.proofs.RingLaws.{all_among, all_both, among_push_here, among_push_other, and_true, at_place, drop_past, map_append, never_past, or_none, take_there}
+use Rattle.undo_journal.proofs.RingLaws.{all_among, all_both, among_push_here, among_push_other, and_true, at_place, drop_past, map_append, or_none, take_there}
 use Rattle.undo_journal.proofs.MoveLaws.{asc_after, asc_before, done_here, done_standing, last_founded}
 
 -- ---- lists
@@ -58,12 +58,7 @@ last_push xs x =
 
 pub last_none : (xs : List ℕ) → last_of xs ≡ None → xs ≡ []
 last_none [] e = refl
-last_none (x ∷ xs) e = absurd (past (x ∷ xs) (length (x ∷ xs) - 1) (omega arith) e)
-  where
-    past : (ys : List ℕ) (n : ℕ) → n < length ys → slice_get ys n ≡ None → ⊥
-    past [] n within e = absurd (omega arith)
-    past (y ∷ ys) zero within e = absurd (search rules)
-    past (y ∷ ys) (suc n) within e = past ys n (omega arith) e
+last_none (x ∷ xs) e = absurd (never_past (x ∷ xs) (length (x ∷ xs) - 1) (omega arith) e)
 
 pub first_none : (xs : List ℕ) → first_of xs ≡ None → xs ≡ []
 first_none [] e = refl

@@ -2,7 +2,7 @@ use Rattle.std.proofs.Common.{rules, arith, ◌≡◌, ◌∙◌, Some, None, re
 use Rattle.std.specs.Prelude.{slice_get}
 use Rattle.std.specs.Option.{option_copied}
 use Rattle.undo_journal.specs.Journal.{Changes, lies_on}
-use Rattle.undo_journal.proofs.RingLaws.{never_past}
+use Rattle.dns_name.specs.ListLaws.{never_past}
 use Rattle.undo_journal.proofs.ReachLaws.{last_here, last_passed}
 use Rattle.undo_journal.proofs.journal.Journal.over.Goals as goal
 use Rattle.undo_journal.proofs.journal.Journal.over.Goals.{in-Some+then-lies_on, in-Some+else-lies_on, in_default}

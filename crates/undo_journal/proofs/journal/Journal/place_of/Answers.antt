@@ -2,7 +2,7 @@ use Rattle.std.proofs.Common.{rules, arith, ◌≡◌, ◌∙◌, Some, None, re
 use Rattle.std.specs.Prelude.{slice_get}
 use Rattle.std.specs.Option.{option_copied}
 use Rattle.undo_journal.specs.Journal.{Changes}
-use Rattle.undo_journal.proofs.RingLaws.{never_past}
+use Rattle.dns_name.specs.ListLaws.{never_past}
 use Rattle.undo_journal.proofs.ReachLaws.{absent_passed, place_here, place_passed}
 use Rattle.undo_journal.proofs.journal.Journal.place_of.Goals as goal
 use Rattle.undo_journal.proofs.journal.Journal.place_of.Goals.{in-Some+else-kept-ticket, in_default}

@@ -2,7 +2,7 @@ use Rattle.std.proofs.Common.{rules, arith, ◌≡◌, ◌∙◌, Some, None, re
 use Rattle.std.specs.Prelude.{slice_get}
 use Rattle.std.specs.Option.{option_copied}
 use Rattle.undo_journal.specs.Journal.{Changes, lies_under}
-use Rattle.undo_journal.proofs.RingLaws.{never_past}
+use Rattle.dns_name.specs.ListLaws.{never_past}
 use Rattle.undo_journal.proofs.ReachLaws.{first_here, none_passed}
 use Rattle.undo_journal.proofs.journal.Journal.under.Goals as goal
 use Rattle.undo_journal.proofs.journal.Journal.under.Goals.{in-Some+else-lies_under, in_default}
