@@ -1,9 +1,9 @@
 -- Rows one after another, and the ring at its ends.
-use Rattle.std.proofs.Common.{◌≡◌, ◌≢◌, ℕ, zero, suc, ◌+◌, ◌-◌, ◌<◌, ◌≤◌, Bool, true, false, cond, Option, Some, inl, inr, List, [], ◌∷◌, ◌++◌, length, drop, refl, sym, ap, subst, ◌∙◌, arith, rules, length-append, length-drop, append_assoc}
-use Rattle.std.proofs.lemmas.Bool.{cases_Bool, false≢true}
+use Rattle.std.proofs.Common.{◌≡◌, ◌≢◌, ℕ, zero, suc, ◌+◌, ◌-◌, ◌<◌, ◌≤◌, Bool, true, false, cond, Option, Some, List, [], ◌∷◌, ◌++◌, length, drop, refl, sym, ap, subst, ◌∙◌, arith, rules, length-append, length-drop, append_assoc}
+use Rattle.std.proofs.lemmas.Bool.{false≢true}
 use Rattle.std.proofs.lemmas.List.{append-nil}
 use Rattle.std.proofs.lemmas.List.Elements.{filter-append}
-use Rattle.std.specs.Prelude.{filter, not, slice_get}
+use Rattle.std.specs.Prelude.{not, slice_get}
 use Rattle.std.specs.List.{AllByRecursion}
 use Rattle.dns_name.specs.ListLaws.{all-append, all-drop, all_split, all_weaker}
 use Rattle.circular_buffer.specs.Buffer.{Buffer, buffer, keep_last}
@@ -17,6 +17,7 @@ use Rattle.undo_journal.specs.Journal.{AreAscending, AreChanges, AreInTurn, Chan
 use Rattle.undo_journal.specs.Settling.{IsTurned, TurnsFirst}
 use Rattle.undo_journal.proofs.RingLaws.{Done≢Undone, all_back, all_both, all_filter, all_images, all_pass, length_filter}
 use Rattle.undo_journal.proofs.ReachLaws.{drop_at}
+use Rattle.undo_journal.specs.TicketLaws.{asc_filter}
 pub use Rattle.undo_journal.specs.TicketLaws.{all_in_effect, in_effect_done}
 
 pub same_then : {T : Type 0} {a b c : Face T} → IsSame a b → IsSame b c → IsSame a c
@@ -384,13 +385,6 @@ module _ {W S T : Type 0} (table : S → Option ℕ) (keeps : W → List (KeptCh
 module _ {S : Type 0} where
   pub none_undone_done : (kept : List (KeptChange S)) (undone : List ℕ) → undone ≡ [] → AllByRecursion (λ k. k.standing ≡ standing_in undone k.ticket) kept → AllByRecursion (λ k. k.standing ≡ Done) kept
   none_undone_done kept undone e h = all_weaker _ _ (λ k own. own ∙ ap (λ (l : List ℕ). standing_in l k.ticket) e) kept h
-
-  pub asc_filter : (p : KeptChange S → Bool) (kept : List (KeptChange S)) → AreAscending (tickets_of kept) → AreAscending (tickets_of (filter p kept))
-  asc_filter p [] h = tt
-  asc_filter p (k ∷ kept) h =
-      let above : AllByRecursion (λ t. k.ticket < t) (tickets_of (filter p kept))
-      = all_images (λ (x : KeptChange S). x.ticket) (λ t. k.ticket < t) (filter p kept) (all_filter (λ x. k.ticket < x.ticket) p kept (all_back (λ (x : KeptChange S). x.ticket) (λ t. k.ticket < t) kept h.0)) in
-      elim (cases_Bool (p k)) [ inl yes' ↦ rw yes' (above, asc_filter p kept h.1) | inr no' ↦ rw no' (asc_filter p kept h.1) ]
 
   pub asc_drop : (n : ℕ) (kept : List (KeptChange S)) → AreAscending (tickets_of kept) → AreAscending (tickets_of (drop n kept))
   asc_drop zero kept h = h

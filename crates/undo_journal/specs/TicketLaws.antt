@@ -1,5 +1,5 @@
 -- Lists of tickets and of kept changes: lemmas for this crate and the crates above.
-use Rattle.std.proofs.Common.{◌≡◌, ℕ, suc, Bool, true, false, List, [], ◌∷◌, length, map, refl, sym, ap, subst, ◌∙◌, inl, inr, arith}
+use Rattle.std.proofs.Common.{◌≡◌, ℕ, suc, ◌<◌, Bool, true, false, List, [], ◌∷◌, length, map, refl, sym, ap, subst, ◌∙◌, inl, inr, arith}
 use Rattle.std.specs.Prelude.{filter, ◌==◌, ◌||◌, if◌then◌else◌}
 use Rattle.std.specs.List.{AllByRecursion}
 use Rattle.std.proofs.lemmas.Bool.{cases_Bool, eqb-true, false≢true}
@@ -8,7 +8,7 @@ use Rattle.change_law.specs.declared.kept.KeptChange.{KeptChange}
 use Rattle.change_law.specs.declared.kept.Standing.{Standing}
 use Rattle.change_law.specs.declared.kept.Standing.TheVariants.{Done, Undone, Cleared}
 use Rattle.change_law.specs.Choice.{is_done}
-use Rattle.undo_journal.specs.Journal.{in_effect, is_among, without}
+use Rattle.undo_journal.specs.Journal.{in_effect, is_among, tickets_of, without, AreAscending}
 
 pub map_length : {X Y : Type 0} (f : X → Y) (xs : List X) → length (map f xs) ≡ length xs
 map_length f [] = refl
@@ -63,6 +63,14 @@ among_without (x ∷ xs) t u =
             | inr apart ↦ rw apart refl
           ])
     ]
+
+-- The tickets that are left of an ascending list ascend.
+pub asc_filter : {S : Type 0} (p : KeptChange S → Bool) (kept : List (KeptChange S)) → AreAscending (tickets_of kept) → AreAscending (tickets_of (filter p kept))
+asc_filter p [] h = tt
+asc_filter {S} p (k ∷ kept) h =
+    let above : AllByRecursion (λ t. k.ticket < t) (tickets_of (filter p kept))
+    = all_images (λ (x : KeptChange S). x.ticket) (λ t. k.ticket < t) (filter p kept) (all_filter (λ x. k.ticket < x.ticket) p kept (all_back (λ (x : KeptChange S). x.ticket) (λ t. k.ticket < t) kept h.0)) in
+    elim (cases_Bool (p k)) [ inl yes' ↦ rw yes' (above, asc_filter p kept h.1) | inr no' ↦ rw no' (asc_filter p kept h.1) ]
 
 -- ---- the kept changes in effect
 

@@ -1,6 +1,6 @@
 -- The course of a world: lemmas by which a book shows that after each event its faces are those of a replay.
 use Rattle.std.proofs.Common.{◌≡◌, ◌≢◌, ℕ, zero, suc, ◌+◌, ◌-◌, ◌<◌, ◌≤◌, Bool, true, false, not, cond, eqb, eq-eqb, ltb, Option, Some, None, ◌⊎◌, inl, inr, List, [], ◌∷◌, ◌++◌, length, take, drop, map, refl, sym, ap, subst, ◌∙◌, arith, rules, length-append, append_assoc}
-use Rattle.std.specs.Prelude.{⊤, filter, fold, nat_lt, ◌==◌, ◌&&◌, ◌||◌, if◌then◌else◌}
+use Rattle.std.specs.Prelude.{⊤, fold, nat_lt, ◌==◌, ◌&&◌, ◌||◌, if◌then◌else◌}
 use Rattle.std.specs.List.{AllByRecursion}
 use Rattle.std.proofs.lemmas.Bool.{false≢true, eqb-true}
 use Rattle.std.proofs.lemmas.List.{append-nil, take-append-drop}
@@ -21,7 +21,7 @@ use Rattle.change_law.specs.Effect.{effect}
 use Rattle.change_law.specs.Face.{Face, IsSame, IsSameAt, alive_at, cell_with, face_with, face_without}
 use Rattle.change_law.specs.Row.{IsRowAfter, IsRowFrom, any, same_face, where_chosen}
 use Rattle.undo_journal.specs.Journal.{Changes, AreChanges, IsChange, IsClosed, IsPutBack, IsTakenBack, done_of, in_effect, is_among, newest, out_of_effect, settled_by, standings_of, standings_with, tickets_of}
-use Rattle.undo_journal.specs.TicketLaws.{all_among, all_back, all_both, all_filter, all_images, all_in_effect, in_effect_done, map_length}
+use Rattle.undo_journal.specs.TicketLaws.{all_among, all_back, all_both, all_filter, all_images, all_in_effect, asc_filter, in_effect_done, map_length}
 use Rattle.world_book.specs.Course.{Deed, Came, Forgot, Made, face_after, face_by, AreAscending, IsFair, Stands, struck_with, struck_without}
 
 -- ---- cells where they are alive
@@ -203,14 +203,6 @@ is_cleared s = false
 -- ---- the kept changes
 
 module _ {S : Type 0} where
-  -- The tickets that are left of an ascending list ascend.
-  pub asc_filter : (p : KeptChange S → Bool) (kept : List (KeptChange S)) → AreAscending (tickets_of kept) → AreAscending (tickets_of (filter p kept))
-  asc_filter p [] h = tt
-  asc_filter p (k ∷ kept) h =
-      let above : AllByRecursion (λ t. k.ticket < t) (tickets_of (filter p kept))
-      = all_images (λ (x : KeptChange S). x.ticket) (λ t. k.ticket < t) (filter p kept) (all_filter (λ x. k.ticket < x.ticket) p kept (all_back (λ (x : KeptChange S). x.ticket) (λ t. k.ticket < t) kept h.0)) in
-      elim (is_or_not (p k)) [ inl yes' ↦ rw yes' (above, asc_filter p kept h.1) | inr no' ↦ rw no' (asc_filter p kept h.1) ]
-
   -- No change in effect has the ticket of another.
   parts_apart : (kept : List (KeptChange S)) → AreAscending (tickets_of kept) → AllByRecursion (λ k. AllByRecursion (λ v. v ≢ k.ticket) (tickets_of (in_effect kept))) (out_of_effect kept)
   parts_apart [] h = tt
