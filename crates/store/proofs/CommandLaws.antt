@@ -1,6 +1,7 @@
 -- The change that a command makes does what the command does: lemmas.
 use Rattle.std.proofs.Common.{◌≡◌, ℕ, Bool, false, Option, Some, None, refl, sym, ap, ◌∙◌}
 use Rattle.std.specs.Option.{option_map}
+use Rattle.dns_name.specs.Options.{◌>>=◌}
 use Rattle.dns_text.specs.declared.record.Question.{Question}
 use Rattle.ranked.specs.declared.flush.Flush.{Flush as CellFlush}
 use Rattle.ranked.specs.Flush.{covers as covers_by}
@@ -16,8 +17,8 @@ use Rattle.history.specs.declared.tables.Tables.{Tables}
 use Rattle.history.specs.Changes.{after_command_on, reason_on, reason_in, stub_reason_in}
 use Rattle.history.specs.Event.{covers, flush_of}
 use Rattle.table_changes.specs.Both.{change_of, change_after, change_reason, change_removes, change_table}
-use Rattle.table_changes.specs.Stubs.{stub_code_in}
-use Rattle.table_changes.specs.Zones.{zone_code_in}
+use Rattle.table_changes.specs.Stubs.{stub_code}
+use Rattle.table_changes.specs.Zones.{zone_code}
 use Rattle.table_changes.specs.declared.tables.TableChange.{TableChange}
 use Rattle.world_book.specs.Removals.{removes}
 use Rattle.world_book.specs.Step.{code_of}
@@ -37,7 +38,7 @@ abbrev reason_by : Option TableChange → Tables → Option ℕ
 reason_by None t = None
 reason_by (Some change) t = change_reason change t
 
-zone_codes : (o : Option TableFault) → zone_code_in o ≡ option_map code_of (reason_in o)
+zone_codes : (o : Option TableFault) → (o >>= zone_code) ≡ option_map code_of (reason_in o)
 zone_codes None = refl
 zone_codes (Some fault.BelowRedirect) = refl
 zone_codes (Some fault.DataBelow) = refl
@@ -45,7 +46,7 @@ zone_codes (Some fault.CnameClash) = refl
 zone_codes (Some fault.TooMany) = refl
 zone_codes (Some fault.NoMemory) = refl
 
-stub_codes : (o : Option StubFault) → stub_code_in o ≡ option_map code_of (stub_reason_in o)
+stub_codes : (o : Option StubFault) → (o >>= stub_code) ≡ option_map code_of (stub_reason_in o)
 stub_codes None = refl
 stub_codes (Some stub_fault.TooMany) = refl
 stub_codes (Some stub_fault.NoMemory) = refl

@@ -1,5 +1,6 @@
 -- The changes of stubs.
 use Rattle.std.specs.Prelude.{◌≡◌, ℕ, Bool, false, Option, Some, None}
+use Rattle.dns_name.specs.Options.{◌>>=◌}
 use Rattle.change_law.specs.declared.fault.ChangeFault.{ChangeFault}
 use Rattle.change_law.specs.Effect.{IsFaultFor}
 use Rattle.stub_table.specs.declared.fault.StubFault.{StubFault}
@@ -25,14 +26,9 @@ abbrev pub stub_code : StubFault → Option ℕ
 stub_code TooMany = Some 4
 stub_code NoMemory = None
 
--- the number of a fault's reason, if there is a fault
-abbrev pub stub_code_in : Option StubFault → Option ℕ
-stub_code_in None = None
-stub_code_in (Some fault) = stub_code fault
-
 -- the number of the reason to refuse a change, if there is one
 abbrev pub stub_reason : StubChange → Stubs → Option ℕ
-stub_reason (Set new) stubs = stub_code_in (reason_of_stub new stubs)
+stub_reason (Set new) stubs = reason_of_stub new stubs >>= stub_code
 stub_reason (Drop name) stubs = None
 
 -- The change is made: there was no reason to refuse it, and the table is as after it.

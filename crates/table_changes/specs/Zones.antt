@@ -1,6 +1,7 @@
 -- The changes of zones and records.
 use Rattle.std.specs.Prelude.{◌≡◌, ℕ, Bool, false, Option, Some, None}
 use Rattle.std.specs.List.{list_any}
+use Rattle.dns_name.specs.Options.{◌>>=◌}
 use Rattle.dns_name.specs.Order.{name_eq}
 use Rattle.change_law.specs.declared.fault.ChangeFault.{ChangeFault}
 use Rattle.change_law.specs.Effect.{IsFaultFor}
@@ -33,16 +34,11 @@ zone_code CnameClash = Some 3
 zone_code TooMany = Some 4
 zone_code NoMemory = None
 
--- the number of a fault's reason, if there is a fault
-abbrev pub zone_code_in : Option TableFault → Option ℕ
-zone_code_in None = None
-zone_code_in (Some fault) = zone_code fault
-
 -- the number of the reason to refuse a change, if there is one
 abbrev pub zone_reason : ZoneChange → Tables → Option ℕ
-zone_reason (SetZone name kind) t = zone_code_in (reason_of_set (record { name = name; kind = kind }) t)
+zone_reason (SetZone name kind) t = reason_of_set (record { name = name; kind = kind }) t >>= zone_code
 zone_reason (DropZone name) t = None
-zone_reason (AddRecord new) t = zone_code_in (reason_of_add new t)
+zone_reason (AddRecord new) t = reason_of_add new t >>= zone_code
 zone_reason (DropName name) t = None
 
 -- The change is made: there was no reason to refuse it, and the table is as after it.
