@@ -16,27 +16,18 @@ use Rattle.iterate.specs.Exchanges.{Exchange, exchange, Adds, AreQuiet, is_send}
 use Rattle.iterate.specs.Known.{Known, WasUnknown, IsUnknownYet}
 use Rattle.iterate.specs.Resolved.{ReachedFor}
 use Rattle.iterate.specs.Searching.{IsUnasked, IsBehind}
-use Rattle.iterate.proofs.Growing.{happened_last, path_more, askable_more}
+use Rattle.iterate.proofs.Growing.{allowed_more, happened_last, path_more, askable_more}
 use Rattle.iterate.proofs.Once.{nothing_sent, quiet_more}
 
 -- ---- with one exchange more that is no query
 
 gave_more : {log after : List Exchange} {y : Exchange} {question : Question} {told : AnswerSet} → GaveAlias log question told → Adds log y after → is_send y ≡ false → GaveAlias after question told
 gave_more {y = y} g a is = record {
-  before = g.before;
-  since = g.since ++ y ∷ [];
-  server = g.server;
-  over = g.over;
-  bytes = g.bytes;
-  octets = g.octets;
-  allowance = g.allowance;
-  id = g.id;
   zone = g.zone;
   message = g.message;
-  split = a.adds ∙ ap (λ (xs : List Exchange). xs ++ y ∷ []) g.split ∙ append_assoc g.before (_ ∷ g.since) (y ∷ []);
-  quiet = quiet_more g.since y g.quiet is;
-  query = g.query;
-  response = g.response;
+  allowance = g.allowance;
+  was_allowed = allowed_more g.was_allowed a;
+  quiet = quiet_more g.was_allowed.came.after y g.quiet is;
   given = g.given;
 }
 

@@ -338,20 +338,20 @@ hearing port question before log want searching server id over (Came octets allo
     subst (λ (a : Search). IsHearing port question log a heard (allowed_for heard.says allowance)) (sym same) (record {
       is_search = search_sent w.is_search here refl w.some;
       message = h.message;
-      before = before;
-      upto = log;
-      since = [];
-      server = server;
-      over = over;
-      bytes = w.bytes;
-      octets = octets;
       allowance = allowance;
+      was_allowed = record {
+        server = server;
+        over = over;
+        bytes = w.bytes;
+        id = id;
+        octets = octets;
+        came = record { before = before; after = []; split = here.adds };
+        query = w.query;
+        response = h.response;
+      };
       is_allowed = refl;
-      id = id;
-      query = w.query;
-      response = h.response;
+      upto = log;
       came = here;
-      split = here.adds;
       responds = Known.responded here (unknown_innermost searching w.is_search) (next_serves searching w.is_search w.next) w.query (innermost_hunt searching w.is_search).zone h.response (record { whole = h.whole; says = tells heard.says h.says });
       finds = h.finds;
       chosen = h.chosen;

@@ -6,12 +6,15 @@ use Rattle.std.proofs.lemmas.List.Sums.{sum_by-append}
 use Rattle.dns_name.specs.Labels.{Labels}
 use Rattle.dns_text.specs.declared.addr.Addr.{Addr}
 use Rattle.dns_text.specs.declared.record.Question.{Question}
+use Rattle.dns_wire.specs.declared.message.Message.{Message}
 use Rattle.history.specs.declared.servers.Servers.{Servers}
 use Rattle.iterate.specs.declared.answer.AnswerSet.{AnswerSet}
 use Rattle.iterate.specs.declared.path.Path.{Path}
 use Rattle.iterate.specs.declared.search.Nested.{Nested}
 use Rattle.iterate.specs.declared.search.Hunt.{Hunt}
 use Rattle.iterate.specs.declared.search.Search.{Search}
+use Rattle.iterate.specs.declared.want.Allowance.{Allowance}
+use Rattle.iterate.specs.Come.{WasAllowed}
 use Rattle.iterate.specs.Exchanges.{Exchange, Adds, Happened, is_send, count_sends}
 use Rattle.iterate.specs.Known.{Known, Serves, WasUnknown}
 use Rattle.iterate.specs.Resolved.{BeganUnanswered, Chain, ReachedFor, Struck, Sought}
@@ -21,11 +24,24 @@ use Rattle.iterate.specs.Wanted.{IsAskedFor}
 -- ---- exchanges
 
 -- the exchanges after a place, with one more
-behind_more : {log after : List Exchange} {y : Exchange} (before since : List Exchange) (x : Exchange) → log ≡ before ++ x ∷ since → Adds log y after → after ≡ before ++ x ∷ (since ++ y ∷ [])
+pub behind_more : {log after : List Exchange} {y : Exchange} (before since : List Exchange) (x : Exchange) → log ≡ before ++ x ∷ since → Adds log y after → after ≡ before ++ x ∷ (since ++ y ∷ [])
 behind_more {log} {after} {y} before since x split a = a.adds ∙ ap (λ (xs : List Exchange). xs ++ y ∷ []) split ∙ append_assoc before (x ∷ since) (y ∷ [])
 
 pub happened_more : {log after : List Exchange} {x y : Exchange} → Happened log x → Adds log y after → Happened after x
 happened_more {log} {after} {x} {y} h a = record { before = h.before; after = h.after ++ y ∷ []; split = behind_more h.before h.after x h.split a }
+
+-- with an exchange more, a response is one that came
+abbrev pub allowed_more : {log after : List Exchange} {y : Exchange} {question : Question} {message : Message} {allowance : Allowance} → WasAllowed log question message allowance → Adds log y after → WasAllowed after question message allowance
+allowed_more {y = y} h a = record {
+  server = h.server;
+  over = h.over;
+  bytes = h.bytes;
+  id = h.id;
+  octets = h.octets;
+  came = record { before = h.came.before; after = h.came.after ++ y ∷ []; split = behind_more h.came.before h.came.after _ h.came.split a };
+  query = h.query;
+  response = h.response;
+}
 
 pub happened_last : {log after : List Exchange} {x : Exchange} → Adds log x after → Happened after x
 happened_last {log} {after} {x} a = record { before = log; after = []; split = a.adds }

@@ -107,16 +107,7 @@ harvested {searching = searching} {heard = heard} {allowed = allowed} h next fin
   says = heard.says;
   said = h.says;
   allowance = h.allowance;
-  was_allowed = record {
-    server = h.server;
-    over = h.over;
-    bytes = h.bytes;
-    id = h.id;
-    octets = h.octets;
-    came = record { before = h.before; after = h.since; split = h.split };
-    query = h.query;
-    response = h.response;
-  };
+  was_allowed = h.was_allowed;
   among = subst (λ (n : ℕ). Contains (take (min 64 n) (chosen_in h.message (question_of searching) (hunt_of searching).servers.zone)) (said_by find)) h.is_allowed
       (subst (λ (xs : List Said). Contains (take (min 64 allowed) xs) (said_by find)) h.chosen
       (subst (λ (xs : List Said). Contains xs (said_by find)) (sym (take-map said_by (min 64 allowed) heard.harvest.chosen))

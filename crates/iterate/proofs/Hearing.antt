@@ -46,7 +46,7 @@ use Rattle.iterate.specs.Told.{soa_whole, IsAddressIn}
 use Rattle.iterate.proofs.Coming.{inner, below}
 use Rattle.iterate.proofs.Falling.{few_is, less_than, coming_falls, looks_fall, ended_falls, path_digits}
 use Rattle.iterate.proofs.Hunts.{search_digits}
-use Rattle.iterate.proofs.Growing.{search_looked}
+use Rattle.iterate.proofs.Growing.{allowed_more, search_looked}
 use Rattle.iterate.proofs.Once.{all_looked, quiet_more}
 
 -- ---- what is known
@@ -60,7 +60,8 @@ known_since {port} {fact} (x ∷ since) upto log split known =
 pub responding : {port : ℕ} {question : Question} {log : List Exchange} {searching : Search} {heard : Heard} {allowed : ℕ} → (h : IsHearing port question log searching heard allowed)
     → Known port log (Responds (hunt_of searching).servers.zone (question_of searching) h.message)
 responding {log = log} h =
-    known_since h.since h.upto log (h.split ∙ sym (append_assoc h.before _ h.since) ∙ ap (λ (l : List Exchange). l ++ h.since) (sym h.came.adds)) h.responds
+    let was = h.was_allowed.came in
+    known_since was.after h.upto log (was.split ∙ sym (append_assoc was.before _ was.after) ∙ ap (λ (l : List Exchange). l ++ was.after) (sym h.came.adds)) h.responds
 
 -- With an exchange more that is no query, the response is still heard.
 pub hearing_more : {port : ℕ} {question : Question} {log after : List Exchange} {y : Exchange} {searching : Search} {heard : Heard} {allowed : ℕ} → IsHearing port question log searching heard allowed → Adds log y after → is_send y ≡ false
@@ -68,27 +69,18 @@ pub hearing_more : {port : ℕ} {question : Question} {log after : List Exchange
 hearing_more {port} {y = y} {searching = searching} h a is = record {
   is_search = search_looked h.is_search a is;
   message = h.message;
-  before = h.before;
-  upto = h.upto;
-  since = h.since ++ y ∷ [];
-  server = h.server;
-  over = h.over;
-  bytes = h.bytes;
-  octets = h.octets;
   allowance = h.allowance;
+  was_allowed = allowed_more h.was_allowed a;
   is_allowed = h.is_allowed;
-  id = h.id;
-  query = h.query;
-  response = h.response;
+  upto = h.upto;
   came = h.came;
-  split = a.adds ∙ ap (λ (xs : List Exchange). xs ++ y ∷ []) h.split ∙ append_assoc h.before (_ ∷ h.since) (y ∷ []);
   responds = h.responds;
   finds = h.finds;
   chosen = h.chosen;
   passing = h.passing;
   says = h.says;
   orderly = all_looked port searching.base searching.path.last Turn.heard searching.frames.items a is h.orderly;
-  quiet = quiet_more h.since y h.quiet is;
+  quiet = quiet_more h.was_allowed.came.after y h.quiet is;
 }
 
 -- ---- the book
@@ -148,20 +140,21 @@ referred {port} {searching = searching} referral h is = subst (λ (s : Says). Is
 
 -- The servers to which a response refers are reached.
 pub referring : {port : ℕ} {question : Question} {log : List Exchange} {searching : Search} {heard : Heard} (referral : Referral) (servers : Servers) {allowed : ℕ} → (h : IsHearing port question log searching heard allowed)
-    → heard.says ≡ Refers referral → servers ≡ servers_referred referral → IsReached port log (question_of searching) h.since servers
+    → heard.says ≡ Refers referral → servers ≡ servers_referred referral → IsReached port log (question_of searching) h.was_allowed.came.after servers
 referring {port} {question} {log} {searching} {heard} referral servers h is same =
     let r = referred referral h is in
-    subst (λ (s : Servers). IsReached port log (question_of searching) h.since s) (sym same) (record {
-      reached = ReachedFor.by_referral h.before h.upto h.server h.over h.bytes h.octets h.allowance h.split h.came h.responds r refl;
+    let was = h.was_allowed in
+    subst (λ (s : Servers). IsReached port log (question_of searching) was.came.after s) (sym same) (record {
+      reached = ReachedFor.by_referral was.came.before h.upto was.server was.over was.bytes was.octets h.allowance was.came.split h.came h.responds r refl;
       listed = Known.referred (responding h) r;
       above = r.above;
       quiet = h.quiet;
     })
 
 pub referring_last : {port : ℕ} {question : Question} {log : List Exchange} {searching : Search} {heard : Heard} (referral : Referral) (servers : Servers) {allowed : ℕ} → (h : IsHearing port question log searching heard allowed)
-    → searching.frames.items ≡ [] → heard.says ≡ Refers referral → servers ≡ servers_referred referral → IsReached port log searching.path.last h.since servers
+    → searching.frames.items ≡ [] → heard.says ≡ Refers referral → servers ≡ servers_referred referral → IsReached port log searching.path.last h.was_allowed.came.after servers
 referring_last {port} {log = log} {searching = searching} referral servers h none is same =
-    subst (λ (q : Question). IsReached port log q h.since servers) (question_last searching none) (referring referral servers h is same)
+    subst (λ (q : Question). IsReached port log q h.was_allowed.came.after servers) (question_last searching none) (referring referral servers h is same)
 
 -- ---- a response to a question for the address of a server
 
@@ -214,20 +207,11 @@ given_by zone asked message harvest question (Passing set) finds passing first =
 gave : {port : ℕ} {question : Question} {log : List Exchange} {searching : Search} {heard : Heard} {allowed : ℕ} → (h : IsHearing port question log searching heard allowed)
     → (told : AnswerSet) → IsToldBy heard.harvest (alias_question (question_of searching).owner) told → GaveAlias log (question_of searching) told
 gave {searching = searching} {heard = heard} h told t = record {
-  before = h.before;
-  since = h.since;
-  server = h.server;
-  over = h.over;
-  bytes = h.bytes;
-  octets = h.octets;
-  allowance = h.allowance;
-  id = h.id;
   zone = (hunt_of searching).servers.zone;
   message = h.message;
-  split = h.split;
+  allowance = h.allowance;
+  was_allowed = h.was_allowed;
   quiet = h.quiet;
-  query = h.query;
-  response = h.response;
   given = subst (λ (s : AnswerSet). IsGiven (hunt_of searching).servers.zone (question_of searching) h.message (alias_question (question_of searching).owner) s) (sym t.is)
       (given_by (hunt_of searching).servers.zone (question_of searching) h.message heard.harvest (alias_question (question_of searching).owner) t.set h.finds h.passing t.believed);
 }

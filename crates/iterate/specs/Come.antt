@@ -1,5 +1,5 @@
 -- How a task comes to a name: along aliases, and before it sends a query for it.
-use Rattle.std.specs.Prelude.{◌≡◌, ℕ, List, ◌∷◌, ◌++◌}
+use Rattle.std.specs.Prelude.{ℕ, List}
 use Rattle.std.specs.List.{Contains}
 use Rattle.dns_name.specs.Labels.{Labels}
 use Rattle.dns_text.specs.declared.record.Question.{Question}
@@ -19,7 +19,7 @@ use Rattle.iterate.specs.declared.answer.AnswerSet.TheVariants.{Passing as Passi
 use Rattle.iterate.specs.declared.want.Allowance.{Allowance}
 use Rattle.iterate.specs.declared.want.Input.TheVariants.{Came}
 use Rattle.iterate.specs.declared.want.Want.TheVariants.{Send}
-use Rattle.iterate.specs.Exchanges.{Exchange, exchange, AreQuiet}
+use Rattle.iterate.specs.Exchanges.{Exchange, exchange, AreQuiet, Happened}
 use Rattle.iterate.specs.Known.{Known, Had}
 use Rattle.iterate.specs.Resolved.{question_at}
 use Rattle.iterate.specs.Told.{IsTarget, told_whole}
@@ -29,22 +29,24 @@ pub data IsGiven (zone : Labels) (asked : Question) (v : Message) (question : Qu
   find : {find : Find} → Contains (finds_in v asked zone) (said_by find) → IsFoundFor question (said_by find) → IsGiven zone asked v question (told_whole find)
   passing : {set : PassingSet} → Contains (passing_in v asked zone) (set_of set) → IsPassingFor question (set_of set) → IsGiven zone asked v question (PassingTold set)
 
--- The last query asked this, and its response gives this set of aliases of the name.
-pub record GaveAlias (log : List Exchange) (question : Question) (told : AnswerSet) : Type 0 where
-  pub before : List Exchange
-  pub since : List Exchange
+-- The response to a query of this question came with this allowance of finds for the book.
+pub record WasAllowed (log : List Exchange) (question : Question) (message : Message) (allowance : Allowance) : Type 0 where
   pub server : Addr
   pub over : Over
   pub bytes : List ℕ
-  pub octets : List ℕ
-  pub allowance : Allowance
   pub id : ℕ
-  pub zone : Labels
-  pub message : Message
-  pub split : log ≡ before ++ exchange (Send server over bytes) (Came octets allowance) ∷ since
-  pub quiet : AreQuiet since
+  pub octets : List ℕ
+  pub came : Happened log (exchange (Send server over bytes) (Came octets allowance))
   pub query : IsQuery bytes id question
   pub response : IsResponse id question octets message
+
+-- The last query asked this, and its response gives this set of aliases of the name.
+pub record GaveAlias (log : List Exchange) (question : Question) (told : AnswerSet) : Type 0 where
+  pub zone : Labels
+  pub message : Message
+  pub allowance : Allowance
+  pub was_allowed : WasAllowed log question message allowance
+  pub quiet : AreQuiet was_allowed.came.after
   pub given : IsGiven zone question message (alias_question question.owner) told
 
 -- A task came to this name, and sent no query since. It begins at the name asked. An alias that is known leads on where no query was sent

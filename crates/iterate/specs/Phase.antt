@@ -1,5 +1,5 @@
 -- Where a task is: what is remembered in each phase, and what a step has to bring.
-use Rattle.std.specs.Prelude.{◌≡◌, ℕ, ◌<◌, ◌≤◌, List, [], ◌∷◌, ◌++◌, length, map}
+use Rattle.std.specs.Prelude.{◌≡◌, ℕ, ◌<◌, ◌≤◌, List, [], ◌∷◌, length, map}
 use Rattle.dns_name.specs.Labels.{Labels}
 use Rattle.dns_text.specs.declared.addr.Addr.{Addr}
 use Rattle.dns_text.specs.declared.record.Question.{Question}
@@ -7,7 +7,6 @@ use Rattle.dns_wire.specs.declared.message.Message.{Message}
 use Rattle.dns_query.specs.declared.over.Over.{Over}
 use Rattle.dns_query.specs.declared.verdict.Heard.{Heard}
 use Rattle.dns_query.specs.Query.{IsQuery, address_question, alias_question}
-use Rattle.dns_query.specs.Response.{IsResponse}
 use Rattle.dns_query.specs.Verdict.{IsSaid}
 use Rattle.harvest.specs.Chosen.{chosen_in}
 use Rattle.harvest.specs.Harvest.{finds_in, passing_in}
@@ -33,6 +32,7 @@ use Rattle.iterate.specs.declared.want.Input.TheVariants.{Begin, Reply, Refused,
 use Rattle.iterate.specs.declared.want.Step.{Step}
 use Rattle.iterate.specs.declared.want.Want.{Want}
 use Rattle.iterate.specs.declared.want.Want.TheVariants.{Book, Send, Finish}
+use Rattle.iterate.specs.Come.{WasAllowed}
 use Rattle.iterate.specs.Exchanges.{Exchange, exchange, Adds, AreQuiet, last_behind, count_sends}
 use Rattle.iterate.specs.Following.{IsHarvestOf}
 use Rattle.iterate.specs.Known.{Known, Responds, IsUnknownYet}
@@ -106,27 +106,18 @@ pub record IsWaiting (port : ℕ) (question : Question) (log : List Exchange) (w
 pub record IsHearing (port : ℕ) (question : Question) (log : List Exchange) (search : Search) (heard : Heard) (allowed : ℕ) : Type 0 where
   pub is_search : IsSearch port question log search
   pub message : Message
-  pub before : List Exchange
-  pub upto : List Exchange
-  pub since : List Exchange
-  pub server : Addr
-  pub over : Over
-  pub bytes : List ℕ
-  pub octets : List ℕ
   pub allowance : Allowance
+  pub was_allowed : WasAllowed log (question_of search) message allowance
   pub is_allowed : allowed ≡ allowed_for heard.says allowance
-  pub id : ℕ
-  pub query : IsQuery bytes id (question_of search)
-  pub response : IsResponse id (question_of search) octets message
-  pub came : Adds before (exchange (Send server over bytes) (Came octets allowance)) upto
-  pub split : log ≡ before ++ exchange (Send server over bytes) (Came octets allowance) ∷ since
+  pub upto : List Exchange
+  pub came : Adds was_allowed.came.before (exchange (Send was_allowed.server was_allowed.over was_allowed.bytes) (Came was_allowed.octets allowance)) upto
   pub responds : Known port upto (Responds (hunt_of search).servers.zone (question_of search) message)
   pub finds : map said_by heard.harvest.finds ≡ finds_in message (question_of search) (hunt_of search).servers.zone
   pub chosen : map said_by heard.harvest.chosen ≡ chosen_in message (question_of search) (hunt_of search).servers.zone
   pub passing : map set_of heard.harvest.passing ≡ passing_in message (question_of search) (hunt_of search).servers.zone
   pub says : IsSaid port (hunt_of search).servers.zone (question_of search) message heard.says
   pub orderly : IsOrderly port log search Turn.heard
-  pub quiet : AreQuiet since
+  pub quiet : AreQuiet was_allowed.came.after
 
 -- A response was heard, its find at this place was being handed over in this attempt, and this came of it.
 pub record IsTold (port : ℕ) (question : Question) (log : List Exchange) (search : Search) (heard : Heard) (allowed next : ℕ) (tried : Attempt) (input : Input) : Type 0 where

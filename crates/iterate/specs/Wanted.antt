@@ -10,7 +10,6 @@ use Rattle.dns_wire.specs.declared.message.Message.{Message}
 use Rattle.dns_query.specs.declared.over.Over.{Over}
 use Rattle.dns_query.specs.declared.over.Over.TheVariants.{Udp, Tcp}
 use Rattle.dns_query.specs.Query.{IsQuery, address_question}
-use Rattle.dns_query.specs.Response.{IsResponse}
 use Rattle.dns_query.specs.Verdict.{IsSaid, IsTruncated}
 use Rattle.dns_query.specs.declared.verdict.Says.{Says}
 use Rattle.harvest.specs.Chosen.{chosen_in}
@@ -27,22 +26,11 @@ use Rattle.iterate.specs.declared.want.Input.TheVariants.{Came}
 use Rattle.iterate.specs.declared.want.Want.{Want}
 use Rattle.iterate.specs.declared.want.Want.TheVariants.{Book, Send, Finish}
 use Rattle.iterate.specs.Exchanges.{Exchange, exchange, Happened}
-use Rattle.iterate.specs.Come.{HasCome}
+use Rattle.iterate.specs.Come.{HasCome, WasAllowed}
 use Rattle.iterate.specs.Known.{Known, Listed, Serves, Responds, WasUnknown, IsUnknownYet}
 use Rattle.iterate.specs.Resolved.{IsResolved, Chain, IsOneOf, ReachedFor, question_at}
 use Rattle.iterate.specs.Room.{IsFull, IsFullAgain, IsNamed, MayHand, allowed_for}
 use Rattle.iterate.specs.Served.{served_name}
-
--- The response to a query of this question came with this allowance of finds for the book.
-pub record WasAllowed (log : List Exchange) (question : Question) (message : Message) (allowance : Allowance) : Type 0 where
-  pub server : Addr
-  pub over : Over
-  pub bytes : List ℕ
-  pub id : ℕ
-  pub octets : List ℕ
-  pub came : Happened log (exchange (Send server over bytes) (Came octets allowance))
-  pub query : IsQuery bytes id question
-  pub response : IsResponse id question octets message
 
 -- A find is one of those chosen from the harvest of a response, and of the first of them: as many may be handed to a book, by what the response says.
 pub record IsHarvested (port : ℕ) (log : List Exchange) (find : Find) : Type 0 where

@@ -33,7 +33,7 @@ returns-in-Denies-clause-goes g c = λ port question log allowed h.
 pub returns-in_ok-refer_base-in-Refers-clause-goes : goal.returns-in_ok-refer_base-in-Refers-clause-goes
 returns-in_ok-refer_base-in-Refers-clause-goes g c = λ port question log allowed h.
     let r = referring_last c.in-Refers.referral c.in_ok-servers-in-Refers.servers h c.requires c.in-Refers.is c.in_ok-servers-in-Refers.ensures in
-    let s = c.in_ok-refer_base-in-Refers.ensures.reached port question log h.since h.is_search r in
+    let s = c.in_ok-refer_base-in-Refers.ensures.reached port question log h.was_allowed.came.after h.is_search r in
     IfOk-weaker c.go_on.result _ _ (λ t goes. from_less s.falls goes) (c.go_on.ensures.goes port question log s.is_search s.orderly)
 
 pub returns-in_ok-harvest-in-Answers-clause-answers : goal.returns-in_ok-harvest-in-Answers-clause-answers

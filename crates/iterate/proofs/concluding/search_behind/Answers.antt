@@ -29,7 +29,7 @@ returns-in-Denies-clause-smaller c = λ question log allowed h.
 pub returns-clause-smaller : goal.returns-clause-smaller
 returns-clause-smaller c = λ question log allowed h.
     let r = referring c.in-Refers.referral c.in_ok-servers-in-Refers.servers h c.in-Refers.is c.in_ok-servers-in-Refers.ensures in
-    c.refer_frame.ensures.reached c.args.port question log h.since Turn.heard h.is_search h.orderly r
+    c.refer_frame.ensures.reached c.args.port question log h.was_allowed.came.after Turn.heard h.is_search h.orderly r
 
 pub returns-in-Answers-clause-answers : goal.returns-in-Answers-clause-answers
 returns-in-Answers-clause-answers c = λ says.
