@@ -30,7 +30,7 @@ use Rattle.stub_table.specs.declared.stub.Stub.{Stub}
 use Rattle.command_text.specs.Addrs.{addrs_text}
 use Rattle.command_text.specs.Stubs.{stub_words, stub_of, set_stub_in, drop_stub_in}
 use Rattle.command_text.specs.Local.{zone_of, set_zone_in, drop_zone_in, drop_name_in, record_words, add_record_in}
-use Rattle.command_text.specs.Line.{is_silent, flush_in, flush_type_in, flush_zone_in, local_zone_in, local_zone_remove_in, local_data_in, local_data_remove_in, stub_add_in, stub_remove_in, said_by, read_of}
+use Rattle.command_text.specs.Line.{is_silent, flush_in, flush_type_in, flush_zone_in, do_line, said_by, read_of}
 use Rattle.command_text.specs.CommandWords.{command_words, IsAddr, ReadsCommands}
 use Rattle.command_text.proofs.AddrWords.{first-addr, addrs-again}
 
@@ -132,28 +132,28 @@ zone_type_read AlwaysRefuse = record { word = refl; value = refl }
 zone_type_read AlwaysNxDomain = record { word = refl; value = refl }
 zone_type_read AlwaysNoData = record { word = refl; value = refl }
 
-local_zone_read : Written → (name : Labels) (kind : ZoneType) → IsName name → local_zone_in (32 ∷ (text_of name ++ 32 ∷ word_of kind)) ≡ Ok (RequestLine (Do (SetZone name kind)))
-unfolding local_zone_in set_zone_in question_words zone_of
+local_zone_read : Written → (name : Labels) (kind : ZoneType) → IsName name → do_line (set_zone_in (32 ∷ (text_of name ++ 32 ∷ word_of kind))) ≡ Ok (RequestLine (Do (SetZone name kind)))
+unfolding do_line set_zone_in question_words zone_of
 local_zone_read w name kind h =
     let written = w.names name h in
     let type = zone_type_read kind in
     rw (written.0.first (word_of kind), type.word, written.1, type.value) refl
 
-local_zone_remove_read : Written → (name : Labels) → IsName name → local_zone_remove_in (32 ∷ text_of name) ≡ Ok (RequestLine (Do (DropZone name)))
-unfolding local_zone_remove_in drop_zone_in
+local_zone_remove_read : Written → (name : Labels) → IsName name → do_line (drop_zone_in (32 ∷ text_of name)) ≡ Ok (RequestLine (Do (DropZone name)))
+unfolding do_line drop_zone_in
 local_zone_remove_read w name h = rw (name_read w name h) refl
 
-local_data_remove_read : Written → (name : Labels) → IsName name → local_data_remove_in (32 ∷ text_of name) ≡ Ok (RequestLine (Do (DropName name)))
-unfolding local_data_remove_in drop_name_in
+local_data_remove_read : Written → (name : Labels) → IsName name → do_line (drop_name_in (32 ∷ text_of name)) ≡ Ok (RequestLine (Do (DropName name)))
+unfolding do_line drop_name_in
 local_data_remove_read w name h = rw (name_read w name h) refl
 
-stub_remove_read : Written → (name : Labels) → IsName name → stub_remove_in (32 ∷ text_of name) ≡ Ok (RequestLine (Do (DropStub name)))
-unfolding stub_remove_in drop_stub_in
+stub_remove_read : Written → (name : Labels) → IsName name → do_line (drop_stub_in (32 ∷ text_of name)) ≡ Ok (RequestLine (Do (DropStub name)))
+unfolding do_line drop_stub_in
 stub_remove_read w name h = rw (name_read w name h) refl
 
 stub_add_by : Written → (name : Labels) (addrs : List Addr) → IsName name → 0 < length addrs → AllByRecursion IsAddr addrs
-    → stub_add_in (32 ∷ (text_of name ++ addrs_text addrs)) ≡ Ok (RequestLine (Do (SetStub (record { name = name; addrs = addrs }))))
-unfolding stub_add_in set_stub_in stub_words stub_of
+    → do_line (set_stub_in (32 ∷ (text_of name ++ addrs_text addrs))) ≡ Ok (RequestLine (Do (SetStub (record { name = name; addrs = addrs }))))
+unfolding do_line set_stub_in stub_words stub_of
 stub_add_by w name [] h some each = absurd (omega arith)
 stub_add_by w name (addr ∷ addrs) h some each =
     let written = w.names name h in
@@ -175,8 +175,8 @@ unfolding record_in
 record_behind text = refl
 
 local_data_read : Written → (r : Record) → IsName r.owner → r.kind < 2 ^ 16 → is_excluded r.kind ≡ false → r.ttl < 2 ^ 31 → data_in r.kind (data_text r.body) ≡ Some r.body
-    → local_data_in (32 ∷ record_text r) ≡ Ok (RequestLine (Do (AddRecord r)))
-unfolding local_data_in add_record_in
+    → do_line (add_record_in (32 ∷ record_text r)) ≡ Ok (RequestLine (Do (AddRecord r)))
+unfolding do_line add_record_in
 local_data_read w r h small known ttl again =
     rw (has_words w r h small ttl, record_behind (record_text r), w.records r h small known ttl again) refl
 

@@ -7,6 +7,7 @@ use Rattle.dns_text.specs.Number.{number_in}
 use Rattle.history.specs.declared.event.Ask.TheVariants.{Answer, Servers as ServersAsk, Zones, Records, Stubs, Commands as CommandsAsk, Buried as BuriedAsk, Oldest as OldestAsk, After, NextUndo}
 use Rattle.history.specs.declared.event.Move.{Move}
 use Rattle.history.specs.declared.event.Move.TheVariants as move
+use Rattle.history.specs.declared.event.Command.{Command}
 use Rattle.history.specs.declared.event.Command.TheVariants.{Flush as FlushCommand, FlushType as FlushTypeCommand, FlushZone as FlushZoneCommand}
 use Rattle.command_text.specs.declared.line.Line.{Line}
 use Rattle.command_text.specs.declared.line.Line.TheVariants.{Silent, At as AtLine, Admit as AdmitLine, Deny as DenyLine, Request as RequestLine, Stop as StopLine, Status as StatusLine, Stats as StatsLine}
@@ -141,40 +142,10 @@ flush_zone_in text = do
   name ← only_name text
   Ok (RequestLine (DoRequest (FlushZoneCommand name)))
 
--- `local_zone NAME TYPE`: sets the type of a local zone.
-unfoldable pub local_zone_in : List ℕ → Result Line LineFault
-local_zone_in text = do
-  command ← set_zone_in text
-  Ok (RequestLine (DoRequest command))
-
--- `local_zone_remove NAME`: removes a local zone and its records.
-unfoldable pub local_zone_remove_in : List ℕ → Result Line LineFault
-local_zone_remove_in text = do
-  command ← drop_zone_in text
-  Ok (RequestLine (DoRequest command))
-
--- `local_data RECORD`: adds a local record.
-unfoldable pub local_data_in : List ℕ → Result Line LineFault
-local_data_in text = do
-  command ← add_record_in text
-  Ok (RequestLine (DoRequest command))
-
--- `local_data_remove NAME`: removes the local records of a name.
-unfoldable pub local_data_remove_in : List ℕ → Result Line LineFault
-local_data_remove_in text = do
-  command ← drop_name_in text
-  Ok (RequestLine (DoRequest command))
-
--- `stub_add NAME ADDR..`: sets the servers of a stub.
-unfoldable pub stub_add_in : List ℕ → Result Line LineFault
-stub_add_in text = do
-  command ← set_stub_in text
-  Ok (RequestLine (DoRequest command))
-
--- `stub_remove NAME`: removes a stub.
-unfoldable pub stub_remove_in : List ℕ → Result Line LineFault
-stub_remove_in text = do
-  command ← drop_stub_in text
+-- The line that gives a command, if the words of the command were read.
+unfoldable pub do_line : Result Command LineFault → Result Line LineFault
+do_line read = do
+  command ← read
   Ok (RequestLine (DoRequest command))
 
 -- The line of a command, with the text after its word.
@@ -191,12 +162,12 @@ said_by Sweep text = alone (RequestLine SweepRequest) text
 said_by Flush text = flush_in text
 said_by FlushType text = flush_type_in text
 said_by FlushZone text = flush_zone_in text
-said_by LocalZone text = local_zone_in text
-said_by LocalZoneRemove text = local_zone_remove_in text
-said_by LocalData text = local_data_in text
-said_by LocalDataRemove text = local_data_remove_in text
-said_by StubAdd text = stub_add_in text
-said_by StubRemove text = stub_remove_in text
+said_by LocalZone text = do_line (set_zone_in text)
+said_by LocalZoneRemove text = do_line (drop_zone_in text)
+said_by LocalData text = do_line (add_record_in text)
+said_by LocalDataRemove text = do_line (drop_name_in text)
+said_by StubAdd text = do_line (set_stub_in text)
+said_by StubRemove text = do_line (drop_stub_in text)
 said_by ListLocalZones text = alone (RequestLine (LookRequest Zones)) text
 said_by ListLocalData text = alone (RequestLine (LookRequest Records)) text
 said_by ListStubs text = alone (RequestLine (LookRequest Stubs)) text

@@ -3,7 +3,9 @@
 ghost use Rattle.std.specs.Prelude.{◌≡◌, ◌⊎◌, IsTrue, IfErr, IsErrOf, is_ok};
 ghost use Rattle.command_text.specs.declared.fault.LineFault.TheVariants.{BadData, Missing, NoMemory};
 ghost use Rattle.command_text.specs.Fault.{Gives};
-ghost use Rattle.command_text.specs.Line.{is_silent, alone, at_in, admit_in, no_data_in, no_name_in, forget_in, look_in, look_after_in, look_without_in, servers_in, flush_in, flush_type_in, flush_zone_in, local_zone_in, local_zone_remove_in, local_data_in, local_data_remove_in, stub_add_in, stub_remove_in, ticket_in, ticket_of, undo_in, redo_in, said_by, takes_by, read_of, takes_memory};
+ghost use Rattle.command_text.specs.Line.{is_silent, alone, at_in, admit_in, no_data_in, no_name_in, forget_in, look_in, look_after_in, look_without_in, servers_in, flush_in, flush_type_in, flush_zone_in, do_line, ticket_in, ticket_of, undo_in, redo_in, said_by, takes_by, read_of, takes_memory};
+ghost use Rattle.command_text.specs.Local.{set_zone_in, drop_zone_in, add_record_in, drop_name_in};
+ghost use Rattle.command_text.specs.Stubs.{set_stub_in, drop_stub_in};
 
 use crate::admission_find::Admission;
 use crate::admission_words::{admit_words, read_admission};
@@ -222,54 +224,54 @@ fn read_flush_zone(alloc: Global, text: &[u8]) -> Result<Line, LineFault>
     Ok(Line::Request(Request::Do(Command::FlushZone { name })))
 }
 
-#[tactic(auto, unfolding(crate::specs::Line::local_zone_in))]
+#[tactic(auto, unfolding(crate::specs::Line::do_line))]
 fn read_local_zone(alloc: Global, text: &[u8]) -> Result<Line, LineFault>
-    ensures value { Gives result (local_zone_in text.now) }
+    ensures value { Gives result (do_line (set_zone_in text.now)) }
     ensures no_memory { IsErrOf result NoMemory → IsTrue (takes_by Verb.LocalZone text.now) }
 {
     let command = read_set_zone(alloc, text)?;
     Ok(Line::Request(Request::Do(command)))
 }
 
-#[tactic(auto, unfolding(crate::specs::Line::local_zone_remove_in))]
+#[tactic(auto, unfolding(crate::specs::Line::do_line))]
 fn read_local_zone_remove(alloc: Global, text: &[u8]) -> Result<Line, LineFault>
-    ensures value { Gives result (local_zone_remove_in text.now) }
+    ensures value { Gives result (do_line (drop_zone_in text.now)) }
     ensures no_memory { IsErrOf result NoMemory → IsTrue (takes_by Verb.LocalZoneRemove text.now) }
 {
     let command = read_drop_zone(alloc, text)?;
     Ok(Line::Request(Request::Do(command)))
 }
 
-#[tactic(auto, unfolding(crate::specs::Line::local_data_in))]
+#[tactic(auto, unfolding(crate::specs::Line::do_line))]
 fn read_local_data(alloc: Global, text: &[u8]) -> Result<Line, LineFault>
-    ensures value { Gives result (local_data_in text.now) }
+    ensures value { Gives result (do_line (add_record_in text.now)) }
     ensures no_memory { IsErrOf result NoMemory → IsTrue (takes_by Verb.LocalData text.now) }
 {
     let command = read_add_record(alloc, text)?;
     Ok(Line::Request(Request::Do(command)))
 }
 
-#[tactic(auto, unfolding(crate::specs::Line::local_data_remove_in))]
+#[tactic(auto, unfolding(crate::specs::Line::do_line))]
 fn read_local_data_remove(alloc: Global, text: &[u8]) -> Result<Line, LineFault>
-    ensures value { Gives result (local_data_remove_in text.now) }
+    ensures value { Gives result (do_line (drop_name_in text.now)) }
     ensures no_memory { IsErrOf result NoMemory → IsTrue (takes_by Verb.LocalDataRemove text.now) }
 {
     let command = read_drop_name(alloc, text)?;
     Ok(Line::Request(Request::Do(command)))
 }
 
-#[tactic(auto, unfolding(crate::specs::Line::stub_add_in))]
+#[tactic(auto, unfolding(crate::specs::Line::do_line))]
 fn read_stub_add(alloc: Global, text: &[u8]) -> Result<Line, LineFault>
-    ensures value { Gives result (stub_add_in text.now) }
+    ensures value { Gives result (do_line (set_stub_in text.now)) }
     ensures no_memory { IsErrOf result NoMemory → IsTrue (takes_by Verb.StubAdd text.now) }
 {
     let command = read_set_stub(alloc, text)?;
     Ok(Line::Request(Request::Do(command)))
 }
 
-#[tactic(auto, unfolding(crate::specs::Line::stub_remove_in))]
+#[tactic(auto, unfolding(crate::specs::Line::do_line))]
 fn read_stub_remove(alloc: Global, text: &[u8]) -> Result<Line, LineFault>
-    ensures value { Gives result (stub_remove_in text.now) }
+    ensures value { Gives result (do_line (drop_stub_in text.now)) }
     ensures no_memory { IsErrOf result NoMemory → IsTrue (takes_by Verb.StubRemove text.now) }
 {
     let command = read_drop_stub(alloc, text)?;
