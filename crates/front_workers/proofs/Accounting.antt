@@ -7,7 +7,7 @@ use Rattle.flight.specs.Bounds.{IsBounded}
 use Rattle.flight.specs.Counted.{NeverFall, IsFull}
 use Rattle.flight.specs.Origin.{Origin}
 use Rattle.flight.specs.Waiting.{FlightState, GoesOnOrBegins, IsAccounted, WaitsFrom, outstanding}
-use Rattle.front_workers.specs.Accounts.{WorkerState, Accounts, GoesOn, KeepsTime}
+use Rattle.front_workers.specs.Accounts.{WorkerState, Accounts, GoesOn, KeepsOn, KeepsTime}
 use Rattle.front_workers.specs.Asking.{AskingState}
 use Rattle.front_workers.specs.Endings.{Endings}
 use Rattle.mio.specs.declared.event.event.Event.{Event}
@@ -87,6 +87,41 @@ time_at now a b clock read latest = record { onward = omega arith; latest = omeg
 abbrev pub worker_of : {S : Type 0} → AskingState → ℕ → ℕ → OutboxState S → Counts → ClockState → List Event → WorkerState S
 worker_of asking taken failures outbox counts clock reported = record { asking = asking; taken = taken; failures = failures; outbox = outbox; counts = counts; clock = clock; reported = reported }
 
+-- What is kept on and on is kept.
+pub keeps_then : (a b c : FlightState) {failed failed' failed'' : ℕ} {clock clock' clock'' : ClockState} {asks asks' asks'' : AskingState} → KeepsOn a failed clock asks b failed' clock' asks' → KeepsOn b failed' clock' asks' c failed'' clock'' asks''
+    → KeepsOn a failed clock asks c failed'' clock'' asks''
+keeps_then a b c before after = record {
+  within = λ few. omega (arith, after.within (omega (arith, before.within few, before.limit)), before.limit);
+  bounded = λ few. after.bounded (before.bounded few);
+  limit = after.limit ∙ before.limit;
+  failures = after.failures ∙ before.failures;
+  time = time_then a b c _ _ _ before.time after.time;
+  asking = after.asking ∙ before.asking;
+}
+
+-- It is kept while no exchange more is under way.
+pub keeps_settled : (a b : FlightState) {failed failed' : ℕ} {clock clock' : ClockState} {asks asks' : AskingState} → outstanding b ≤ outstanding a → (IsBounded a → IsBounded b) → b.limit ≡ a.limit → failed' ≡ failed → asks' ≡ asks
+    → KeepsTime clock a clock' b → KeepsOn a failed clock asks b failed' clock' asks'
+keeps_settled a b no_more bounded limit failures asking time = record {
+  within = λ few. omega (arith, few, no_more);
+  bounded = bounded;
+  limit = limit;
+  failures = failures;
+  time = time;
+  asking = asking;
+}
+
+-- It is kept while nothing in flight changes.
+pub keeps_still : (flight : FlightState) (clock clock' : ClockState) {failed failed' : ℕ} {asks asks' : AskingState} → failed' ≡ failed → asks' ≡ asks → clock.last ≤ clock'.last → KeepsOn flight failed clock asks flight failed' clock' asks'
+keeps_still flight clock clock' failures asking onward = record {
+  within = λ few. few;
+  bounded = λ few. few;
+  limit = refl;
+  failures = failures;
+  time = time_on flight clock clock' onward;
+  asking = asking;
+}
+
 module _ {S : Type 0} {takes sends : Moves S} where
   -- What goes on is accounted for as a whole.
   pub followed : (w w' w'' : ℕ) (old mid new : WorkerState S) → Accounts takes sends w old w' mid → Accounts takes sends w' mid w'' new → Accounts takes sends w old w'' new
@@ -119,12 +154,7 @@ module _ {S : Type 0} {takes sends : Moves S} where
   pub gone_on : (a b c : FlightState) (old mid new : WorkerState S) → GoesOn takes sends a old b mid → GoesOn takes sends b mid c new → GoesOn takes sends a old c new
   gone_on a b c old mid new before after = record {
     accounts = followed _ _ _ old mid new before.accounts after.accounts;
-    within = λ few. omega (arith, after.within (omega (arith, before.within few, before.limit)), before.limit);
-    bounded = λ few. after.bounded (before.bounded few);
-    limit = after.limit ∙ before.limit;
-    failures = after.failures ∙ before.failures;
-    time = time_then a b c old.clock mid.clock new.clock before.time after.time;
-    asking = after.asking ∙ before.asking;
+    keeps = keeps_then a b c before.keeps after.keeps;
   }
 
   -- A query that was taken begins.
@@ -173,12 +203,7 @@ module _ {S : Type 0} {takes sends : Moves S} where
       → new.asking ≡ old.asking → KeepsTime old.clock a new.clock b → GoesOn takes sends a old b new
   looked_on a b old new same accounted ends no_more bounded limit failures asking time = record {
     accounts = went_on _ _ old new same accounted ends;
-    within = λ few. omega (arith, few, no_more);
-    bounded = bounded;
-    limit = limit;
-    failures = failures;
-    time = time;
-    asking = asking;
+    keeps = keeps_settled a b no_more bounded limit failures asking time;
   }
 
   -- Nothing goes on, but what waits may leave, or a datagram is refused.
@@ -186,12 +211,7 @@ module _ {S : Type 0} {takes sends : Moves S} where
       → new.taken ≡ old.taken → new.counts ≡ old.counts → new.failures ≡ old.failures → new.asking ≡ old.asking → old.clock.last ≤ new.clock.last → GoesOn takes sends flight old flight new
   stayed flight old new ends taken counts failures asking onward = record {
     accounts = went_on _ _ old new taken (rw counts (same_counts (outstanding flight) old.counts)) ends;
-    within = λ few. few;
-    bounded = λ few. few;
-    limit = refl;
-    failures = failures;
-    time = time_on flight old.clock new.clock onward;
-    asking = asking;
+    keeps = keeps_still flight old.clock new.clock failures asking onward;
   }
 
   -- Datagrams are taken, and nothing else happens.
@@ -212,12 +232,7 @@ module _ {S : Type 0} {takes sends : Moves S} where
             | inr full ↦ inr (inl full)
           ];
         };
-        within = λ few. few;
-        bounded = λ few. few;
-        limit = refl;
-        failures = failures;
-        time = time_on flight old.clock new.clock onward;
-        asking = asking;
+        keeps = keeps_still flight old.clock new.clock failures asking onward;
       }
 
   -- A failure changes nothing of it.

@@ -14,7 +14,7 @@ use Rattle.front.specs.Passages.{Passes}
 use Rattle.front_workers.specs.Streaming.{AreAccounted, BeginsClient, IsMessageOf, MessageBegins, OwesTo, StreamGoesOn, StreamRuns, StreamWorker, begins, settles, stays, tends}
 use Rattle.front_workers.specs.Accounts.{KeepsTime}
 use Rattle.front_workers.specs.Asking.{AskingState}
-use Rattle.front_workers.proofs.Accounting.{full_on, none_fell, time_on, time_then}
+use Rattle.front_workers.proofs.Accounting.{full_on, keeps_settled, keeps_still, keeps_then, none_fell}
 
 -- the visible state of a worker, by its parts
 abbrev pub stream_of : {S : Type 0} → AskingState → ℕ → ℕ → ConnectionsState S → Counts → ClockState → List Event → StreamWorker S
@@ -76,12 +76,7 @@ module _ {S : Type 0} {reads writes : Passes S} {drained : Type 0} where
   streams_then a b c old mid new before after = record {
     runs = runs_on before.runs after.runs;
     accounts = accounts_then _ _ _ _ _ _ old.counts mid.counts new.counts before.accounts after.accounts;
-    within = λ few. omega (arith, after.within (omega (arith, before.within few, before.limit)), before.limit);
-    bounded = λ few. after.bounded (before.bounded few);
-    limit = after.limit ∙ before.limit;
-    failures = after.failures ∙ before.failures;
-    time = time_then a b c old.clock mid.clock new.clock before.time after.time;
-    asking = after.asking ∙ before.asking;
+    keeps = keeps_then a b c before.keeps after.keeps;
   }
 
   -- Connections begin, go on and end.
@@ -93,12 +88,7 @@ module _ {S : Type 0} {reads writes : Passes S} {drained : Type 0} where
       never_fall = record { settled = omega arith; opened = omega arith; ended = omega arith; listened = omega arith; expired = omega arith };
       add_up = inl (record { clients = omega arith; exchanges = omega arith });
     }));
-    within = λ few. few;
-    bounded = λ few. few;
-    limit = refl;
-    failures = failures;
-    time = time_on flight old.clock new.clock onward;
-    asking = asking;
+    keeps = keeps_still flight old.clock new.clock failures asking onward;
   }
 
   -- Clients that wait are settled, or wait on.
@@ -108,12 +98,7 @@ module _ {S : Type 0} {reads writes : Passes S} {drained : Type 0} where
   streams_settle a b old new ends accounted no_more bounded limit taken failures asking time = record {
     runs = settles stays ends taken;
     accounts = accounts_on _ _ _ _ old.counts new.counts taken accounted;
-    within = λ few. omega (arith, few, no_more);
-    bounded = bounded;
-    limit = limit;
-    failures = failures;
-    time = time;
-    asking = asking;
+    keeps = keeps_settled a b no_more bounded limit failures asking time;
   }
 
   -- A message came, and began.
@@ -124,12 +109,14 @@ module _ {S : Type 0} {reads writes : Passes S} {drained : Type 0} where
       record {
         runs = begins stays one;
         accounts = rw taken at (rw counts at begun.accounts);
-        within = begun.within;
-        bounded = begun.bounded;
-        limit = begun.limit;
-        failures = begun.failures ∙ failures;
-        time = rw clock at begun.time;
-        asking = begun.asking ∙ asking;
+        keeps = record {
+          within = begun.keeps.within;
+          bounded = begun.keeps.bounded;
+          limit = begun.keeps.limit;
+          failures = begun.keeps.failures ∙ failures;
+          time = rw clock at begun.keeps.time;
+          asking = begun.keeps.asking ∙ asking;
+        };
       }
 
 -- All but the connections is as it was, and is so on.

@@ -55,12 +55,16 @@ pub record QuestionsGoOn {O K : Type 0} (sent : K → List ℕ → Type 0) (post
   pub bounded : IsBounded flight → IsBounded flight'
   pub limit : flight'.limit ≡ flight.limit
 
--- A worker went on with its questions in flight: each is accounted for, the limit of exchanges is kept, what they keep stays within its bound, no turn failed, exchanges begin at moments that its clock read, and it asks name servers as before.
-pub record GoesOn {S : Type 0} (takes sends : Moves S) (flight : FlightState) (old : WorkerState S) (flight' : FlightState) (new : WorkerState S) : Type 0 where
-  pub accounts : Accounts takes sends (outstanding flight) old (outstanding flight') new
+-- What a worker keeps that goes on: the limit of exchanges, the bound of what questions keep, how many turns failed, the clock by which exchanges begin, and how it asks name servers.
+pub record KeepsOn (flight : FlightState) (failed : ℕ) (clock : ClockState) (asks : AskingState) (flight' : FlightState) (failed' : ℕ) (clock' : ClockState) (asks' : AskingState) : Type 0 where
   pub within : outstanding flight ≤ flight.limit → outstanding flight' ≤ flight.limit
   pub bounded : IsBounded flight → IsBounded flight'
   pub limit : flight'.limit ≡ flight.limit
-  pub failures : new.failures ≡ old.failures
-  pub time : KeepsTime old.clock flight new.clock flight'
-  pub asking : new.asking ≡ old.asking
+  pub failures : failed' ≡ failed
+  pub time : KeepsTime clock flight clock' flight'
+  pub asking : asks' ≡ asks
+
+-- A worker went on with its questions in flight: each is accounted for, the limit of exchanges is kept, what they keep stays within its bound, no turn failed, exchanges begin at moments that its clock read, and it asks name servers as before.
+pub record GoesOn {S : Type 0} (takes sends : Moves S) (flight : FlightState) (old : WorkerState S) (flight' : FlightState) (new : WorkerState S) : Type 0 where
+  pub accounts : Accounts takes sends (outstanding flight) old (outstanding flight') new
+  pub keeps : KeepsOn flight old.failures old.clock old.asking flight' new.failures new.clock new.asking

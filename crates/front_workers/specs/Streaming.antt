@@ -13,7 +13,7 @@ use Rattle.flight.specs.Bounds.{IsBounded, kept_all}
 use Rattle.flight.specs.Counted.{IsFull, NeverFall, no_counts}
 use Rattle.flight.specs.Leaving.{Ends}
 use Rattle.flight.specs.Waiting.{FlightState, IsPatient, IsTimely, outstanding}
-use Rattle.front_workers.specs.Accounts.{KeepsTime}
+use Rattle.front_workers.specs.Accounts.{KeepsOn, KeepsTime}
 use Rattle.front_workers.specs.Asking.{AskingState}
 use Rattle.front_workers.specs.Begun.{none_in_flight}
 use Rattle.front.specs.declared.tcp.client.TcpClient.{TcpClient}
@@ -55,12 +55,7 @@ pub record BeginsClient {S : Type 0} (reads writes : Passes S) (drained : Type 0
   pub ends : Ends IsMessageOf (OwesTo reads writes drained) 1 (outstanding flight) old.connections (outstanding flight') new.connections
   pub own : AllByRecursion (λ end. end.client ≡ client) ends.ends
   pub accounts : AreAccounted (outstanding flight) old.taken old.counts (outstanding flight') new.taken new.counts
-  pub within : outstanding flight ≤ flight.limit → outstanding flight' ≤ flight.limit
-  pub bounded : IsBounded flight → IsBounded flight'
-  pub limit : flight'.limit ≡ flight.limit
-  pub failures : new.failures ≡ old.failures
-  pub time : KeepsTime old.clock flight new.clock flight'
-  pub asking : new.asking ≡ old.asking
+  pub keeps : KeepsOn flight old.failures old.clock old.asking flight' new.failures new.clock new.asking
 
 -- A message comes whole by a connection. The client that is made of it is that connection's, and begins once.
 pub record MessageBegins {S : Type 0} (reads writes : Passes S) (drained : Type 0) (flight : FlightState) (old : StreamWorker S) (flight' : FlightState) (new : StreamWorker S) : Type 0 where
@@ -87,12 +82,7 @@ pub data StreamRuns {S : Type 0} (reads writes : Passes S) (drained : Type 0) (f
 pub record StreamGoesOn {S : Type 0} (reads writes : Passes S) (drained : Type 0) (flight : FlightState) (old : StreamWorker S) (flight' : FlightState) (new : StreamWorker S) : Type 0 where
   pub runs : StreamRuns reads writes drained flight old flight' new
   pub accounts : AreAccounted (outstanding flight) old.taken old.counts (outstanding flight') new.taken new.counts
-  pub within : outstanding flight ≤ flight.limit → outstanding flight' ≤ flight.limit
-  pub bounded : IsBounded flight → IsBounded flight'
-  pub limit : flight'.limit ≡ flight.limit
-  pub failures : new.failures ≡ old.failures
-  pub time : KeepsTime old.clock flight new.clock flight'
-  pub asking : new.asking ≡ old.asking
+  pub keeps : KeepsOn flight old.failures old.clock old.asking flight' new.failures new.clock new.asking
 
 -- In a turn each exchange that the poll had reported was listened to, and each whose time was up by the clock had ended. So had each question whose time was up. Then those that waited kept no more than they may at rest.
 pub record StreamEndsOverdue {S : Type 0} (reads writes : Passes S) (drained : Type 0) (flight : FlightState) (old : StreamWorker S) (flight' : FlightState) (new : StreamWorker S) : Type 0 where

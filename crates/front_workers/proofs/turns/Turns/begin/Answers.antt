@@ -41,12 +41,14 @@ returns-in-Query-clause-goes_on g c =
     let time = time_at c.last_millis-now.result old new c.args.self.now.clock (omega (arith, read)) (latest_begun c.last_millis-now.result _ old new c.begin.ensures.settles.waits) in
     record {
       accounts = begun _ _ _ _ (search rules) (search rules) (endings_within (search rules) refl (endings_of (ends_of c.begin.ensures.settles.ends)));
-      within = search rules;
-      bounded = search rules;
-      limit = search rules;
-      failures = search rules;
-      time = subst (λ (clock : ClockState). KeepsTime c.args.self.now.clock old clock new) (sym kept) time;
-      asking = search rules;
+      keeps = record {
+        within = search rules;
+        bounded = search rules;
+        limit = search rules;
+        failures = search rules;
+        time = subst (λ (clock : ClockState). KeepsTime c.args.self.now.clock old clock new) (sym kept) time;
+        asking = search rules;
+      };
     }
 
 pub returns-in-Query-clause-just : goal.returns-in-Query-clause-just

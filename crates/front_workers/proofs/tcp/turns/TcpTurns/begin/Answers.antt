@@ -1,7 +1,7 @@
 use Rattle.std.proofs.Common.{[], ◌∷◌, Some, refl, arith, rules}
 use Rattle.replies.specs.Reply.{fault_octets}
 use Rattle.flight.proofs.Settling.{accounted_settled}
-use Rattle.front_workers.proofs.Accounting.{latest_begun, time_at, time_on}
+use Rattle.front_workers.proofs.Accounting.{keeps_still, latest_begun, time_at}
 use Rattle.front_workers.proofs.Outboxes.{asking_kept, ends_of}
 use Rattle.front_workers.proofs.Flowing.{accounts_one}
 use Rattle.front_workers.proofs.tcp.turns.TcpTurns.begin.Goals as goal
@@ -16,12 +16,7 @@ returns g c =
           ends = record { ends = (record { client = c.args.client; octets = c.args.octets.now; own = c.requires; reply = Some (fault_octets c.args.octets.now 2) }) ∷ []; left = (_, w.refuse_dear.ensures.posts, refl); count = omega arith };
           own = (refl, tt);
           accounts = accounts_one _ _ _ _ _ _ (search rules) (accounted_settled _ _ _ w.refuse_dear.ensures.settled);
-          within = λ few. few;
-          bounded = λ few. few;
-          limit = refl;
-          failures = refl;
-          time = time_on _ _ _ (omega arith);
-          asking = w.refuse_dear.ensures.asks;
+          keeps = keeps_still _ _ _ refl w.refuse_dear.ensures.asks (omega arith);
         };
         reported = refl;
       }))
@@ -31,13 +26,15 @@ returns g c =
           ends = ends_of w.begin.ensures.settles.ends;
           own = w.begin.ensures.settles.own;
           accounts = accounts_one _ _ _ _ _ _ (search rules) w.begin.ensures.settles.accounted;
-          within = w.begin.ensures.settles.within;
-          bounded = w.begin.ensures.settles.bounded;
-          limit = w.begin.ensures.settles.limit;
-          failures = refl;
-          time = time_at c.last_millis-now.result c.args.questions.now w.begin.new.self c.self.inside.clock (omega (arith, c.last_millis-now.ensures))
-              (latest_begun c.last_millis-now.result _ c.args.questions.now w.begin.new.self w.begin.ensures.settles.waits);
-          asking = asking_kept w.begin.ensures.settles.ends;
+          keeps = record {
+            within = w.begin.ensures.settles.within;
+            bounded = w.begin.ensures.settles.bounded;
+            limit = w.begin.ensures.settles.limit;
+            failures = refl;
+            time = time_at c.last_millis-now.result c.args.questions.now w.begin.new.self c.self.inside.clock (omega (arith, c.last_millis-now.ensures))
+                (latest_begun c.last_millis-now.result _ c.args.questions.now w.begin.new.self w.begin.ensures.settles.waits);
+            asking = asking_kept w.begin.ensures.settles.ends;
+          };
         };
         reported = refl;
       }))
