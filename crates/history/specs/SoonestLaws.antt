@@ -8,11 +8,12 @@ use Rattle.std.specs.declared.cmp.Ordering.TheVariants.{Less, Equal, Greater}
 use Rattle.std.proofs.lemmas.Bool.{cases_Bool, eqb-true}
 use Rattle.std.proofs.lemmas.Bool.Decides.{nat_tests}
 use Rattle.dns_name.specs.Labels.{Labels}
-use Rattle.dns_name.specs.Order.{IsNotAfter, name_cmp, name_cmp_exact, name_eq, name_eq_exact, name_total, not_after_back, not_after_itself, not_after_then}
+use Rattle.dns_name.specs.Order.{IsNotAfter, name_cmp, name_cmp_exact, name_eq, name_eq_exact, name_total, not_after_back}
 use Rattle.ranked.specs.declared.cell.Admitted.{Admitted}
 use Rattle.ranked.specs.declared.find.Find.{Find}
 use Rattle.ranked.specs.Cell.{end_of, is_alive}
-use Rattle.ranked.specs.Oldest.{IsLastEnding}
+use Rattle.ranked.specs.Oldest.{IsLastEnding, IsSooner}
+use Rattle.ranked.specs.OldestLaws.{sooner_itself, sooner_then}
 use Rattle.history.specs.History.{Past}
 use Rattle.history.specs.Oldest.{IsEnding, IsOldest}
 use Rattle.history.specs.OldestFound.{is_sooner, last_end, later_end, oldest_in, sooner_of}
@@ -30,9 +31,6 @@ not_after_both : (a b : Labels) → IsNotAfter a b → IsNotAfter b a → a ≡ 
 not_after_both a b low high = name_cmp_exact a b (equal_by (name_cmp a b) (name_cmp b a) (name_total.antisymm a b) low high)
 
 -- ---- one name alone is the oldest
-
-abbrev IsSooner : ℕ → Labels → ℕ → Labels → Type 0
-IsSooner end name later other = (end < later) ⊎ ((end ≡ later) × IsNotAfter name other)
 
 one_by : (a b : ℕ) (n m : Labels) → IsSooner a n b m → IsSooner b m a n → n ≡ m
 one_by a b n m (inl p) (inl q) = absurd (omega arith)
@@ -77,15 +75,6 @@ module _ (ends : List (Labels × ℕ)) where
   abbrev Sooner : Labels → Labels → Type 0
   Sooner n m = IsSooner (last n) n (last m) m
 
-  sooner_itself : (n : Labels) → Sooner n n
-  sooner_itself n = inr (refl, not_after_itself n)
-
-  sooner_then : (a b c : Labels) → Sooner a b → Sooner b c → Sooner a c
-  sooner_then a b c (inl p) (inl q) = inl (omega arith)
-  sooner_then a b c (inl p) (inr q) = inl (omega (arith, q.0))
-  sooner_then a b c (inr p) (inl q) = inl (omega (arith, p.0))
-  sooner_then a b c (inr p) (inr q) = inr (p.0 ∙ q.0, not_after_then a b c p.1 q.1)
-
   sooner_by : (n m : Labels) → is_sooner ends n m ≡ true → Sooner n m
   sooner_by n m is = elim (cases_Bool (is_le (name_cmp n m))) [
     | inl low ↦ elim (split (last n) (last m) (is_le (name_cmp n m)) is) [ inl less ↦ inl less | inr tied ↦ inr (tied.0, low) ]
@@ -127,15 +116,15 @@ module _ (ends : List (Labels × ℕ)) where
 
   from_none : (m : Labels) (b : Bool) → (last m == 0) ≡ b → Goes None m (cond b None (Some m))
   from_none m true is = record { has = tt; beats = eqb-true (last m) 0 is; keeps = λ k none. none }
-  from_none m false is = record { has = grind (arith, nat_tests); beats = inr (sooner_itself m); keeps = λ k none. inl none }
+  from_none m false is = record { has = grind (arith, nat_tests); beats = inr (sooner_itself (last m) m); keeps = λ k none. inl none }
 
   from_some : (n m : Labels) → 1 ≤ last n → (none sooner : Bool) → (last m == 0) ≡ none → is_sooner ends n m ≡ sooner → Goes (Some n) m (cond (none || sooner) (Some n) (Some m))
   from_some n m has true sooner is by = record { has = has; beats = inl (eqb-true (last m) 0 is); keeps = λ k it. it }
   from_some n m has false true is by = record { has = has; beats = inr (sooner_by n m by); keeps = λ k it. it }
   from_some n m has false false is by = record {
     has = grind (arith, nat_tests);
-    beats = inr (sooner_itself m);
-    keeps = λ k it. elim it [ inl none ↦ inl none | inr later ↦ inr (sooner_then m n k (later_by n m by) later) ];
+    beats = inr (sooner_itself (last m) m);
+    keeps = λ k it. elim it [ inl none ↦ inl none | inr later ↦ inr (sooner_then (last m) (last n) (last k) m n k (later_by n m by) later) ];
   }
 
   goes : (found : Option Labels) (m : Labels) → HasEnd found → Goes found m (sooner_of ends found m)

@@ -3,6 +3,10 @@ use Rattle.std.specs.Prelude.{◌≡◌, ◌⊎◌, ◌<◌, ◌≤◌, ℕ}
 use Rattle.dns_name.specs.Labels.{Labels}
 use Rattle.dns_name.specs.Order.{IsNotAfter}
 
+-- A second comes before another, or they are the same and so do the names.
+abbrev pub IsSooner : ℕ → Labels → ℕ → Labels → Type 0
+IsSooner end name later other = (end < later) ⊎ ((end ≡ later) × IsNotAfter name other)
+
 -- Of the seconds in which finds of a name end, it is the last.
 pub record IsLastEnding (Ends : Labels → ℕ → Type 0) (name : Labels) (end : ℕ) : Type 0 where
   pub ending : Ends name end
@@ -12,7 +16,7 @@ pub record IsLastEnding (Ends : Labels → ℕ → Type 0) (name : Labels) (end 
 pub record EndsFirst (Ends : Labels → ℕ → Type 0) (name : Labels) : Type 0 where
   pub end : ℕ
   pub own : IsLastEnding Ends name end
-  pub first : (other : Labels) (later : ℕ) → IsLastEnding Ends other later → (end < later) ⊎ ((end ≡ later) × IsNotAfter name other)
+  pub first : (other : Labels) (later : ℕ) → IsLastEnding Ends other later → IsSooner end name later other
 
 -- No find of any name ends.
 abbrev pub NoneEnds : (Labels → ℕ → Type 0) → Type 0

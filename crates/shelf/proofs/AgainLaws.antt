@@ -8,7 +8,7 @@ use Rattle.winner_tree.specs.Tree.{IsBelow}
 use Rattle.shelf.specs.First.{name_at}
 use Rattle.shelf.specs.Lasts.{last_at, winner_at, AreFirstBut, AreWithin, HaveCome, IsNodeOrWinner, IsReady, IsUnder, IsWinner, Leads}
 use Rattle.shelf.proofs.ListLaws.{same_or}
-use Rattle.shelf.proofs.OrderLaws.{sooner_itself}
+use Rattle.ranked.specs.OldestLaws.{sooner_itself}
 use Rattle.shelf.proofs.WinnerLaws.{below_child, leads_then, next_within}
 
 -- ---- a node, by its winner before

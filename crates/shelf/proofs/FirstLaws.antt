@@ -10,12 +10,14 @@ use Rattle.winner_tree.specs.Tree.{moment_at, never, IsBelow}
 use Rattle.shelf.specs.declared.settling.Settling.{Settling}
 use Rattle.shelf.specs.declared.shelf.KeptFlush.{KeptFlush}
 use Rattle.shelf.specs.declared.oldest.Candidate.{Candidate}
-use Rattle.shelf.specs.First.{life_at, name_at, name_life, AreBounds, Beats, IsAhead, IsBefore, IsCandidate, IsEnough, IsFirst, IsNoLater, IsSooner, IsSoonerOf}
+use Rattle.shelf.specs.First.{life_at, name_at, name_life, AreBounds, Beats, IsAhead, IsBefore, IsCandidate, IsEnough, IsFirst, IsNoLater, IsSoonerOf}
 use Rattle.shelf.specs.declared.ends.Ends.{Ends}
 use Rattle.shelf.specs.Clean.{zeros_to, AreEnds}
 use Rattle.shelf.specs.Lasts.{last_at, winner_at, AreLow, AreVisited, IsNoted}
 use Rattle.shelf.proofs.WinnerLaws.{root_leads}
-use Rattle.shelf.proofs.OrderLaws.{below_low, below_root, below_split, sooner_itself, sooner_same, sooner_then}
+use Rattle.ranked.specs.Oldest.{IsSooner}
+use Rattle.ranked.specs.OldestLaws.{sooner_itself, sooner_then}
+use Rattle.shelf.proofs.OrderLaws.{below_low, below_root, below_split, sooner_same}
 
 -- ---- one of two candidates
 

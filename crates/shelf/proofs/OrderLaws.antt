@@ -3,9 +3,9 @@ use Rattle.std.proofs.Common.{◌≡◌, ℕ, zero, suc, ◌+◌, ◌*◌, ◌/�
 use Rattle.std.specs.Prelude.{IsTrue}
 use Rattle.std.specs.Ordering.{is_le}
 use Rattle.dns_name.specs.Labels.{Labels}
-use Rattle.dns_name.specs.Order.{labels_cmp, not_after_itself, not_after_then, IsNotAfter}
+use Rattle.dns_name.specs.Order.{labels_cmp, IsNotAfter}
 use Rattle.winner_tree.specs.Tree.{up, IsBelow}
-use Rattle.shelf.specs.First.{IsSooner}
+use Rattle.ranked.specs.Oldest.{IsSooner}
 
 -- ---- names
 
@@ -18,15 +18,6 @@ pub root_first : (a : Labels) → IsNotAfter [] a
 root_first a = none_first (reverse a)
 
 -- ---- seconds and names
-
-pub sooner_then : (a b c : ℕ) (k m n : Labels) → IsSooner a k b m → IsSooner b m c n → IsSooner a k c n
-sooner_then a b c k m n (inl p) (inl q) = inl (omega arith)
-sooner_then a b c k m n (inl p) (inr q) = inl (omega (arith, q.0))
-sooner_then a b c k m n (inr p) (inl q) = inl (omega (arith, p.0))
-sooner_then a b c k m n (inr p) (inr q) = inr (p.0 ∙ q.0, not_after_then k m n p.1 q.1)
-
-pub sooner_itself : (a : ℕ) (n : Labels) → IsSooner a n a n
-sooner_itself a n = inr (refl, not_after_itself n)
 
 pub sooner_same : (a b c d : ℕ) (k m n o : Labels) → a ≡ b → k ≡ m → c ≡ d → n ≡ o → IsSooner a k c n → IsSooner b m d o
 sooner_same a b c d k m n o p q r s is =

@@ -11,7 +11,8 @@ use Rattle.shelf.specs.declared.lasts.Lasts.{Lasts}
 use Rattle.shelf.specs.First.{name_at}
 use Rattle.shelf.specs.Lasts.{last_at, winner_at, AreSameLasts, AreWinners, AreWithin, IsFirstOf, IsNodeOrWinner, IsRight, IsShaped, IsUnder, IsWinner, Leads}
 use Rattle.shelf.proofs.ListLaws.{same_or}
-use Rattle.shelf.proofs.OrderLaws.{below_root, sooner_itself, sooner_same, sooner_then, up_last}
+use Rattle.ranked.specs.OldestLaws.{sooner_itself, sooner_then}
+use Rattle.shelf.proofs.OrderLaws.{below_root, sooner_same, up_last}
 
 -- ---- places at or below a node
 

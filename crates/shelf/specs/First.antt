@@ -2,11 +2,11 @@
 use Rattle.std.specs.Prelude.{◌≡◌, ◌⊎◌, ◌<◌, ◌≤◌, ℕ, max, List, [], Option, None, Some, IfSome, fold, length, slice_get, if◌then◌else◌}
 use Rattle.std.specs.Option.{option_map_or}
 use Rattle.dns_name.specs.Labels.{Labels}
-use Rattle.dns_name.specs.Order.{IsNotAfter}
 use Rattle.dns_text.specs.declared.record.Question.{Question}
 use Rattle.ranked.specs.declared.find.Find.{Find}
 use Rattle.ranked.specs.declared.cell.Admitted.{Admitted}
 use Rattle.ranked.specs.Flush.{covers}
+use Rattle.ranked.specs.Oldest.{IsSooner}
 use Rattle.cell_store.specs.declared.owner.KindColumn.{KindColumn}
 use Rattle.cell_store.specs.declared.owner.OwnerCells.{OwnerCells}
 use Rattle.cell_store.specs.Life.{life_end}
@@ -45,10 +45,6 @@ life_at settlings kept entries place = option_map_or (λ entry. name_life settli
 -- the name at a place; the root if there is none
 abbrev pub name_at : List (Labels × OwnerCells) → ℕ → Labels
 name_at entries place = option_map_or (λ entry. entry.0) (slice_get entries place) []
-
--- A second comes before another, or they are the same and so do the names.
-abbrev pub IsSooner : ℕ → Labels → ℕ → Labels → Type 0
-IsSooner end name later other = (end < later) ⊎ ((end ≡ later) × IsNotAfter name other)
 
 -- The name at one place is not after that at another.
 abbrev pub IsBefore : List Settling → List KeptFlush → List (Labels × OwnerCells) → ℕ → ℕ → Type 0

@@ -11,7 +11,8 @@ use Rattle.shelf.specs.declared.lasts.Lasts.{Lasts}
 use Rattle.shelf.specs.declared.oldest.Candidate.{Candidate}
 use Rattle.shelf.specs.declared.settling.Settling.{Settling}
 use Rattle.shelf.specs.declared.shelf.KeptFlush.{KeptFlush}
-use Rattle.shelf.specs.First.{life_at, name_at, IsCandidate, IsSooner}
+use Rattle.ranked.specs.Oldest.{IsSooner}
+use Rattle.shelf.specs.First.{life_at, name_at, IsCandidate}
 
 -- the second of a place; 0 if it is not there
 abbrev pub last_at : List ℕ → ℕ → ℕ
