@@ -9,7 +9,7 @@ use Rattle.change_law.specs.declared.kept.Standing.TheVariants.{Done, Undone, Cl
 use Rattle.change_law.specs.Choice.{IsChoice, IsPresent, cleared, is_done}
 use Rattle.change_law.specs.Face.{Face}
 use Rattle.change_law.specs.Row.{kept_as, IsNext, IsRowAfter, IsTurned, any, same_face}
-use Rattle.undo_journal.specs.Journal.{AreChanges, Changes, IsChange, IsForgotten, in_effect, newest, out_of_effect, settled_by, tickets_of, told_of}
+use Rattle.undo_journal.specs.Journal.{AreChanges, Changes, IsChange, IsForgotten, in_effect, newest, out_of_effect, settled_by, tickets_of, told_of, turned}
 use Rattle.undo_journal.specs.Needs.{IsNeededAfter, needs_of, undo_needs}
 use Rattle.undo_journal.proofs.RingLaws.{IsAt, map_append, map_length}
 use Rattle.undo_journal.proofs.RowLaws.{all_in_effect, choice_as, choice_front, choice_with_gone, choice_with_old, choice_with_undone, in_effect_done, present_append, present_out, row_then}
@@ -163,16 +163,14 @@ pub told_at : {S D : Type 0} (told : S → D) (kept : List (KeptChange S)) (n : 
     told_of told (slice_set kept n k') ≡ told_of told kept
 told_at told kept n k k' at t e = image_at (λ x. (x.ticket, told x.saved)) kept n k k' at (λ i. (t i, e i))
 
--- the undo of one that is undone now
-pub needs_back_at : {S : Type 0} (next after : S → Bool) (kept : List (KeptChange S)) (n : ℕ) (k : KeptChange S) (saved : S) (at : IsAt kept n k) → k.standing ≡ Done → IsTurned next after k.saved saved →
-    needs_of next after (slice_set kept n (kept_as Undone k.ticket saved)) ≡ needs_of next after kept
-needs_back_at next after kept n k saved at done turned =
-    image_at (λ x. (x.ticket, undo_needs next after x)) kept n k (kept_as Undone k.ticket saved) at
-    (ap (λ (b : Bool). (k.ticket, b)) (turned.1 ∙ sym (ap (λ (s : Standing). if is_done s then next k.saved else after k.saved) done)))
-
--- the undo of one that is redone now
-pub needs_again_at : {S : Type 0} (next after : S → Bool) (kept : List (KeptChange S)) (n : ℕ) (k : KeptChange S) (saved : S) (at : IsAt kept n k) → k.standing ≡ Undone → IsTurned next after k.saved saved →
-    needs_of next after (slice_set kept n (kept_as Done k.ticket saved)) ≡ needs_of next after kept
-needs_again_at next after kept n k saved at undone turned =
-    image_at (λ x. (x.ticket, undo_needs next after x)) kept n k (kept_as Done k.ticket saved) at
-    (ap (λ (b : Bool). (k.ticket, b)) (turned.0 ∙ sym (ap (λ (s : Standing). if is_done s then next k.saved else after k.saved) undone)))
+-- the undo of one that is turned
+pub needs_at : {S : Type 0} (next after : S → Bool) (kept : List (KeptChange S)) (n : ℕ) (k : KeptChange S) (saved : S) (at : IsAt kept n k) (from : Standing) → from ≢ Cleared → k.standing ≡ from →
+    IsTurned next after k.saved saved → needs_of next after (slice_set kept n (kept_as (turned from) k.ticket saved)) ≡ needs_of next after kept
+needs_at next after kept n k saved at from live stands is =
+    image_at (λ x. (x.ticket, undo_needs next after x)) kept n k (kept_as (turned from) k.ticket saved) at
+    (ap (λ (b : Bool). (k.ticket, b)) (by from live ∙ sym (ap (λ (s : Standing). if is_done s then next k.saved else after k.saved) stands)))
+  where
+    by : (s : Standing) → s ≢ Cleared → (if is_done (turned s) then next saved else after saved) ≡ (if is_done s then next k.saved else after k.saved)
+    by Done live = is.1
+    by Undone live = is.0
+    by Cleared live = absurd (live refl)

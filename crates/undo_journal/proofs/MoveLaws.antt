@@ -1,16 +1,16 @@
 -- An undo and a redo at one place: the journal stays what it is.
-use Rattle.std.proofs.Common.{◌≡◌, ◌≢◌, ◌⊎◌, inl, inr, ℕ, zero, suc, ◌+◌, ◌-◌, ◌<◌, ◌≤◌, Bool, true, false, cond, Option, Some, None, List, [], ◌∷◌, ◌++◌, length, take, drop, map, refl, sym, ap, subst, ◌∙◌, arith, rules, length-append}
-use Rattle.std.specs.Prelude.{slice_get, slice_set, filter, not, ◌==◌, ◌&&◌, ◌||◌, if◌then◌else◌}
+use Rattle.std.proofs.Common.{◌≡◌, ◌≢◌, inl, inr, ℕ, ◌+◌, ◌-◌, ◌<◌, ◌≤◌, Bool, true, false, Option, Some, None, List, [], ◌∷◌, ◌++◌, length, refl, sym, ap, subst, ◌∙◌, arith, length-append}
+use Rattle.std.specs.Prelude.{not, ◌==◌, ◌||◌, if◌then◌else◌}
 use Rattle.std.specs.List.{AllByRecursion}
-use Rattle.std.proofs.lemmas.Bool.{cases_Bool, eqb-true, false≢true}
+use Rattle.std.proofs.lemmas.Bool.{cases_Bool, false≢true}
 use Rattle.dns_name.specs.ListLaws.{all-append, all_split, all_weaker}
 use Rattle.change_law.specs.declared.kept.KeptChange.{KeptChange}
 use Rattle.change_law.specs.declared.kept.Standing.{Standing}
 use Rattle.change_law.specs.declared.kept.Standing.TheVariants.{Done, Undone, Cleared}
 use Rattle.change_law.specs.Choice.{IsFounded, IsOneTable, IsUncovered, is_done}
 use Rattle.change_law.specs.ChoiceLaws.{same_number, other_number}
-use Rattle.undo_journal.specs.Journal.{Changes, AreAscending, AreChanges, AreDifferent, AreInTurn, IsClosed, IsPutBack, IsTakenBack, done_of, in_effect, is_among, is_before, out_of_effect, standing_in, standings_of, standings_with, tickets_of, without}
-use Rattle.undo_journal.proofs.RingLaws.{Done≢Undone, Undone≢Done, all_back, all_both, all_filter, among_more, among_push_here, among_push_other, among_without_here, among_without_other, before_last, before_push, before_without, different_push, different_without, last_before_none, length_without, map_append, or_left, or_right}
+use Rattle.undo_journal.specs.Journal.{AreAscending, AreChanges, AreDifferent, AreInTurn, HasTurned, IsClear, IsClosed, in_effect, is_among, is_before, out_of_effect, passed, standing_in, standings_of, standings_with, tickets_of, turnable, turned, undone_with, without}
+use Rattle.undo_journal.proofs.RingLaws.{Done≢Undone, Undone≢Done, all_back, all_both, all_filter, among_push_here, among_push_other, among_without_here, among_without_other, before_last, before_push, before_without, different_push, different_without, last_before_none, length_without, or_left, or_right}
 
 -- ---- standings
 
@@ -132,6 +132,35 @@ module _ {S : Type 0} (table : S → Option ℕ) (k k' : KeptChange S) (t : k'.t
   same_tickets [] later = ap (λ n. n ∷ tickets_of later) t
   same_tickets (x ∷ earlier) later = ap (λ l. x.ticket ∷ l) (same_tickets earlier later)
 
+  -- the journal with another change at the place, and with another list of the undone
+  with_other : (earlier later : List (KeptChange S)) (undone undone' : List ℕ) (tickets limit : ℕ) →
+      AreChanges table (record { kept = earlier ++ k ∷ later; undone = undone; tickets = tickets; limit = limit }) →
+      ((x : KeptChange S) → (x.ticket == k.ticket) ≡ false → x.standing ≡ standing_in undone x.ticket → x.standing ≡ standing_in undone' x.ticket) → k'.standing ≡ standing_in undone' k.ticket →
+      AllByRecursion (λ n. is_among (tickets_of (earlier ++ k ∷ later)) n ≡ true) undone' → AreDifferent undone' → IsClosed table (earlier ++ k' ∷ later) → AreInTurn table undone' (earlier ++ k' ∷ later) →
+      length undone' ≤ length (out_of_effect (earlier ++ k' ∷ later)) →
+      AreChanges table (record { kept = earlier ++ k' ∷ later; undone = undone'; tickets = tickets; limit = limit })
+  with_other earlier later undone undone' tickets limit are others own known once closed in_turn fits =
+      let up = are.ascending in
+      let given = all_split (λ x. x.ticket ≤ tickets) earlier (k ∷ later) are.given in
+      let st = all_split (λ x. x.standing ≡ standing_in undone x.ticket) earlier (k ∷ later) are.standings in
+      let same = same_tickets earlier later in
+      record {
+        ascending = subst AreAscending (sym same) up;
+        given = all-append _ earlier (k' ∷ later) given.0 (subst (λ n. n ≤ tickets) (sym t) given.1.0, given.1.1);
+        standings = all-append _ earlier (k' ∷ later)
+            (all_both (λ x. (x.ticket == k.ticket) ≡ false) (λ x. x.standing ≡ standing_in undone x.ticket) _ others earlier (others_before earlier k later up) st.0) (
+              own ∙ ap (standing_in undone') (sym t),
+              all_both (λ x. (x.ticket == k.ticket) ≡ false) (λ x. x.standing ≡ standing_in undone x.ticket) _ others later (others_after earlier k later up) st.1.1,
+            );
+        known = subst (λ (l : List ℕ). AllByRecursion (λ n. is_among l n ≡ true) undone') (sym same) known;
+        once = once;
+        closed = closed;
+        in_turn = in_turn;
+        few = omega (arith, are.few, length-append earlier (k' ∷ later), length-append earlier (k ∷ later));
+        fits = fits;
+        room = are.room;
+      }
+
   -- ---- it is undone
 
   uncovered_struck : (saved : S) (earlier later : List (KeptChange S)) → k'.standing ≢ Done → IsUncovered table saved (earlier ++ k ∷ later) → IsUncovered table saved (earlier ++ k' ∷ later)
@@ -172,44 +201,17 @@ module _ {S : Type 0} (table : S → Option ℕ) (k k' : KeptChange S) (t : k'.t
       turned_test : (a b : ℕ) → (a == b) ≡ false → (b == a) ≡ false
       turned_test a b f = other_number b a (λ same. false≢true (sym f ∙ (ap (λ n. a == n) same ∙ same_number a)))
 
-  pub struck_are : (earlier later : List (KeptChange S)) (undone : List ℕ) (tickets limit : ℕ) → k.standing ≡ Done → k'.standing ≡ Undone → IsUncovered table k.saved later →
+  struck_are : (earlier later : List (KeptChange S)) (undone : List ℕ) (tickets limit : ℕ) → k.standing ≡ Done → k'.standing ≡ Undone → IsUncovered table k.saved later →
       AreChanges table (record { kept = earlier ++ k ∷ later; undone = undone; tickets = tickets; limit = limit }) →
       AreChanges table (record { kept = earlier ++ k' ∷ later; undone = undone ++ k.ticket ∷ []; tickets = tickets; limit = limit })
   struck_are earlier later undone tickets limit d u uncovered are =
-      let up = are.ascending in
-      let given = all_split (λ x. x.ticket ≤ tickets) earlier (k ∷ later) are.given in
       let st = all_split (λ x. x.standing ≡ standing_in undone x.ticket) earlier (k ∷ later) are.standings in
       let absent : is_among undone k.ticket ≡ false = standing_done (is_among undone k.ticket) (sym st.1.0 ∙ d) in
-      let same = same_tickets earlier later in
-      record {
-        ascending = subst AreAscending (sym same) up;
-        given = all-append _ earlier (k' ∷ later) given.0 (subst (λ n. n ≤ tickets) (sym t) given.1.0, given.1.1);
-        standings = all-append _ earlier (k' ∷ later)
-            (all_both (λ x. (x.ticket == k.ticket) ≡ false) (λ x. x.standing ≡ standing_in undone x.ticket) _ (λ x. standing_pushed undone x) earlier (others_before earlier k later up) st.0) (
-              u ∙ sym (ap (λ (b : Bool). if b then Undone else Done) (ap (is_among (undone ++ k.ticket ∷ [])) t ∙ among_push_here undone k.ticket)),
-              all_both (λ x. (x.ticket == k.ticket) ≡ false) (λ x. x.standing ≡ standing_in undone x.ticket) _ (λ x. standing_pushed undone x) later (others_after earlier k later up) st.1.1,
-            );
-        known = subst (λ (l : List ℕ). AllByRecursion (λ n. is_among l n ≡ true) (undone ++ k.ticket ∷ [])) (sym same)
-            (all-append (λ n. is_among (tickets_of (earlier ++ k ∷ later)) n ≡ true) undone (k.ticket ∷ []) are.known (among_here earlier k later, tt));
-        once = different_push undone k.ticket are.once absent;
-        closed = closed_struck earlier later u uncovered are.closed;
-        in_turn = turn_struck earlier later undone d are.closed st.1.1 are.in_turn;
-        few = omega (arith, are.few, length-append earlier (k' ∷ later), length-append earlier (k ∷ later));
-        fits = omega (arith, are.fits, out_more earlier k k' later (ap is_done d) (ap is_done u), length-append undone (k.ticket ∷ []));
-        room = are.room;
-      }
-
-  pub struck_is : (earlier later : List (KeptChange S)) (undone : List ℕ) (tickets limit : ℕ) → k.standing ≡ Done → k'.standing ≡ Undone →
-      AreChanges table (record { kept = earlier ++ k ∷ later; undone = undone; tickets = tickets; limit = limit }) →
-      IsTakenBack (record { kept = earlier ++ k ∷ later; undone = undone; tickets = tickets; limit = limit }) k.ticket
-      (record { kept = earlier ++ k' ∷ later; undone = undone ++ k.ticket ∷ []; tickets = tickets; limit = limit })
-  struck_is earlier later undone tickets limit d u are = record {
-    reached = done_here earlier k later (ap is_done d);
-    standings = with_here earlier k k' later t are.ascending ∙ ap (λ (s : Standing). standings_with k.ticket s (standings_of (earlier ++ k ∷ later))) u;
-    undone = refl;
-    tickets = refl;
-    limit = refl;
-  }
+      with_other earlier later undone (undone ++ k.ticket ∷ []) tickets limit are (λ x. standing_pushed undone x)
+      (u ∙ sym (ap (λ (b : Bool). if b then Undone else Done) (among_push_here undone k.ticket)))
+      (all-append (λ n. is_among (tickets_of (earlier ++ k ∷ later)) n ≡ true) undone (k.ticket ∷ []) are.known (among_here earlier k later, tt))
+      (different_push undone k.ticket are.once absent) (closed_struck earlier later u uncovered are.closed) (turn_struck earlier later undone d are.closed st.1.1 are.in_turn)
+      (omega (arith, are.fits, out_more earlier k k' later (ap is_done d) (ap is_done u), length-append undone (k.ticket ∷ [])))
 
   -- ---- it is in effect again
 
@@ -248,44 +250,45 @@ module _ {S : Type 0} (table : S → Option ℕ) (k k' : KeptChange S) (t : k'.t
   standing_left : (undone : List ℕ) (x : KeptChange S) → (x.ticket == k.ticket) ≡ false → x.standing ≡ standing_in undone x.ticket → x.standing ≡ standing_in (without k.ticket undone) x.ticket
   standing_left undone x other own = own ∙ sym (ap (λ (b : Bool). if b then Undone else Done) (among_without_other undone k.ticket x.ticket other))
 
-  pub back_are : (earlier later : List (KeptChange S)) (undone : List ℕ) (tickets limit : ℕ) → k.standing ≡ Undone → k'.standing ≡ Done → IsFounded table k.saved earlier →
+  undone_there : (earlier later : List (KeptChange S)) (undone : List ℕ) → k.standing ≡ Undone → AllByRecursion (λ x. x.standing ≡ standing_in undone x.ticket) (earlier ++ k ∷ later) → is_among undone k.ticket ≡ true
+  undone_there earlier later undone u st = standing_undone (is_among undone k.ticket) (sym (all_split (λ x. x.standing ≡ standing_in undone x.ticket) earlier (k ∷ later) st).1.0 ∙ u)
+
+  back_are : (earlier later : List (KeptChange S)) (undone : List ℕ) (tickets limit : ℕ) → k.standing ≡ Undone → k'.standing ≡ Done → IsFounded table k.saved earlier →
       AreChanges table (record { kept = earlier ++ k ∷ later; undone = undone; tickets = tickets; limit = limit }) →
       AreChanges table (record { kept = earlier ++ k' ∷ later; undone = without k.ticket undone; tickets = tickets; limit = limit })
   back_are earlier later undone tickets limit u d founded are =
-      let up = are.ascending in
-      let given = all_split (λ x. x.ticket ≤ tickets) earlier (k ∷ later) are.given in
-      let st = all_split (λ x. x.standing ≡ standing_in undone x.ticket) earlier (k ∷ later) are.standings in
-      let there : is_among undone k.ticket ≡ true = standing_undone (is_among undone k.ticket) (sym st.1.0 ∙ u) in
-      let same = same_tickets earlier later in
-      record {
-        ascending = subst AreAscending (sym same) up;
-        given = all-append _ earlier (k' ∷ later) given.0 (subst (λ n. n ≤ tickets) (sym t) given.1.0, given.1.1);
-        standings = all-append _ earlier (k' ∷ later)
-            (all_both (λ x. (x.ticket == k.ticket) ≡ false) (λ x. x.standing ≡ standing_in undone x.ticket) _ (λ x. standing_left undone x) earlier (others_before earlier k later up) st.0) (
-              d ∙ sym (ap (λ (b : Bool). if b then Undone else Done) (ap (is_among (without k.ticket undone)) t ∙ among_without_here undone k.ticket)),
-              all_both (λ x. (x.ticket == k.ticket) ≡ false) (λ x. x.standing ≡ standing_in undone x.ticket) _ (λ x. standing_left undone x) later (others_after earlier k later up) st.1.1,
-            );
-        known = subst (λ (l : List ℕ). AllByRecursion (λ n. is_among l n ≡ true) (without k.ticket undone)) (sym same)
-            (all_filter (λ n. is_among (tickets_of (earlier ++ k ∷ later)) n ≡ true) (λ n. not (n == k.ticket)) undone are.known);
-        once = different_without undone k.ticket are.once;
-        closed = closed_back earlier later d founded are.closed;
-        in_turn = turn_back earlier later undone d up are.in_turn;
-        few = omega (arith, are.few, length-append earlier (k' ∷ later), length-append earlier (k ∷ later));
-        fits = omega (arith, are.fits, out_more earlier k' k later (ap is_done d) (ap is_done u), length_without undone k.ticket there);
-        room = are.room;
-      }
+      let there : is_among undone k.ticket ≡ true = undone_there earlier later undone u are.standings in
+      with_other earlier later undone (without k.ticket undone) tickets limit are (λ x. standing_left undone x)
+      (d ∙ sym (ap (λ (b : Bool). if b then Undone else Done) (among_without_here undone k.ticket)))
+      (all_filter (λ n. is_among (tickets_of (earlier ++ k ∷ later)) n ≡ true) (λ n. not (n == k.ticket)) undone are.known)
+      (different_without undone k.ticket are.once) (closed_back earlier later d founded are.closed) (turn_back earlier later undone d are.ascending are.in_turn)
+      (omega (arith, are.fits, out_more earlier k' k later (ap is_done d) (ap is_done u), length_without undone k.ticket there))
 
-  pub back_is : (earlier later : List (KeptChange S)) (undone : List ℕ) (tickets limit : ℕ) → k.standing ≡ Undone → k'.standing ≡ Done →
+  -- ---- it is turned
+
+  pub turned_are : (from : Standing) → from ≢ Cleared → (earlier later : List (KeptChange S)) (undone : List ℕ) (tickets limit : ℕ) → k.standing ≡ from → k'.standing ≡ turned from →
+      IsClear table from k.saved (passed from earlier later) → AreChanges table (record { kept = earlier ++ k ∷ later; undone = undone; tickets = tickets; limit = limit }) →
+      AreChanges table (record { kept = earlier ++ k' ∷ later; undone = undone_with from k.ticket undone; tickets = tickets; limit = limit })
+  turned_are Done live earlier later undone tickets limit was is clear are = struck_are earlier later undone tickets limit was is clear are
+  turned_are Undone live earlier later undone tickets limit was is clear are = back_are earlier later undone tickets limit was is clear are
+  turned_are Cleared live earlier later undone tickets limit was is clear are = absurd (live refl)
+
+  pub turned_is : (from : Standing) → from ≢ Cleared → (earlier later : List (KeptChange S)) (undone : List ℕ) (tickets limit : ℕ) → k.standing ≡ from → k'.standing ≡ turned from →
       AreChanges table (record { kept = earlier ++ k ∷ later; undone = undone; tickets = tickets; limit = limit }) →
-      IsPutBack (record { kept = earlier ++ k ∷ later; undone = undone; tickets = tickets; limit = limit }) k.ticket
-      (record { kept = earlier ++ k' ∷ later; undone = without k.ticket undone; tickets = tickets; limit = limit })
-  back_is earlier later undone tickets limit u d are = record {
-    reached = standing_undone (is_among undone k.ticket) (sym (all_split (λ x. x.standing ≡ standing_in undone x.ticket) earlier (k ∷ later) are.standings).1.0 ∙ u);
-    standings = with_here earlier k k' later t are.ascending ∙ ap (λ (s : Standing). standings_with k.ticket s (standings_of (earlier ++ k ∷ later))) d;
+      HasTurned from (record { kept = earlier ++ k ∷ later; undone = undone; tickets = tickets; limit = limit }) k.ticket
+      (record { kept = earlier ++ k' ∷ later; undone = undone_with from k.ticket undone; tickets = tickets; limit = limit })
+  turned_is from live earlier later undone tickets limit was is are = record {
+    reached = reached from live was;
+    standings = with_here earlier k k' later t are.ascending ∙ ap (λ (s : Standing). standings_with k.ticket s (standings_of (earlier ++ k ∷ later))) is;
     undone = refl;
     tickets = refl;
     limit = refl;
   }
+    where
+      reached : (s : Standing) → s ≢ Cleared → k.standing ≡ s → is_among (turnable s (record { kept = earlier ++ k ∷ later; undone = undone; tickets = tickets; limit = limit })) k.ticket ≡ true
+      reached Done live was = done_here earlier k later (ap is_done was)
+      reached Undone live was = undone_there earlier later undone was are.standings
+      reached Cleared live was = absurd (live refl)
 
 -- ---- the one that was undone last
 

@@ -1,54 +1,40 @@
--- The change at one place of the ring is undone, or in effect again.
-use Rattle.std.proofs.Common.{◌≡◌, ◌≢◌, ℕ, suc, ◌+◌, ◌<◌, ◌≤◌, Bool, Option, Some, List, [], ◌∷◌, ◌++◌, length, take, drop, refl, sym, ap, subst, ◌∙◌, arith}
+-- The change at one place of the ring is turned: undone, or in effect again.
+use Rattle.std.proofs.Common.{◌≡◌, ◌≢◌, ℕ, ◌+◌, ◌<◌, Bool, Option, Some, List, ◌∷◌, ◌++◌, length, refl, sym, ap, subst, ◌∙◌, arith}
 use Rattle.std.specs.Prelude.{slice_get, slice_set, option_map}
 use Rattle.change_law.specs.declared.kept.KeptChange.{KeptChange}
 use Rattle.change_law.specs.declared.kept.Standing.{Standing}
-use Rattle.change_law.specs.declared.kept.Standing.TheVariants.{Done, Undone, Cleared}
+use Rattle.change_law.specs.declared.kept.Standing.TheVariants.{Done, Cleared}
 use Rattle.change_law.specs.declared.world.World.{Ghosts}
-use Rattle.change_law.specs.Choice.{IsFounded, IsUncovered, is_done}
+use Rattle.change_law.specs.Choice.{is_done}
 use Rattle.change_law.specs.Face.{Face}
-use Rattle.change_law.specs.Row.{CanGoAgain, CanGoBack, GoesAgain, GoesBack, IsFirst, IsLast, IsRefused, IsRowAfter, IsSameKind, IsTurned, any, kept_as, same_face}
-use Rattle.undo_journal.specs.Journal.{AreChanges, CanBeRedone, CanBeUndone, Changes, IsPutBack, IsTakenBack, without}
+use Rattle.change_law.specs.Row.{IsRefused, IsRowAfter, IsSameKind, IsTurned, any, kept_as, same_face}
+use Rattle.undo_journal.specs.Journal.{AreChanges, CanBeTurned, Changes, HasTurned, IsClear, passed, turned, undone_with}
 use Rattle.undo_journal.specs.Moving.{ChangesNothing, MovesStandings}
-use Rattle.undo_journal.specs.Needs.{needs_of}
-use Rattle.undo_journal.proofs.AppliedLaws.{choices_at, needs_again_at, needs_back_at, told_at}
-use Rattle.undo_journal.proofs.RingLaws.{Done≢Cleared, IsAt, Undone≢Cleared, at_place, drop_past, kept_is, row_of, take_there}
-use Rattle.undo_journal.proofs.MoveLaws.{back_are, back_is, out_less, struck_are, struck_is}
+use Rattle.undo_journal.specs.Turning.{CanTurnFrom, IsTurnable, Turns}
+use Rattle.undo_journal.proofs.AppliedLaws.{choices_at, needs_at, told_at}
+use Rattle.undo_journal.proofs.RingLaws.{IsAt, at_place, kept_is, passed_at, row_of, turned≢Cleared}
+use Rattle.undo_journal.proofs.MoveLaws.{out_less, turned_are, turned_is}
 
 abbrev pub changes_at : {S : Type 0} → List (KeptChange S) → List ℕ → ℕ → ℕ → Changes S
 changes_at kept undone tickets limit = record { kept = kept; undone = undone; tickets = tickets; limit = limit }
 
 module _ {S : Type 0} (table : S → Option ℕ) (kept : List (KeptChange S)) (place : ℕ) (k : KeptChange S) (there : slice_get kept place ≡ Some k) (at : IsAt kept place k) where
-  behind : drop (place + 1) kept ≡ at.later
-  behind = let n : place + 1 ≡ suc (length at.earlier) = omega (arith, at.place) in (λ i. drop (n i) (at.all i)) ∙ drop_past at.earlier k at.later
-
-  front : take place kept ≡ at.earlier
-  front = (λ i. take (sym at.place i) (at.all i)) ∙ take_there at.earlier (k ∷ at.later)
-
-  pub here_done : CanBeUndone table kept place → (k.standing ≡ Done) × IsUncovered table k.saved at.later
-  unfolding behind
-  here_done can =
+  pub here_turns : (from : Standing) → CanBeTurned table from kept place → (k.standing ≡ from) × IsClear table from k.saved (passed from at.earlier at.later)
+  here_turns from can =
       let both : Some can.here ≡ Some k = sym can.there ∙ there in
-      let same : can.here ≡ k = cc in
-      (ap (λ (x : KeptChange S). x.standing) (sym same) ∙ can.done, subst (λ (x : KeptChange S). IsUncovered table x.saved at.later) same (subst (λ (l : List (KeptChange S)). IsUncovered table can.here.saved l) behind can.uncovered))
-
-  pub here_undone : CanBeRedone table kept place → (k.standing ≡ Undone) × IsFounded table k.saved at.earlier
-  unfolding front
-  here_undone can =
-      let both : Some can.here ≡ Some k = sym can.there ∙ there in
-      let same : can.here ≡ k = cc in
-      (ap (λ (x : KeptChange S). x.standing) (sym same) ∙ can.undone, subst (λ (x : KeptChange S). IsFounded table x.saved at.earlier) same (subst (λ (l : List (KeptChange S)). IsFounded table can.here.saved l) front can.founded))
+      let same : can.here ≡ k = cc in (
+        ap (λ (x : KeptChange S). x.standing) (sym same) ∙ can.stands,
+        subst (λ (x : KeptChange S). IsClear table from x.saved (passed from at.earlier at.later)) same
+            (subst (λ (l : List (KeptChange S)). IsClear table from can.here.saved l) (passed_at kept place k at from) can.clear),
+      )
 
   whole : (s : Standing) → k.standing ≡ s → at.earlier ++ kept_as s k.ticket k.saved ∷ at.later ≡ kept
   whole s e = ap (λ (x : KeptChange S). at.earlier ++ x ∷ at.later) (kept_is k s e) ∙ sym at.all
 
-  pub last_here : {W : Type 0} (keeps : W → List (KeptChange S) → Type 0) (world : W) → keeps world kept → CanBeUndone table kept place → IsLast table keeps world at.earlier k.ticket k.saved at.later
+  pub turnable_here : {W : Type 0} (keeps : W → List (KeptChange S) → Type 0) (world : W) (from : Standing) → from ≢ Cleared → keeps world kept → CanBeTurned table from kept place →
+      IsTurnable table keeps from world at.earlier k.ticket k.saved at.later
   unfolding whole
-  last_here keeps world h can = record { kept = subst (keeps world) (sym (whole Done (here_done can).0)) h; uncovered = (here_done can).1 }
-
-  pub first_here : {W : Type 0} (keeps : W → List (KeptChange S) → Type 0) (world : W) → keeps world kept → CanBeRedone table kept place → IsFirst table keeps world at.earlier k.ticket k.saved at.later
-  unfolding whole
-  first_here keeps world h can = record { kept = subst (keeps world) (sym (whole Undone (here_undone can).0)) h; founded = (here_undone can).1 }
+  turnable_here keeps world from live h can = record { live = live; kept = subst (keeps world) (sym (whole from (here_turns from can).0)) h; clear = (here_turns from can).1 }
 
   -- a row from one standing at this place to another
   pub row_here : {W T : Type 0} (keeps : W → List (KeptChange S) → Type 0) (face : W → List (KeptChange S) → (ℕ → Bool) → Face T) (made : (ℕ → Bool) → Face T → Face T) (P : (ℕ → Bool) → Type 0) (s s' : Standing) (before after : W) (saved : S) → k.standing ≡ s →
@@ -75,36 +61,25 @@ module _ {S : Type 0} (table : S → Option ℕ) (kept : List (KeptChange S)) (p
         subst (λ (l : List (KeptChange S)). Q (changes_at l undone' tickets limit)) (sym (at.written k'))
         (subst (λ (l : List ℕ). Q (changes_at (at.earlier ++ k' ∷ at.later) l tickets limit)) (sym e) h)
 
-    pub taken_are : CanBeUndone table kept place → undone' ≡ undone ++ k.ticket ∷ [] → AreChanges table (changes_at (slice_set kept place (kept_as Undone k.ticket saved)) undone' tickets limit)
+    pub turned_here_are : (from : Standing) → from ≢ Cleared → CanBeTurned table from kept place → undone' ≡ undone_with from k.ticket undone →
+        AreChanges table (changes_at (slice_set kept place (kept_as (turned from) k.ticket saved)) undone' tickets limit)
     unfolding there_are
-    taken_are can e =
-        placed (λ x. AreChanges table x) (kept_as Undone k.ticket saved) (undone ++ k.ticket ∷ []) e
-        (struck_are table k (kept_as Undone k.ticket saved) refl same at.earlier at.later undone tickets limit (here_done can).0 refl (here_done can).1 there_are)
+    turned_here_are from live can e =
+        placed (λ x. AreChanges table x) (kept_as (turned from) k.ticket saved) (undone_with from k.ticket undone) e
+        (turned_are table k (kept_as (turned from) k.ticket saved) refl same from live at.earlier at.later undone tickets limit (here_turns from can).0 refl (here_turns from can).1 there_are)
 
-    pub taken_is : CanBeUndone table kept place → undone' ≡ undone ++ k.ticket ∷ [] → IsTakenBack (changes_at kept undone tickets limit) k.ticket (changes_at (slice_set kept place (kept_as Undone k.ticket saved)) undone' tickets limit)
+    pub turned_here_is : (from : Standing) → from ≢ Cleared → CanBeTurned table from kept place → undone' ≡ undone_with from k.ticket undone →
+        HasTurned from (changes_at kept undone tickets limit) k.ticket (changes_at (slice_set kept place (kept_as (turned from) k.ticket saved)) undone' tickets limit)
     unfolding there_are
-    taken_is can e =
-        placed (λ x. IsTakenBack (changes_at kept undone tickets limit) k.ticket x) (kept_as Undone k.ticket saved) (undone ++ k.ticket ∷ []) e
-        (subst (λ (l : List (KeptChange S)). IsTakenBack (changes_at l undone tickets limit) k.ticket (changes_at (at.earlier ++ kept_as Undone k.ticket saved ∷ at.later) (undone ++ k.ticket ∷ []) tickets limit)) (sym at.all)
-        (struck_is table k (kept_as Undone k.ticket saved) refl same at.earlier at.later undone tickets limit (here_done can).0 refl there_are))
+    turned_here_is from live can e =
+        placed (λ x. HasTurned from (changes_at kept undone tickets limit) k.ticket x) (kept_as (turned from) k.ticket saved) (undone_with from k.ticket undone) e
+        (subst (λ (l : List (KeptChange S)). HasTurned from (changes_at l undone tickets limit) k.ticket (changes_at (at.earlier ++ kept_as (turned from) k.ticket saved ∷ at.later) (undone_with from k.ticket undone) tickets limit)) (sym at.all)
+        (turned_is table k (kept_as (turned from) k.ticket saved) refl same from live at.earlier at.later undone tickets limit (here_turns from can).0 refl there_are))
 
     -- the list of the undone has room for one more
-    pub undone_fit : CanBeUndone table kept place → length undone < limit
+    pub undone_fit : CanBeTurned table Done kept place → length undone < limit
     unfolding there_are
-    undone_fit can = omega (arith, there_are.fits, there_are.few, out_less at.earlier k at.later (ap is_done (here_done can).0))
-
-    pub put_are : CanBeRedone table kept place → undone' ≡ without k.ticket undone → AreChanges table (changes_at (slice_set kept place (kept_as Done k.ticket saved)) undone' tickets limit)
-    unfolding there_are
-    put_are can e =
-        placed (λ x. AreChanges table x) (kept_as Done k.ticket saved) (without k.ticket undone) e
-        (back_are table k (kept_as Done k.ticket saved) refl same at.earlier at.later undone tickets limit (here_undone can).0 refl (here_undone can).1 there_are)
-
-    pub put_is : CanBeRedone table kept place → undone' ≡ without k.ticket undone → IsPutBack (changes_at kept undone tickets limit) k.ticket (changes_at (slice_set kept place (kept_as Done k.ticket saved)) undone' tickets limit)
-    unfolding there_are
-    put_is can e =
-        placed (λ x. IsPutBack (changes_at kept undone tickets limit) k.ticket x) (kept_as Done k.ticket saved) (without k.ticket undone) e
-        (subst (λ (l : List (KeptChange S)). IsPutBack (changes_at l undone tickets limit) k.ticket (changes_at (at.earlier ++ kept_as Done k.ticket saved ∷ at.later) (without k.ticket undone) tickets limit)) (sym at.all)
-        (back_is table k (kept_as Done k.ticket saved) refl same at.earlier at.later undone tickets limit (here_undone can).0 refl there_are))
+    undone_fit can = omega (arith, there_are.fits, there_are.few, out_less at.earlier k at.later (ap is_done (here_turns Done can).0))
 
 -- ---- an undo or a redo at a place, by what the journal is before it
 
@@ -113,23 +88,14 @@ module _ {W T S D : Type 0} (by : Ghosts W T S D) (kept : List (KeptChange S)) (
   abbrev at : IsAt kept place k
   at = at_place kept place k there
 
-  undoable : CanBeUndone by.table now.kept place → CanBeUndone by.table kept place
-  undoable can = subst (λ (x : Changes S). CanBeUndone by.table x.kept place) (sym is) can
+  pub turns_then : (from : Standing) → CanBeTurned by.table from now.kept place → CanBeTurned by.table from kept place
+  turns_then from can = subst (λ (x : Changes S). CanBeTurned by.table from x.kept place) (sym is) can
 
-  redoable : CanBeRedone by.table now.kept place → CanBeRedone by.table kept place
-  redoable can = subst (λ (x : Changes S). CanBeRedone by.table x.kept place) (sym is) can
+  turnable_now : (world : W) (from : Standing) → from ≢ Cleared → by.keeps world now.kept → CanBeTurned by.table from now.kept place → IsTurnable by.table by.keeps from world at.earlier k.ticket k.saved at.later
+  turnable_now world from live held can = turnable_here by.table kept place k there at by.keeps world from live (subst (λ (x : Changes S). by.keeps world x.kept) (sym is) held) (turns_then from can)
 
-  last_now : (world : W) → by.keeps world now.kept → CanBeUndone by.table now.kept place → IsLast by.table by.keeps world at.earlier k.ticket k.saved at.later
-  last_now world held can = last_here by.table kept place k there at by.keeps world (subst (λ (x : Changes S). by.keeps world x.kept) (sym is) held) (undoable can)
-
-  first_now : (world : W) → by.keeps world now.kept → CanBeRedone by.table now.kept place → IsFirst by.table by.keeps world at.earlier k.ticket k.saved at.later
-  first_now world held can = first_here by.table kept place k there at by.keeps world (subst (λ (x : Changes S). by.keeps world x.kept) (sym is) held) (redoable can)
-
-  pub can_go_back : (world : W) → by.keeps world now.kept → CanBeUndone by.table now.kept place → CanGoBack by.table by.keeps world k.saved
-  can_go_back world held can = (at.earlier, (k.ticket, (at.later, last_now world held can)))
-
-  pub can_go_again : (world : W) → by.keeps world now.kept → CanBeRedone by.table now.kept place → CanGoAgain by.table by.keeps world k.saved
-  can_go_again world held can = (at.earlier, (k.ticket, (at.later, first_now world held can)))
+  pub can_turn : (world : W) (from : Standing) → from ≢ Cleared → by.keeps world now.kept → CanBeTurned by.table from now.kept place → CanTurnFrom by.table by.keeps from world k.saved
+  can_turn world from live held can = (at.earlier, (k.ticket, (at.later, turnable_now world from live held can)))
 
   -- A refused call leaves the journal as it was.
   pub refused_here : (before after : W) (saved : S) → IsRefused by.table by.keeps by.face by.newest by.stored by.counts before after × (saved ≡ k.saved) →
@@ -143,60 +109,30 @@ module _ {W T S D : Type 0} (by : Ghosts W T S D) (kept : List (KeptChange S)) (
   its_ticket : option_map (λ (x : KeptChange S). x.ticket) (slice_get now.kept place) ≡ Some k.ticket
   its_ticket = ap (λ (x : Changes S). option_map (λ (y : KeptChange S). y.ticket) (slice_get x.kept place)) (sym is) ∙ ap (λ (o : Option (KeptChange S)). option_map (λ (y : KeptChange S). y.ticket) o) there
 
-  module _ (undone' : List ℕ) (saved : S) where
-    -- The standing of the change at the place moves from one to another.
-    moved_here : (s s' : Standing) (before after : W) → k.standing ≡ s → s ≢ Cleared → s' ≢ Cleared → IsSameKind by.table by.told k.saved saved →
-        needs_of by.needs_memory by.needs_memory_after (slice_set kept place (kept_as s' k.ticket saved)) ≡ needs_of by.needs_memory by.needs_memory_after kept →
-        IsRowAfter by.table by.keeps by.face same_face any before (at.earlier ++ kept_as s k.ticket k.saved ∷ at.later) after (at.earlier ++ kept_as s' k.ticket saved ∷ at.later) →
-        MovesStandings by before now after (changes_at (slice_set kept place (kept_as s' k.ticket saved)) undone' tickets limit)
-    moved_here s s' before after was n n' kind needs row =
-        let new : KeptChange S = kept_as s' k.ticket saved in
-        subst (λ (x : Changes S). MovesStandings by before x after (changes_at (slice_set kept place (kept_as s' k.ticket saved)) undone' tickets limit)) is
+  module _ (undone' : List ℕ) (saved : S) (from : Standing) (live : from ≢ Cleared) (can : CanBeTurned by.table from now.kept place) where
+    -- The change at the place was turned.
+    pub moved_here : (before after : W) → by.keeps before now.kept → IsSameKind by.table by.told k.saved saved → IsTurned by.needs_memory by.needs_memory_after k.saved saved →
+        Turns by.table by.keeps by.face from before k.saved after saved → MovesStandings by before now after (changes_at (slice_set kept place (kept_as (turned from) k.ticket saved)) undone' tickets limit)
+    moved_here before after held kind needs turns =
+        let new : KeptChange S = kept_as (turned from) k.ticket saved in
+        let was : k.standing ≡ from = (here_turns by.table kept place k there at from (turns_then from can)).0 in
+        subst (λ (x : Changes S). MovesStandings by before x after (changes_at (slice_set kept place (kept_as (turned from) k.ticket saved)) undone' tickets limit)) is
         (record {
-          row = row_here by.table kept place k there at by.keeps by.face same_face any s s' before after saved was row;
-          choices = λ chosen p h. choices_at by.table kept place k new at refl kind.0 (λ cleared. n (sym was ∙ cleared)) n' chosen h;
+          row = row_here by.table kept place k there at by.keeps by.face same_face any from (turned from) before after saved was (turns at.earlier k.ticket at.later (turnable_now before from live held can));
+          choices = λ chosen p h. choices_at by.table kept place k new at refl kind.0 (λ cleared. live (sym was ∙ cleared)) (turned≢Cleared from) chosen h;
           told = told_at by.told kept place k new at refl kind.1;
           tables = told_at by.table kept place k new at refl kind.0;
-          needs = needs;
+          needs = needs_at by.needs_memory by.needs_memory_after kept place k saved at from live was needs;
         })
 
-    -- The change at the place was undone.
-    pub moved_back : (before after : W) → by.keeps before now.kept → CanBeUndone by.table now.kept place → IsSameKind by.table by.told k.saved saved →
-        IsTurned by.needs_memory by.needs_memory_after k.saved saved → GoesBack by.table by.keeps by.face before k.saved after saved →
-        MovesStandings by before now after (changes_at (slice_set kept place (kept_as Undone k.ticket saved)) undone' tickets limit)
-    moved_back before after held can kind turned goes =
-        let was : k.standing ≡ Done = (here_done by.table kept place k there at (undoable can)).0 in
-        moved_here Done Undone before after was Done≢Cleared Undone≢Cleared kind
-        (needs_back_at by.needs_memory by.needs_memory_after kept place k saved at was turned) (goes at.earlier k.ticket at.later (last_now before held can))
+    module _ (same : by.table saved ≡ by.table k.saved) (are : AreChanges by.table (changes_at kept undone tickets limit)) (e : undone' ≡ undone_with from k.ticket undone) where
+      pub turned_sound : AreChanges by.table (changes_at (slice_set kept place (kept_as (turned from) k.ticket saved)) undone' tickets limit)
+      turned_sound = turned_here_are by.table kept place k there at undone undone' tickets limit saved same are from live (turns_then from can) e
 
-    -- The change at the place was redone.
-    pub moved_again : (before after : W) → by.keeps before now.kept → CanBeRedone by.table now.kept place → IsSameKind by.table by.told k.saved saved →
-        IsTurned by.needs_memory by.needs_memory_after k.saved saved → GoesAgain by.table by.keeps by.face before k.saved after saved →
-        MovesStandings by before now after (changes_at (slice_set kept place (kept_as Done k.ticket saved)) undone' tickets limit)
-    moved_again before after held can kind turned goes =
-        let was : k.standing ≡ Undone = (here_undone by.table kept place k there at (redoable can)).0 in
-        moved_here Undone Done before after was Undone≢Cleared Done≢Cleared kind
-        (needs_again_at by.needs_memory by.needs_memory_after kept place k saved at was turned) (goes at.earlier k.ticket at.later (first_now before held can))
-
-    module _ (same : by.table saved ≡ by.table k.saved) (are : AreChanges by.table (changes_at kept undone tickets limit)) where
-      pub back_sound : CanBeUndone by.table now.kept place → undone' ≡ undone ++ k.ticket ∷ [] → AreChanges by.table (changes_at (slice_set kept place (kept_as Undone k.ticket saved)) undone' tickets limit)
-      back_sound can e = taken_are by.table kept place k there at undone undone' tickets limit saved same are (undoable can) e
-
-      pub again_sound : CanBeRedone by.table now.kept place → undone' ≡ without k.ticket undone → AreChanges by.table (changes_at (slice_set kept place (kept_as Done k.ticket saved)) undone' tickets limit)
-      again_sound can e = put_are by.table kept place k there at undone undone' tickets limit saved same are (redoable can) e
-
-      pub back_at : CanBeUndone by.table now.kept place → undone' ≡ undone ++ k.ticket ∷ [] →
-          IsTakenBack now k.ticket (changes_at (slice_set kept place (kept_as Undone k.ticket saved)) undone' tickets limit) × (option_map (λ (x : KeptChange S). x.ticket) (slice_get now.kept place) ≡ Some k.ticket)
-      back_at can e = (
-        subst (λ (x : Changes S). IsTakenBack x k.ticket (changes_at (slice_set kept place (kept_as Undone k.ticket saved)) undone' tickets limit)) is
-            (taken_is by.table kept place k there at undone undone' tickets limit saved same are (undoable can) e),
-        its_ticket,
-      )
-
-      pub again_at : CanBeRedone by.table now.kept place → undone' ≡ without k.ticket undone →
-          IsPutBack now k.ticket (changes_at (slice_set kept place (kept_as Done k.ticket saved)) undone' tickets limit) × (option_map (λ (x : KeptChange S). x.ticket) (slice_get now.kept place) ≡ Some k.ticket)
-      again_at can e = (
-        subst (λ (x : Changes S). IsPutBack x k.ticket (changes_at (slice_set kept place (kept_as Done k.ticket saved)) undone' tickets limit)) is
-            (put_is by.table kept place k there at undone undone' tickets limit saved same are (redoable can) e),
+      pub turned_at : HasTurned from now k.ticket (changes_at (slice_set kept place (kept_as (turned from) k.ticket saved)) undone' tickets limit) ×
+          (option_map (λ (x : KeptChange S). x.ticket) (slice_get now.kept place) ≡ Some k.ticket)
+      turned_at = (
+        subst (λ (x : Changes S). HasTurned from x k.ticket (changes_at (slice_set kept place (kept_as (turned from) k.ticket saved)) undone' tickets limit)) is
+            (turned_here_is by.table kept place k there at undone undone' tickets limit saved same are from live (turns_then from can) e),
         its_ticket,
       )

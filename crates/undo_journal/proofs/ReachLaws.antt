@@ -2,21 +2,20 @@
 use Rattle.std.proofs.Common.{◌≡◌, ◌≢◌, inl, inr, ℕ, zero, suc, ◌+◌, ◌-◌, ◌<◌, ◌≤◌, Bool, true, false, cond, Option, Some, None, List, [], ◌∷◌, ◌++◌, length, take, drop, map, refl, sym, ap, subst, ◌∙◌, arith, rules, length-append}
 use Rattle.std.specs.Prelude.{IfSome, slice_get, filter, nat_lt, not, ◌==◌, ◌&&◌, ◌||◌, if◌then◌else◌}
 use Rattle.std.specs.List.{AllByRecursion}
-use Rattle.std.specs.Option.{option_map}
 use Rattle.std.proofs.lemmas.Bool.{cases_Bool, eq-eqb, false≢true}
 use Rattle.std.proofs.lemmas.Bool.Decides.{nat_tests}
-use Rattle.std.proofs.lemmas.List.{append-nil, take-append-drop}
+use Rattle.std.proofs.lemmas.List.{append-nil}
 use Rattle.std.proofs.lemmas.List.Elements.{filter-append}
 use Rattle.dns_name.specs.ListLaws.{all_split, all_weaker, never_past}
 use Rattle.change_law.specs.declared.kept.KeptChange.{KeptChange}
 use Rattle.change_law.specs.declared.kept.Standing.{Standing}
-use Rattle.change_law.specs.declared.kept.Standing.TheVariants.{Done, Undone}
-use Rattle.change_law.specs.Choice.{IsFounded, IsOneTable, IsUncovered, is_done}
+use Rattle.change_law.specs.declared.kept.Standing.TheVariants.{Done, Undone, Cleared}
+use Rattle.change_law.specs.Choice.{IsFounded, IsOneTable, is_done}
 use Rattle.change_law.specs.ChoiceLaws.{same_number, other_number}
-use Rattle.undo_journal.specs.Journal.{AreAscending, AreChanges, AreInTurn, CanBeRedone, CanBeUndone, Changes, IsPlaceOf, NeedsNone, first_of, in_effect, is_among, is_one_table, last_of, lies_on, lies_under, standing_in, table_at, tickets_of}
-use Rattle.undo_journal.specs.Needs.{UndoNeedsNone}
-use Rattle.undo_journal.proofs.RingLaws.{all_among, all_both, among_push_here, among_push_other, and_true, at_place, drop_past, map_append, or_none, take_there}
-use Rattle.undo_journal.proofs.MoveLaws.{asc_after, asc_before, done_here, done_standing, last_founded}
+use Rattle.undo_journal.specs.Journal.{AreAscending, AreChanges, AreInTurn, CanBeTurned, Changes, IsClear, IsPlaceOf, farther, farthest, first_of, in_effect, is_among, is_from, is_one_table, is_passed, last_of, lies_in_way, passed, standing_in, table_at, tickets_of, turnable}
+use Rattle.undo_journal.specs.Needs.{TurnNeedsNone}
+use Rattle.undo_journal.proofs.RingLaws.{all_among, all_both, among_push_here, among_push_other, and_true, at_place, drop_past, map_append, or_none, passed_at, take_there}
+use Rattle.undo_journal.proofs.MoveLaws.{asc_after, asc_before, done_here, done_standing, last_founded, standing_undone}
 
 -- ---- lists
 
@@ -63,6 +62,21 @@ last_none (x ∷ xs) e = absurd (never_past (x ∷ xs) (length (x ∷ xs) - 1) (
 pub first_none : (xs : List ℕ) → first_of xs ≡ None → xs ≡ []
 first_none [] e = refl
 first_none (x ∷ xs) e = absurd (search rules)
+
+pub farthest_none : (from : Standing) (xs : List ℕ) → farthest from xs ≡ None → xs ≡ []
+farthest_none Done xs e = last_none xs e
+farthest_none Undone xs e = first_none xs e
+farthest_none Cleared xs e = first_none xs e
+
+first_push : (xs : List ℕ) (x : ℕ) → first_of (xs ++ x ∷ []) ≡ farther Undone (first_of xs) x
+first_push [] x = refl
+first_push (y ∷ xs) x = refl
+
+pub farthest_push : (from : Standing) (xs : List ℕ) (x : ℕ) → farthest from (xs ++ x ∷ []) ≡ farther from (farthest from xs) x
+farthest_push Done xs x = last_push xs x
+farthest_push Undone xs x = first_push xs x
+farthest_push Cleared [] x = refl
+farthest_push Cleared (y ∷ xs) x = refl
 
 -- a list with its last item
 pub last_split : (xs : List ℕ) (x : ℕ) → last_of xs ≡ Some x → (front : List ℕ) × (xs ≡ front ++ x ∷ [])
@@ -113,7 +127,7 @@ module _ {S : Type 0} (kept : List (KeptChange S)) where
       here : (xs : List (KeptChange S)) → in_effect (k ∷ xs) ≡ k ∷ in_effect xs
       here xs = ap (λ (c : Bool). cond c (k ∷ in_effect xs) (in_effect xs)) (ap is_done done)
 
--- ---- what lies over and under
+-- ---- what lies in the way
 
 pub one_table_test : (a b : Option ℕ) → IsOneTable a b → is_one_table a b ≡ true
 one_table_test (Some a) (Some b) h = eq-eqb a b h
@@ -124,57 +138,52 @@ one_table_test None None h = absurd h
 less_test : (t u : ℕ) → t < u → nat_lt t u ≡ true
 less_test t u less = grind (arith, nat_tests, less)
 
+from_itself : (from : Standing) → is_from from from ≡ true
+from_itself Done = refl
+from_itself Undone = refl
+from_itself Cleared = refl
+
+passed_all : {X : Type 0} (P : X → Type 0) (from : Standing) (earlier later : List X) → AllByRecursion P earlier → AllByRecursion P later → AllByRecursion P (passed from earlier later)
+passed_all P Done earlier later e l = l
+passed_all P Undone earlier later e l = e
+passed_all P Cleared earlier later e l = e
+
 module _ {S : Type 0} (table : S → Option ℕ) where
-  over_one : (ticket : ℕ) (k j : KeptChange S) → k.ticket ≡ ticket → k.ticket < j.ticket → lies_on table ticket (table k.saved) j ≡ false → IsOneTable (table k.saved) (table j.saved) → j.standing ≢ Done
-  over_one ticket k j own less out same done =
-      let lies : lies_on table ticket (table k.saved) j ≡ true
-      = and_true (is_done j.standing) (nat_lt ticket j.ticket && is_one_table (table k.saved) (table j.saved)) (ap is_done done)
-      (and_true (nat_lt ticket j.ticket) (is_one_table (table k.saved) (table j.saved)) (less_test ticket j.ticket (omega (arith, own, less))) (one_table_test (table k.saved) (table j.saved) same)) in
+  -- in the order of tickets, a turn goes past the tickets on its side
+  past_tickets : (from : Standing) (earlier : List (KeptChange S)) (k : KeptChange S) (later : List (KeptChange S)) → AreAscending (tickets_of (earlier ++ k ∷ later)) →
+      AllByRecursion (λ x. is_passed from k.ticket x.ticket ≡ true) (passed from earlier later)
+  past_tickets Done earlier k later up = all_weaker _ _ (λ x less. less_test k.ticket x.ticket less) later (asc_after earlier k later up)
+  past_tickets Undone earlier k later up = all_weaker _ _ (λ x less. less_test x.ticket k.ticket less) earlier (asc_before earlier k later up)
+  past_tickets Cleared earlier k later up = all_weaker _ _ (λ x less. less_test x.ticket k.ticket less) earlier (asc_before earlier k later up)
+
+  in_way_one : (from : Standing) (ticket : ℕ) (k j : KeptChange S) → k.ticket ≡ ticket → is_passed from k.ticket j.ticket ≡ true → lies_in_way table from ticket (table k.saved) j ≡ false →
+      IsOneTable (table k.saved) (table j.saved) → j.standing ≢ from
+  in_way_one from ticket k j own past out same stands =
+      let lies : lies_in_way table from ticket (table k.saved) j ≡ true
+      = and_true (is_from from j.standing) (is_passed from ticket j.ticket && is_one_table (table k.saved) (table j.saved)) (ap (is_from from) stands ∙ from_itself from)
+      (and_true (is_passed from ticket j.ticket) (is_one_table (table k.saved) (table j.saved)) (ap (λ (n : ℕ). is_passed from n j.ticket) (sym own) ∙ past) (one_table_test (table k.saved) (table j.saved) same)) in
       false≢true (sym out ∙ lies)
 
-  under_one : (ticket : ℕ) (k j : KeptChange S) → k.ticket ≡ ticket → j.ticket < k.ticket → lies_under table ticket (table k.saved) j ≡ false → IsOneTable (table k.saved) (table j.saved) → j.standing ≢ Undone
-  under_one ticket k j own less out same undone =
-      let lies : lies_under table ticket (table k.saved) j ≡ true
-      = and_true (not (is_done j.standing)) (nat_lt j.ticket ticket && is_one_table (table k.saved) (table j.saved)) (ap (λ (s : Standing). not (is_done s)) undone)
-      (and_true (nat_lt j.ticket ticket) (is_one_table (table k.saved) (table j.saved)) (less_test j.ticket ticket (omega (arith, own, less))) (one_table_test (table k.saved) (table j.saved) same)) in
-      false≢true (sym out ∙ lies)
-
-  pub can_be_undone : (kept : List (KeptChange S)) (ticket place : ℕ) (k : KeptChange S) → AreAscending (tickets_of kept) → slice_get kept place ≡ Some k → k.ticket ≡ ticket → k.standing ≡ Done →
-      last_of (tickets_of (filter (lies_on table ticket (table k.saved)) kept)) ≡ None → CanBeUndone table kept place
-  can_be_undone kept ticket place k up there own done none =
+  pub can_be_turned : (from : Standing) (kept : List (KeptChange S)) (ticket place : ℕ) (k : KeptChange S) → AreAscending (tickets_of kept) → slice_get kept place ≡ Some k → k.ticket ≡ ticket → k.standing ≡ from →
+      farthest from (tickets_of (filter (lies_in_way table from ticket (table k.saved)) kept)) ≡ None → CanBeTurned table from kept place
+  can_be_turned from kept ticket place k up there own stands none =
       let at = at_place kept place k there in
-      let out = none_filtered (lies_on table ticket (table k.saved)) kept (none_mapped (λ (x : KeptChange S). x.ticket) (filter (lies_on table ticket (table k.saved)) kept) (last_none (tickets_of (filter (lies_on table ticket (table k.saved)) kept)) none)) in
-      let behind = (all_split (λ x. lies_on table ticket (table k.saved) x ≡ false) at.earlier (k ∷ at.later) (subst (λ (l : List (KeptChange S)). AllByRecursion (λ x. lies_on table ticket (table k.saved) x ≡ false) l) at.all out)).1.1 in
-      let less = asc_after at.earlier k at.later (subst (λ (l : List (KeptChange S)). AreAscending (tickets_of l)) at.all up) in
-      let n : place + 1 ≡ suc (length at.earlier) = omega (arith, at.place) in
-      let later : drop (place + 1) kept ≡ at.later = (λ i. drop (n i) (at.all i)) ∙ drop_past at.earlier k at.later in
+      let lies = lies_in_way table from ticket (table k.saved) in
+      let out = none_filtered lies kept (none_mapped (λ (x : KeptChange S). x.ticket) (filter lies kept) (farthest_none from (tickets_of (filter lies kept)) none)) in
+      let parts = all_split (λ x. lies x ≡ false) at.earlier (k ∷ at.later) (subst (λ (l : List (KeptChange S)). AllByRecursion (λ x. lies x ≡ false) l) at.all out) in
+      let past = past_tickets from at.earlier k at.later (subst (λ (l : List (KeptChange S)). AreAscending (tickets_of l)) at.all up) in
       record {
         here = k;
         there = there;
-        done = done;
-        uncovered = subst (λ (l : List (KeptChange S)). IsUncovered table k.saved l) (sym later)
-            (all_both (λ x. k.ticket < x.ticket) (λ x. lies_on table ticket (table k.saved) x ≡ false) _ (λ x l o. over_one ticket k x own l o) at.later less behind);
-      }
-
-  pub can_be_redone : (kept : List (KeptChange S)) (ticket place : ℕ) (k : KeptChange S) → AreAscending (tickets_of kept) → slice_get kept place ≡ Some k → k.ticket ≡ ticket → k.standing ≡ Undone →
-      first_of (tickets_of (filter (lies_under table ticket (table k.saved)) kept)) ≡ None → CanBeRedone table kept place
-  can_be_redone kept ticket place k up there own undone none =
-      let at = at_place kept place k there in
-      let out = none_filtered (lies_under table ticket (table k.saved)) kept (none_mapped (λ (x : KeptChange S). x.ticket) (filter (lies_under table ticket (table k.saved)) kept) (first_none (tickets_of (filter (lies_under table ticket (table k.saved)) kept)) none)) in
-      let before = (all_split (λ x. lies_under table ticket (table k.saved) x ≡ false) at.earlier (k ∷ at.later) (subst (λ (l : List (KeptChange S)). AllByRecursion (λ x. lies_under table ticket (table k.saved) x ≡ false) l) at.all out)).0 in
-      let less = asc_before at.earlier k at.later (subst (λ (l : List (KeptChange S)). AreAscending (tickets_of l)) at.all up) in
-      let first : take place kept ≡ at.earlier = (λ i. take (sym at.place i) (at.all i)) ∙ take_there at.earlier (k ∷ at.later) in
-      record {
-        here = k;
-        there = there;
-        undone = undone;
-        founded = subst (λ (l : List (KeptChange S)). IsFounded table k.saved l) (sym first)
-            (all_both (λ x. x.ticket < k.ticket) (λ x. lies_under table ticket (table k.saved) x ≡ false) _ (λ x l o. under_one ticket k x own l o) at.earlier less before);
+        stands = stands;
+        clear = subst (λ (l : List (KeptChange S)). IsClear table from k.saved l) (sym (passed_at kept place k at from))
+            (all_both (λ x. is_passed from k.ticket x.ticket ≡ true) (λ x. lies x ≡ false) _ (λ x p o. in_way_one from ticket k x own p o) (passed from at.earlier at.later) past
+            (passed_all (λ x. lies x ≡ false) from at.earlier at.later parts.0 parts.1.1));
       }
 
   -- the one that was undone last can be redone
   pub last_can_be_redone : (changes : Changes S) (ticket place : ℕ) (k : KeptChange S) → AreChanges table changes → last_of changes.undone ≡ Some ticket →
-      slice_get changes.kept place ≡ Some k → k.ticket ≡ ticket → CanBeRedone table changes.kept place
+      slice_get changes.kept place ≡ Some k → k.ticket ≡ ticket → CanBeTurned table Undone changes.kept place
   last_can_be_redone changes ticket place k are last there own =
       let at = at_place changes.kept place k there in
       let split = last_split changes.undone ticket last in
@@ -184,8 +193,8 @@ module _ {S : Type 0} (table : S → Option ℕ) where
       record {
         here = k;
         there = there;
-        undone = undone;
-        founded = subst (λ (l : List (KeptChange S)). IsFounded table k.saved l) (sym first)
+        stands = undone;
+        clear = subst (λ (l : List (KeptChange S)). IsFounded table k.saved l) (sym first)
             (last_founded table at.earlier k at.later split.0 changes.undone (split.1 ∙ ap (λ n. split.0 ++ n ∷ []) (sym own)) are.once undone
             (subst (λ (l : List (KeptChange S)). AreInTurn table changes.undone l) at.all are.in_turn));
       }
@@ -224,17 +233,6 @@ unknown_not_undone undone kept ticket known absent =
       | inr none ↦ none
     ]
 
--- the standing of what is not undone, and of what is
-pub not_undone_done : {S : Type 0} (undone : List ℕ) (kept : List (KeptChange S)) (place ticket : ℕ) (k : KeptChange S) → AllByRecursion (λ x. x.standing ≡ standing_in undone x.ticket) kept →
-    slice_get kept place ≡ Some k → k.ticket ≡ ticket → is_among undone ticket ≡ false → k.standing ≡ Done
-not_undone_done undone kept place ticket k h there own out =
-    all_at (λ x. x.standing ≡ standing_in undone x.ticket) kept place k h there ∙ ap (λ (b : Bool). if b then Undone else Done) (ap (is_among undone) own ∙ out)
-
-pub undone_undone : {S : Type 0} (undone : List ℕ) (kept : List (KeptChange S)) (place ticket : ℕ) (k : KeptChange S) → AllByRecursion (λ x. x.standing ≡ standing_in undone x.ticket) kept →
-    slice_get kept place ≡ Some k → k.ticket ≡ ticket → is_among undone ticket ≡ true → k.standing ≡ Undone
-undone_undone undone kept place ticket k h there own is =
-    all_at (λ x. x.standing ≡ standing_in undone x.ticket) kept place k h there ∙ ap (λ (b : Bool). if b then Undone else Done) (ap (is_among undone) own ∙ is)
-
 pub done_among : {S : Type 0} (kept : List (KeptChange S)) (place ticket : ℕ) (k : KeptChange S) → slice_get kept place ≡ Some k → k.ticket ≡ ticket → k.standing ≡ Done →
     is_among (tickets_of (in_effect kept)) ticket ≡ true
 done_among {S} kept place ticket k there own done =
@@ -243,21 +241,65 @@ done_among {S} kept place ticket k there own done =
     ∙ ap (is_among (tickets_of (in_effect (at.earlier ++ k ∷ at.later)))) (sym own)
     ∙ done_here at.earlier k at.later (ap is_done done)
 
--- no memory for the change at a place
-pub needs_none_at : {S : Type 0} (needs_memory : S → Bool) (kept : List (KeptChange S)) (place ticket : ℕ) → NeedsNone needs_memory kept ticket →
-    option_map (λ k. k.ticket) (slice_get kept place) ≡ Some ticket → IfSome (slice_get kept place) (λ k. needs_memory k.saved ≡ false)
-needs_none_at {S} needs_memory kept place ticket none own = by (slice_get kept place) refl own
-  where
-    by : (o : Option (KeptChange S)) → slice_get kept place ≡ o → option_map (λ k. k.ticket) o ≡ Some ticket → IfSome o (λ k. needs_memory k.saved ≡ false)
-    by None there is = tt
-    by (Some k) there is = let same : k.ticket ≡ ticket = cc in all_at (λ x. x.ticket ≡ ticket → needs_memory x.saved ≡ false) kept place k none there same
+-- ---- what can be turned, and what cannot
 
--- no memory to undo the change at a place, which is in effect
-pub undo_needs_none_at : {S : Type 0} (needs_memory : S → Bool) (kept : List (KeptChange S)) (place ticket : ℕ) (k : KeptChange S) → UndoNeedsNone needs_memory kept ticket → slice_get kept place ≡ Some k →
-    k.ticket ≡ ticket → k.standing ≡ Done → IfSome (slice_get kept place) (λ k. needs_memory k.saved ≡ false)
-undo_needs_none_at {S} needs_memory kept place ticket k none there own done =
+module _ {S : Type 0} (table : S → Option ℕ) (changes : Changes S) (are : AreChanges table changes) (ticket : ℕ) where
+  pub absent_not_turnable : (from : Standing) → is_among (tickets_of changes.kept) ticket ≡ false → is_among (turnable from changes) ticket ≡ false
+  absent_not_turnable Done absent = absent_not_done changes.kept ticket absent
+  absent_not_turnable Undone absent = unknown_not_undone changes.undone changes.kept ticket are.known absent
+  absent_not_turnable Cleared absent = unknown_not_undone changes.undone changes.kept ticket are.known absent
+
+  module _ (place : ℕ) (k : KeptChange S) (there : slice_get changes.kept place ≡ Some k) (own : k.ticket ≡ ticket) where
+    its_standing : k.standing ≡ standing_in changes.undone ticket
+    its_standing = all_at (λ x. x.standing ≡ standing_in changes.undone x.ticket) changes.kept place k are.standings there ∙ ap (standing_in changes.undone) own
+
+    pub stands_from : (from : Standing) → from ≢ Cleared → is_from from k.standing ≡ true → k.standing ≡ from
+    unfolding its_standing
+    stands_from from live is = its_standing ∙ by from (is_among changes.undone ticket) live (sym (ap (is_from from) its_standing) ∙ is)
+      where
+        by : (s : Standing) (b : Bool) → s ≢ Cleared → is_from s (if b then Undone else Done) ≡ true → (if b then Undone else Done) ≡ s
+        by Done true live is = absurd (false≢true is)
+        by Done false live is = refl
+        by Undone true live is = refl
+        by Undone false live is = absurd (false≢true is)
+        by Cleared b live is = absurd (live refl)
+
+    undone_there : k.standing ≡ Undone → is_among changes.undone ticket ≡ true
+    unfolding its_standing
+    undone_there undone = standing_undone (is_among changes.undone ticket) (sym its_standing ∙ undone)
+
+    pub turnable_there : (from : Standing) → from ≢ Cleared → k.standing ≡ from → is_among (turnable from changes) ticket ≡ true
+    turnable_there Done live stands = done_among changes.kept place ticket k there own stands
+    turnable_there Undone live stands = undone_there stands
+    turnable_there Cleared live stands = absurd (live refl)
+
+    not_done : is_done k.standing ≡ false → is_among changes.undone ticket ≡ true
+    unfolding its_standing
+    not_done out = by (is_among changes.undone ticket) (sym (ap is_done its_standing) ∙ out)
+      where
+        by : (b : Bool) → is_done (if b then Undone else Done) ≡ false → b ≡ true
+        by true e = refl
+        by false e = absurd (false≢true (sym e))
+
+    not_undone : not (is_done k.standing) ≡ false → is_among changes.undone ticket ≡ false
+    unfolding its_standing
+    not_undone out = by (is_among changes.undone ticket) (sym (ap (λ (s : Standing). not (is_done s)) its_standing) ∙ out)
+      where
+        by : (b : Bool) → not (is_done (if b then Undone else Done)) ≡ false → b ≡ false
+        by true e = absurd (false≢true (sym e))
+        by false e = refl
+
+    pub not_turnable : (from : Standing) → is_from from k.standing ≡ false → is_among (turnable from changes) ticket ≡ false
+    not_turnable Done out = undone_not_done changes.undone changes.kept ticket are.standings (not_done out)
+    not_turnable Undone out = not_undone out
+    not_turnable Cleared out = not_undone out
+
+-- no memory to turn the change at a place, which stands so
+pub turn_needs_none_at : {S : Type 0} (needs_memory : S → Bool) (from : Standing) (kept : List (KeptChange S)) (place ticket : ℕ) (k : KeptChange S) → TurnNeedsNone needs_memory from kept ticket → slice_get kept place ≡ Some k →
+    k.ticket ≡ ticket → k.standing ≡ from → IfSome (slice_get kept place) (λ k. needs_memory k.saved ≡ false)
+turn_needs_none_at {S} needs_memory from kept place ticket k none there own stands =
     subst (λ (o : Option (KeptChange S)). IfSome o (λ k. needs_memory k.saved ≡ false)) (sym there)
-    (all_at (λ x. x.ticket ≡ ticket → x.standing ≡ Done → needs_memory x.saved ≡ false) kept place k none there own done)
+    (all_at (λ x. x.ticket ≡ ticket → x.standing ≡ from → needs_memory x.saved ≡ false) kept place k none there own stands)
 
 -- ---- a walk over the ring
 
@@ -268,36 +310,21 @@ filter_more {X} p xs n x there =
     ap (λ (l : List X). filter p l) ((λ i. take (next i) xs) ∙ take_at xs n x there) ∙ filter-append p (take n xs) (x ∷ [])
 
 module _ {S : Type 0} (p : KeptChange S → Bool) (kept : List (KeptChange S)) (place : ℕ) (k : KeptChange S) (there : slice_get kept place ≡ Some k) where
-  pub last_here : (last : Option ℕ) → p k ≡ true → last ≡ Some k.ticket → last ≡ last_of (tickets_of (filter p (take (place + 1) kept)))
-  last_here last lies is =
+  pub found_here : (from : Standing) (found found' : Option ℕ) → p k ≡ true → found ≡ farthest from (tickets_of (filter p (take place kept))) → found' ≡ farther from found k.ticket →
+      found' ≡ farthest from (tickets_of (filter p (take (place + 1) kept)))
+  found_here from found found' lies so is =
       let all : filter p (take (place + 1) kept) ≡ filter p (take place kept) ++ k ∷ []
       = filter_more p kept place k there ∙ ap (λ (b : Bool). filter p (take place kept) ++ (if b then k ∷ [] else [])) lies in
-      is ∙ sym (last_push (tickets_of (filter p (take place kept))) k.ticket)
-      ∙ ap last_of (sym (map_append (λ x. x.ticket) (filter p (take place kept)) (k ∷ [])))
-      ∙ ap (λ (l : List (KeptChange S)). last_of (tickets_of l)) (sym all)
+      is ∙ ap (λ (o : Option ℕ). farther from o k.ticket) so ∙ sym (farthest_push from (tickets_of (filter p (take place kept))) k.ticket)
+      ∙ ap (farthest from) (sym (map_append (λ x. x.ticket) (filter p (take place kept)) (k ∷ [])))
+      ∙ ap (λ (l : List (KeptChange S)). farthest from (tickets_of l)) (sym all)
 
-  passed : p k ≡ false → filter p (take (place + 1) kept) ≡ filter p (take place kept)
-  passed apart =
-      filter_more p kept place k there ∙ ap (λ (b : Bool). filter p (take place kept) ++ (if b then k ∷ [] else [])) apart ∙ append-nil (filter p (take place kept))
-
-  pub last_passed : (before last : Option ℕ) → p k ≡ false → before ≡ last_of (tickets_of (filter p (take place kept))) → last ≡ before → last ≡ last_of (tickets_of (filter p (take (place + 1) kept)))
-  unfolding passed
-  last_passed before last apart so is = is ∙ so ∙ ap (λ (l : List (KeptChange S)). last_of (tickets_of l)) (sym (passed apart))
-
-  pub none_passed : p k ≡ false → filter p (take place kept) ≡ [] → filter p (take (place + 1) kept) ≡ []
-  unfolding passed
-  none_passed apart none = passed apart ∙ none
-
-  pub first_here : p k ≡ true → filter p (take place kept) ≡ [] → Some k.ticket ≡ first_of (tickets_of (filter p kept))
-  first_here lies none =
-      let rest = drop (suc place) kept in
-      let all : filter p kept ≡ k ∷ filter p rest
-      = ap (λ (l : List (KeptChange S)). filter p l) (sym (take-append-drop place kept))
-      ∙ filter-append p (take place kept) (drop place kept)
-      ∙ ap (λ (l : List (KeptChange S)). l ++ filter p (drop place kept)) none
-      ∙ ap (λ (l : List (KeptChange S)). filter p l) (drop_at kept place k there)
-      ∙ ap (λ (b : Bool). cond b (k ∷ filter p rest) (filter p rest)) lies in
-      ap (λ (l : List (KeptChange S)). first_of (tickets_of l)) (sym all)
+  pub found_passed : (from : Standing) (found found' : Option ℕ) → p k ≡ false → found ≡ farthest from (tickets_of (filter p (take place kept))) → found' ≡ found →
+      found' ≡ farthest from (tickets_of (filter p (take (place + 1) kept)))
+  found_passed from found found' apart so is =
+      let all : filter p (take (place + 1) kept) ≡ filter p (take place kept)
+      = filter_more p kept place k there ∙ ap (λ (b : Bool). filter p (take place kept) ++ (if b then k ∷ [] else [])) apart ∙ append-nil (filter p (take place kept)) in
+      is ∙ so ∙ ap (λ (l : List (KeptChange S)). farthest from (tickets_of l)) (sym all)
 
 -- ---- the place of a ticket
 
@@ -382,12 +409,12 @@ back_end kept len back past none =
 
 -- ---- the newest in effect can be undone
 
-pub last_can_be_undone : {S : Type 0} (table : S → Option ℕ) (kept : List (KeptChange S)) (place : ℕ) → IsLastDone kept place → CanBeUndone table kept place
+pub last_can_be_undone : {S : Type 0} (table : S → Option ℕ) (kept : List (KeptChange S)) (place : ℕ) → IsLastDone kept place → CanBeTurned table Done kept place
 last_can_be_undone table kept place is = record {
   here = is.here;
   there = is.there;
-  done = is.done;
-  uncovered = all_weaker (λ k. is_done k.standing ≡ false) _ (λ k out same done. false≢true (sym out ∙ ap is_done done)) (drop (place + 1) kept) is.none;
+  stands = is.done;
+  clear = all_weaker (λ k. is_done k.standing ≡ false) _ (λ k out same done. false≢true (sym out ∙ ap is_done done)) (drop (place + 1) kept) is.none;
 }
 
 pub none_long : {X : Type 0} (xs : List X) → length xs ≡ 0 → xs ≡ []

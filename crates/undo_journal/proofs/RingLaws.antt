@@ -1,17 +1,16 @@
 -- The ring at one place: what is before it, it, and what is after it. And lists of tickets.
-use Rattle.std.proofs.Common.{◌≡◌, ◌≢◌, ◌⊎◌, inl, inr, ℕ, zero, suc, ◌+◌, ◌-◌, ◌≤◌, Bool, true, false, cond, Option, Some, List, [], ◌∷◌, ◌++◌, length, take, drop, map, set, refl, sym, ap, subst, ◌∙◌, arith, rules, length-append}
+use Rattle.std.proofs.Common.{◌≡◌, ◌≢◌, ◌⊎◌, inl, inr, ℕ, zero, suc, ◌+◌, ◌-◌, ◌<◌, ◌≤◌, Bool, true, false, Option, Some, None, List, [], ◌∷◌, ◌++◌, length, take, drop, map, refl, sym, ap, subst, ◌∙◌, arith, rules}
 use Rattle.std.specs.Prelude.{slice_get, slice_set, Result, Ok, Err, OnErr, filter, not, ◌==◌, ◌&&◌, ◌||◌, if◌then◌else◌}
-use Rattle.std.specs.List.{AllByRecursion, list_any}
-use Rattle.std.proofs.lemmas.Bool.{cases_Bool, eq-eqb, eqb-true, false≢true}
+use Rattle.std.specs.List.{AllByRecursion}
+use Rattle.std.proofs.lemmas.Bool.{cases_Bool, eqb-true, false≢true}
 use Rattle.std.proofs.lemmas.List.Folds.{list_any-append}
-use Rattle.dns_name.specs.ListLaws.{all-append, all_split, all_weaker}
 use Rattle.change_law.specs.declared.kept.KeptChange.{KeptChange}
 use Rattle.change_law.specs.declared.kept.Standing.{Standing}
 use Rattle.change_law.specs.declared.kept.Standing.TheVariants.{Done, Undone, Cleared}
 use Rattle.change_law.specs.ChoiceLaws.{same_number, other_number}
 use Rattle.change_law.specs.Face.{Face}
 use Rattle.change_law.specs.Row.{kept_as, IsRowAfter}
-use Rattle.undo_journal.specs.Journal.{AreAscending, AreDifferent, is_among, is_before, without}
+use Rattle.undo_journal.specs.Journal.{AreDifferent, is_among, is_before, passed, turned, without}
 pub use Rattle.undo_journal.specs.TicketLaws.{all_among, all_back, all_both, all_filter, all_images, among_without, map_length}
 
 -- ---- lists
@@ -51,6 +50,14 @@ drop_there (x ∷ xs) ys = drop_there xs ys
 pub drop_past : {X : Type 0} (xs : List X) (y : X) (ys : List X) → drop (suc (length xs)) (xs ++ y ∷ ys) ≡ ys
 drop_past [] y ys = refl
 drop_past (x ∷ xs) y ys = drop_past xs y ys
+
+-- what is before a place, or what is after it
+pub passed_at : {X : Type 0} (xs : List X) (n : ℕ) (x : X) (at : IsAt xs n x) (from : Standing) → passed from (take n xs) (drop (n + 1) xs) ≡ passed from at.earlier at.later
+passed_at xs n x at from =
+    let next : n + 1 ≡ suc (length at.earlier) = omega (arith, at.place) in
+    let front : take n xs ≡ at.earlier = (λ i. take (sym at.place i) (at.all i)) ∙ take_there at.earlier (x ∷ at.later) in
+    let behind : drop (n + 1) xs ≡ at.later = (λ i. drop (next i) (at.all i)) ∙ drop_past at.earlier x at.later in
+    λ i. passed from (front i) (behind i)
 
 pub map_append : {X Y : Type 0} (f : X → Y) (xs ys : List X) → map f (xs ++ ys) ≡ map f xs ++ map f ys
 map_append f [] ys = refl
@@ -211,6 +218,11 @@ Undone≢Cleared e = false≢true (ap is_cleared e)
 
 pub Done≢Cleared : Done ≢ Cleared
 Done≢Cleared e = false≢true (ap is_cleared e)
+
+pub turned≢Cleared : (from : Standing) → turned from ≢ Cleared
+turned≢Cleared Done = Undone≢Cleared
+turned≢Cleared Undone = Done≢Cleared
+turned≢Cleared Cleared = Done≢Cleared
 
 pub kept_is : {S : Type 0} (k : KeptChange S) (s : Standing) → k.standing ≡ s → kept_as s k.ticket k.saved ≡ k
 kept_is k s e = λ i. record { ticket = k.ticket; standing = sym e i; saved = k.saved }

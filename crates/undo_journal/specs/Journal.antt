@@ -1,11 +1,11 @@
 -- The journal: its changes, and how an undo, a redo and a new change alter them.
-use Rattle.std.specs.Prelude.{◌≡◌, ℕ, ◌+◌, ◌-◌, ◌<◌, ◌≤◌, ◌==◌, ◌&&◌, ◌||◌, nat_lt, Bool, true, false, not, Option, Some, None, List, [], ◌∷◌, ◌++◌, length, map, filter, take, drop, slice_get, option_map, refl, if◌then◌else◌}
+use Rattle.std.specs.Prelude.{◌≡◌, ◌≢◌, ℕ, ◌+◌, ◌-◌, ◌<◌, ◌≤◌, ◌==◌, ◌&&◌, ◌||◌, nat_lt, Bool, true, false, not, Option, Some, None, List, [], ◌∷◌, ◌++◌, length, map, filter, take, drop, slice_get, option_map, refl, if◌then◌else◌}
 use Rattle.std.specs.List.{AllByRecursion, list_any}
 use Rattle.std.specs.Coded.{Coded, code_by, coded×, coded_list, coded_ℕ}
 use Rattle.change_law.specs.declared.kept.KeptChange.{KeptChange}
 use Rattle.change_law.specs.declared.kept.Standing.{Standing}
 use Rattle.change_law.specs.declared.kept.Standing.TheVariants.{Done, Undone}
-use Rattle.change_law.specs.Choice.{IsChoice, IsFounded, IsOneTable, IsUncovered, is_done}
+use Rattle.change_law.specs.Choice.{IsChoice, IsOneTable, IsUncovered, is_done}
 use Rattle.change_law.specs.Row.{kept_as}
 use Rattle.undo_journal.specs.declared.outcome.Outcome.{Outcome}
 use Rattle.undo_journal.specs.declared.outcome.Outcome.TheVariants.{Moved, NotKept, Buried}
@@ -106,21 +106,60 @@ abbrev pub table_at : {S : Type 0} → (S → Option ℕ) → List (KeptChange S
 table_at table [] ticket = None
 table_at table (k ∷ kept) ticket = if k.ticket == ticket then table k.saved else table_at table kept ticket
 
--- whether a change of this table is in effect and has a later ticket
-abbrev pub lies_on : {S : Type 0} → (S → Option ℕ) → ℕ → Option ℕ → KeptChange S → Bool
-lies_on table ticket own k = is_done k.standing && (nat_lt ticket k.ticket && is_one_table own (table k.saved))
+-- ---- turns: an undo turns a change that is in effect, a redo one that is undone
 
--- whether a change of this table is not in effect and has an earlier ticket
-abbrev pub lies_under : {S : Type 0} → (S → Option ℕ) → ℕ → Option ℕ → KeptChange S → Bool
-lies_under table ticket own k = not (is_done k.standing) && (nat_lt k.ticket ticket && is_one_table own (table k.saved))
+-- the standing of a change after its turn
+abbrev pub turned : Standing → Standing
+turned Done = Undone
+turned _ = Done
 
--- the greatest later ticket of its table in effect: that change must be undone first
-abbrev pub over : {S : Type 0} → (S → Option ℕ) → List (KeptChange S) → ℕ → Option ℕ
-over table kept ticket = last_of (tickets_of (filter (lies_on table ticket (table_at table kept ticket)) kept))
+-- whether a change stands as those that are turned from here
+abbrev pub is_from : Standing → Standing → Bool
+is_from Done standing = is_done standing
+is_from _ standing = not (is_done standing)
 
--- the least earlier ticket of its table that is undone: that change must be redone first
-abbrev pub under : {S : Type 0} → (S → Option ℕ) → List (KeptChange S) → ℕ → Option ℕ
-under table kept ticket = first_of (tickets_of (filter (lies_under table ticket (table_at table kept ticket)) kept))
+-- the tickets of the changes that can be turned from here: those in effect in their order, the undone in the order of their undos
+abbrev pub turnable : {S : Type 0} → Standing → Changes S → List ℕ
+turnable Done changes = done_of changes
+turnable _ changes = changes.undone
+
+-- the tickets of the undone after a turn
+abbrev pub undone_with : Standing → ℕ → List ℕ → List ℕ
+undone_with Done ticket undone = undone ++ ticket ∷ []
+undone_with _ ticket undone = without ticket undone
+
+-- what is in the way of a turn, of what is before a place and what is after it: an undo goes past later ones, a redo past earlier ones
+abbrev pub passed : {X : Type 0} → Standing → X → X → X
+passed Done earlier later = later
+passed _ earlier later = earlier
+
+-- whether the turn of one ticket goes past another
+abbrev pub is_passed : Standing → ℕ → ℕ → Bool
+is_passed Done ticket other = nat_lt ticket other
+is_passed _ ticket other = nat_lt other ticket
+
+-- the farthest of the tickets in the way, by the farthest so far
+abbrev pub farther : Standing → Option ℕ → ℕ → Option ℕ
+farther Done found ticket = Some ticket
+farther _ None ticket = Some ticket
+farther _ (Some first) ticket = Some first
+
+-- the farthest of the tickets in the way
+abbrev pub farthest : Standing → List ℕ → Option ℕ
+farthest Done tickets = last_of tickets
+farthest _ tickets = first_of tickets
+
+-- whether a change of this table is in the way of the turn of a ticket
+abbrev pub lies_in_way : {S : Type 0} → (S → Option ℕ) → Standing → ℕ → Option ℕ → KeptChange S → Bool
+lies_in_way table from ticket own k = is_from from k.standing && (is_passed from ticket k.ticket && is_one_table own (table k.saved))
+
+-- the farthest ticket of its table in the way: that change must be turned first
+abbrev pub in_way : {S : Type 0} → (S → Option ℕ) → Standing → List (KeptChange S) → ℕ → Option ℕ
+in_way table from kept ticket = farthest from (tickets_of (filter (lies_in_way table from ticket (table_at table kept ticket)) kept))
+
+-- No change of its table that the turn goes past stands as it does.
+abbrev pub IsClear : {S : Type 0} → (S → Option ℕ) → Standing → S → List (KeptChange S) → Type 0
+IsClear table from saved others = AllByRecursion (λ k. IsOneTable (table saved) (table k.saved) → k.standing ≢ from) others
 
 -- ---- the journal
 
@@ -149,45 +188,41 @@ pub record AreChanges {S : Type 0} (table : S → Option ℕ) (changes : Changes
   pub fits : length changes.undone ≤ length (out_of_effect changes.kept)
   pub room : 1 ≤ changes.limit
 
--- The change of a ticket, which was in effect, is undone. It is the one that was undone last.
-pub record IsTakenBack {S : Type 0} (before : Changes S) (ticket : ℕ) (after : Changes S) : Type 0 where
-  pub reached : is_among (done_of before) ticket ≡ true
-  pub standings : standings_of after.kept ≡ standings_with ticket Undone (standings_of before.kept)
-  pub undone : after.undone ≡ before.undone ++ ticket ∷ []
+-- The change of a ticket is turned: it was in effect and is the one that was undone last, or it was undone and is in effect again, at its place.
+pub record HasTurned {S : Type 0} (from : Standing) (before : Changes S) (ticket : ℕ) (after : Changes S) : Type 0 where
+  pub reached : is_among (turnable from before) ticket ≡ true
+  pub standings : standings_of after.kept ≡ standings_with ticket (turned from) (standings_of before.kept)
+  pub undone : after.undone ≡ undone_with from ticket before.undone
   pub tickets : after.tickets ≡ before.tickets
   pub limit : after.limit ≡ before.limit
 
--- The change of a ticket, which was undone, is in effect again, at its place.
-pub record IsPutBack {S : Type 0} (before : Changes S) (ticket : ℕ) (after : Changes S) : Type 0 where
-  pub reached : is_among before.undone ticket ≡ true
-  pub standings : standings_of after.kept ≡ standings_with ticket Done (standings_of before.kept)
-  pub undone : after.undone ≡ without ticket before.undone
-  pub tickets : after.tickets ≡ before.tickets
-  pub limit : after.limit ≡ before.limit
+-- The last change that can be turned is turned. If there was none, nothing changes.
+abbrev pub IsTurn : {S : Type 0} → Standing → Changes S → Option ℕ → Changes S → Type 0
+IsTurn from before None after = (turnable from before ≡ []) × (after ≡ before)
+IsTurn from before (Some ticket) after = (last_of (turnable from before) ≡ Some ticket) × HasTurned from before ticket after
 
 -- The last change in effect is undone. If there was none, nothing changes.
 abbrev pub IsUndo : {S : Type 0} → Changes S → Option ℕ → Changes S → Type 0
-IsUndo before None after = (done_of before ≡ []) × (after ≡ before)
-IsUndo before (Some ticket) after = (last_of (done_of before) ≡ Some ticket) × IsTakenBack before ticket after
+IsUndo before ticket after = IsTurn Done before ticket after
 
 -- The change that was undone last is in effect again. If there was none, nothing changes.
 abbrev pub IsRedo : {S : Type 0} → Changes S → Option ℕ → Changes S → Type 0
-IsRedo before None after = (before.undone ≡ []) × (after ≡ before)
-IsRedo before (Some ticket) after = (last_of before.undone ≡ Some ticket) × IsPutBack before ticket after
+IsRedo before ticket after = IsTurn Undone before ticket after
+
+-- The change of a ticket is turned. If it does not stand so, or another one of its table is in the way, nothing changes.
+abbrev pub IsTurnOf : {S : Type 0} → (S → Option ℕ) → Standing → Changes S → ℕ → Outcome → Changes S → Type 0
+IsTurnOf table from before ticket Moved after = (in_way table from before.kept ticket ≡ None) × HasTurned from before ticket after
+IsTurnOf table from before ticket NotKept after = (is_among (turnable from before) ticket ≡ false) × (after ≡ before)
+IsTurnOf table from before ticket (Buried other) after =
+    (is_among (turnable from before) ticket ≡ true) × (in_way table from before.kept ticket ≡ Some other) × (after ≡ before)
 
 -- The change of a ticket is undone. If it is not in effect, or a later one of its table is, nothing changes.
 abbrev pub IsUndoOf : {S : Type 0} → (S → Option ℕ) → Changes S → ℕ → Outcome → Changes S → Type 0
-IsUndoOf table before ticket Moved after = (over table before.kept ticket ≡ None) × IsTakenBack before ticket after
-IsUndoOf table before ticket NotKept after = (is_among (done_of before) ticket ≡ false) × (after ≡ before)
-IsUndoOf table before ticket (Buried other) after =
-    (is_among (done_of before) ticket ≡ true) × (over table before.kept ticket ≡ Some other) × (after ≡ before)
+IsUndoOf table before ticket outcome after = IsTurnOf table Done before ticket outcome after
 
 -- The change of a ticket is in effect again. If it is not undone, or an earlier one of its table is undone, nothing changes.
 abbrev pub IsRedoOf : {S : Type 0} → (S → Option ℕ) → Changes S → ℕ → Outcome → Changes S → Type 0
-IsRedoOf table before ticket Moved after = (under table before.kept ticket ≡ None) × IsPutBack before ticket after
-IsRedoOf table before ticket NotKept after = (is_among before.undone ticket ≡ false) × (after ≡ before)
-IsRedoOf table before ticket (Buried other) after =
-    (is_among before.undone ticket ≡ true) × (under table before.kept ticket ≡ Some other) × (after ≡ before)
+IsRedoOf table before ticket outcome after = IsTurnOf table Undone before ticket outcome after
 
 -- To undo or redo the change of a ticket needs no memory.
 abbrev pub NeedsNone : {S : Type 0} → (S → Bool) → List (KeptChange S) → ℕ → Type 0
@@ -232,34 +267,35 @@ pub record IsPlaceOf {S : Type 0} (table : S → Option ℕ) (kept : List (KeptC
   pub own : here.ticket ≡ ticket
   pub looked : table_at table kept ticket ≡ table here.saved
 
--- The change at this place is in effect, and no later one of its table is.
-pub record CanBeUndone {S : Type 0} (table : S → Option ℕ) (kept : List (KeptChange S)) (place : ℕ) : Type 0 where
+-- The change at this place stands so, and no other one of its table that its turn goes past does.
+pub record CanBeTurned {S : Type 0} (table : S → Option ℕ) (from : Standing) (kept : List (KeptChange S)) (place : ℕ) : Type 0 where
   pub here : KeptChange S
   pub there : slice_get kept place ≡ Some here
-  pub done : here.standing ≡ Done
-  pub uncovered : IsUncovered table here.saved (drop (place + 1) kept)
+  pub stands : here.standing ≡ from
+  pub clear : IsClear table from here.saved (passed from (take place kept) (drop (place + 1) kept))
 
--- The change at this place is undone, and no earlier one of its table is.
-pub record CanBeRedone {S : Type 0} (table : S → Option ℕ) (kept : List (KeptChange S)) (place : ℕ) : Type 0 where
-  pub here : KeptChange S
-  pub there : slice_get kept place ≡ Some here
-  pub undone : here.standing ≡ Undone
-  pub founded : IsFounded table here.saved (take place kept)
+-- What a turn of a ticket would do. The change of the ticket is at the place, and can be turned.
+abbrev pub IsReachFrom : {S : Type 0} → (S → Option ℕ) → Standing → Changes S → ℕ → TicketReach → Type 0
+IsReachFrom table from changes ticket (reach.At place) =
+    (is_among (turnable from changes) ticket ≡ true) × (in_way table from changes.kept ticket ≡ None) × IsPlaceOf table changes.kept ticket place × CanBeTurned table from changes.kept place
+IsReachFrom table from changes ticket reach.NotKept = is_among (turnable from changes) ticket ≡ false
+IsReachFrom table from changes ticket (reach.Buried other) = (is_among (turnable from changes) ticket ≡ true) × (in_way table from changes.kept ticket ≡ Some other)
 
 -- What an undo of a ticket would do. The change of the ticket is at the place, is in effect, and no later one of its table is.
 abbrev pub IsReach : {S : Type 0} → (S → Option ℕ) → Changes S → ℕ → TicketReach → Type 0
-IsReach table changes ticket (reach.At place) =
-    (is_among (done_of changes) ticket ≡ true) × (over table changes.kept ticket ≡ None) × IsPlaceOf table changes.kept ticket place × CanBeUndone table changes.kept place
-IsReach table changes ticket reach.NotKept = is_among (done_of changes) ticket ≡ false
-IsReach table changes ticket (reach.Buried other) = (is_among (done_of changes) ticket ≡ true) × (over table changes.kept ticket ≡ Some other)
+IsReach table changes ticket what = IsReachFrom table Done changes ticket what
+
+-- At this place is the last change that can be turned.
+abbrev pub IsNextTurn : {S : Type 0} → (S → Option ℕ) → Standing → Changes S → ℕ → Type 0
+IsNextTurn table from changes place = CanBeTurned table from changes.kept place × (ticket_at changes.kept place ≡ last_of (turnable from changes))
 
 -- At this place is the change that an undo takes back: the newest one in effect.
 abbrev pub IsNextUndo : {S : Type 0} → (S → Option ℕ) → Changes S → ℕ → Type 0
-IsNextUndo table changes place = CanBeUndone table changes.kept place × (ticket_at changes.kept place ≡ last_of (done_of changes))
+IsNextUndo table changes place = IsNextTurn table Done changes place
 
 -- At this place is the change that a redo puts back: the one that was undone last.
 abbrev pub IsNextRedo : {S : Type 0} → (S → Option ℕ) → Changes S → ℕ → Type 0
-IsNextRedo table changes place = CanBeRedone table changes.kept place × (ticket_at changes.kept place ≡ last_of changes.undone)
+IsNextRedo table changes place = IsNextTurn table Undone changes place
 
 -- the journal with one more change, which is in effect
 abbrev pub with_done : {S : Type 0} → ℕ → S → Changes S → Changes S

@@ -1,13 +1,14 @@
 //! The journal: a bounded ring of changes, for undo and redo.
 
-ghost use Rattle.std.specs.Prelude.{◌≡◌, ◌≤◌, ◌<◌, ◌^◌, [], false, length, filter, slice_get, vec_capacity, option_map, None, Some, IfOk, IfErr, IfSome, IfNone, IsOk, OnErr, OnOk};
-ghost use Rattle.change_law.specs.Choice.{is_done};
+ghost use Rattle.std.specs.Prelude.{◌≡◌, ◌≢◌, ◌≤◌, ◌<◌, ◌^◌, [], false, length, filter, slice_get, vec_capacity, option_map, None, Some, IfOk, IfErr, IfSome, IfNone, IsOk, OnErr, OnOk};
+ghost use Rattle.change_law.specs.declared.kept.Standing.TheVariants.{Cleared};
 ghost use Rattle.change_law.specs.Effect.{IsFaultFor};
 ghost use Rattle.change_law.specs.Row.{IsNoMore};
 
 use crate::outcome::{Outcome, TicketReach};
-use crate::reach::{is_done, leave_out, lies_on, lies_under};
+use crate::reach::{farther, is_from, lies_in_way};
 use crate::settling::settle_undone;
+use crate::turning::{turn_saved, turn_undone, turned};
 use change_law::{Change, ChangeFault, KeptChange, Standing, World};
 use circular_buffer::HeapCircularBuffer;
 use dns_name::NoMemory;
@@ -42,10 +43,10 @@ impl<C: Change> Model for Journal<C> {
 }
 
 impl<C: Change> Journal<C> {
-    ghost use Rattle.undo_journal.specs.Journal.{AreChanges, CanBeRedone, CanBeUndone, IsForgotten, IsNextRedo, IsNextUndo, IsPlaceOf, IsPutBack, IsReach, IsRedo, IsRedoOf, IsTakenBack, IsUndo, IsUndoOf, NeedsNone};
-    ghost use Rattle.undo_journal.specs.Journal.{done_of, first_of, in_effect, is_among, last_of, lies_on, lies_under, ticket_at, tickets_of, with_done};
+    ghost use Rattle.undo_journal.specs.Journal.{AreChanges, CanBeTurned, HasTurned, IsForgotten, IsNextRedo, IsNextTurn, IsNextUndo, IsPlaceOf, IsReach, IsReachFrom, IsRedo, IsRedoOf, IsTurn, IsTurnOf, IsUndo, IsUndoOf, NeedsNone};
+    ghost use Rattle.undo_journal.specs.Journal.{done_of, farthest, in_effect, is_among, is_from, lies_in_way, ticket_at, tickets_of, turnable, with_done};
     ghost use Rattle.undo_journal.specs.Moving.{ChangesNothing, MovesStandings, SettlesForOneMore, SettlesUndone, ShowsChange, StoresNoMore, Takes};
-    ghost use Rattle.undo_journal.specs.Needs.{HoldsIfRedoIsFree, HoldsIfUndoIsFree, UndoNeedsNone};
+    ghost use Rattle.undo_journal.specs.Needs.{HoldsIfRedoIsFree, HoldsIfTurnIsFree, HoldsIfUndoIsFree, TurnNeedsNone, UndoNeedsNone};
 
     /// An empty journal, which keeps at most `limit` changes. It takes all its memory here.
     pub fn new(alloc: Global, limit: usize) -> Result<Journal<C>, NoMemory>
@@ -68,13 +69,7 @@ impl<C: Change> Journal<C> {
         ensures err { OnErr result (ChangesNothing C.World.World world.old self.old world.new self.new) }
         ensures counts { IsNoMore C.World.newest C.World.stored C.World.limit C.World.counts world.old world.new }
     {
-        match self.last_done() {
-            Some(place) => {
-                let ticket = self.take_back(world, place)?;
-                Ok(Some(ticket))
-            }
-            None => Ok(None),
-        }
+        self.turn(world, Standing::Done)
     }
 
     /// Redoes the change that was undone last, and returns its ticket. None if there is no such change. On an error nothing changes.
@@ -86,9 +81,23 @@ impl<C: Change> Journal<C> {
         ensures err { OnErr result (ChangesNothing C.World.World world.old self.old world.new self.new) }
         ensures counts { IsNoMore C.World.newest C.World.stored C.World.limit C.World.counts world.old world.new }
     {
-        match self.last_undone() {
+        self.turn(world, Standing::Undone)
+    }
+
+    /// Undoes the newest change in effect, or redoes the change that was undone last, and returns its ticket. None if there is no
+    /// such change. On an error nothing changes.
+    pub fn turn(&mut self, world: &mut C::World, from: Standing) -> Result<Option<u64>, NoMemory>
+        requires keeps { C.World.keeps world.old self.old.kept }
+        requires live { from ≢ Cleared }
+        ensures ticket { IfOk result (λ ticket. IsTurn from self.old ticket self.new) }
+        ensures free { HoldsIfTurnIsFree C.World.needs_memory from self.old (IsOk result) }
+        ensures moved { OnOk result (MovesStandings C.World.World world.old self.old world.new self.new) }
+        ensures err { OnErr result (ChangesNothing C.World.World world.old self.old world.new self.new) }
+        ensures counts { IsNoMore C.World.newest C.World.stored C.World.limit C.World.counts world.old world.new }
+    {
+        match self.next(from) {
             Some(place) => {
-                let ticket = self.put_back(world, place)?;
+                let ticket = self.turn_at(world, from, place)?;
                 Ok(Some(ticket))
             }
             None => Ok(None),
@@ -104,14 +113,7 @@ impl<C: Change> Journal<C> {
         ensures err { OnErr result (ChangesNothing C.World.World world.old self.old world.new self.new) }
         ensures counts { IsNoMore C.World.newest C.World.stored C.World.limit C.World.counts world.old world.new }
     {
-        match self.reach(ticket) {
-            TicketReach::At { place } => {
-                self.take_back(world, place)?;
-                Ok(Outcome::Moved)
-            }
-            TicketReach::Buried { ticket: other } => Ok(Outcome::Buried { ticket: other }),
-            TicketReach::NotKept => Ok(Outcome::NotKept),
-        }
+        self.turn_of(world, Standing::Done, ticket)
     }
 
     /// Redoes the change of a ticket, if it is undone and no earlier one of its table is. On an error nothing changes.
@@ -123,20 +125,31 @@ impl<C: Change> Journal<C> {
         ensures err { OnErr result (ChangesNothing C.World.World world.old self.old world.new self.new) }
         ensures counts { IsNoMore C.World.newest C.World.stored C.World.limit C.World.counts world.old world.new }
     {
-        match self.place_of(ticket) {
-            Some(place) => {
-                if !self.undone.contains(&ticket) {
-                    return Ok(Outcome::NotKept);
-                }
-                match self.under(ticket, self.table_at(place)) {
-                    Some(other) => Ok(Outcome::Buried { ticket: other }),
-                    None => {
-                        self.put_back(world, place)?;
-                        Ok(Outcome::Moved)
-                    }
-                }
+        self.turn_of(world, Standing::Undone, ticket)
+    }
+
+    /// Undoes or redoes the change of a ticket, if it stands so and no other one of its table is in the way. On an error nothing changes.
+    pub fn turn_of(
+        &mut self,
+        world: &mut C::World,
+        from: Standing,
+        ticket: u64,
+    ) -> Result<Outcome, NoMemory>
+        requires keeps { C.World.keeps world.old self.old.kept }
+        requires live { from ≢ Cleared }
+        ensures outcome { IfOk result (λ outcome. IsTurnOf C.World.table from self.old ticket outcome self.new) }
+        ensures free { TurnNeedsNone C.World.needs_memory from self.old.kept ticket → IsOk result }
+        ensures moved { OnOk result (MovesStandings C.World.World world.old self.old world.new self.new) }
+        ensures err { OnErr result (ChangesNothing C.World.World world.old self.old world.new self.new) }
+        ensures counts { IsNoMore C.World.newest C.World.stored C.World.limit C.World.counts world.old world.new }
+    {
+        match self.reach_from(from, ticket) {
+            TicketReach::At { place } => {
+                self.turn_at(world, from, place)?;
+                Ok(Outcome::Moved)
             }
-            None => Ok(Outcome::NotKept),
+            TicketReach::Buried { ticket: other } => Ok(Outcome::Buried { ticket: other }),
+            TicketReach::NotKept => Ok(Outcome::NotKept),
         }
     }
 
@@ -188,25 +201,40 @@ impl<C: Change> Journal<C> {
     pub fn reach(&self, ticket: u64) -> TicketReach
         ensures { IsReach C.World.table self.now ticket result }
     {
+        self.reach_from(Standing::Done, ticket)
+    }
+
+    // What a turn of a ticket would do.
+    fn reach_from(&self, from: Standing, ticket: u64) -> TicketReach
+        requires { from ≢ Cleared }
+        ensures { IsReachFrom C.World.table from self.now ticket result }
+    {
         match self.place_of(ticket) {
             Some(place) => {
-                if self.undone.contains(&ticket) {
-                    return TicketReach::NotKept;
-                }
-                match self.over(ticket, self.table_at(place)) {
-                    Some(other) => TicketReach::Buried { ticket: other },
-                    None => TicketReach::At { place },
+                if self.is_from_at(from, place) {
+                    match self.in_way(from, ticket, self.table_at(place)) {
+                        Some(other) => TicketReach::Buried { ticket: other },
+                        None => TicketReach::At { place },
+                    }
+                } else {
+                    TicketReach::NotKept
                 }
             }
             None => TicketReach::NotKept,
         }
     }
 
-    // Undoes the change at a place, and returns its ticket.
-    fn take_back(&mut self, world: &mut C::World, place: usize) -> Result<u64, NoMemory>
+    // Undoes or redoes the change at a place, and returns its ticket.
+    fn turn_at(
+        &mut self,
+        world: &mut C::World,
+        from: Standing,
+        place: usize,
+    ) -> Result<u64, NoMemory>
         requires keeps { C.World.keeps world.old self.old.kept }
-        requires last { CanBeUndone C.World.table self.old.kept place }
-        ensures ticket { IfOk result (λ ticket. IsTakenBack self.old ticket self.new × (ticket_at self.old.kept place ≡ Some ticket)) }
+        requires turns { CanBeTurned C.World.table from self.old.kept place }
+        requires live { from ≢ Cleared }
+        ensures ticket { IfOk result (λ ticket. HasTurned from self.old ticket self.new × (ticket_at self.old.kept place ≡ Some ticket)) }
         ensures free { IfSome (slice_get self.old.kept place) (λ k. C.World.needs_memory k.saved ≡ false) → IsOk result }
         ensures moved { OnOk result (MovesStandings C.World.World world.old self.old world.new self.new) }
         ensures err { OnErr result (ChangesNothing C.World.World world.old self.old world.new self.new) }
@@ -214,35 +242,25 @@ impl<C: Change> Journal<C> {
     {
         match self.ring.get_mut(place) {
             Some(kept) => {
-                C::back(world, &mut kept.saved)?;
-                kept.standing = Standing::Undone;
+                turn_saved::<C>(world, from, &mut kept.saved)?;
+                kept.standing = turned(from);
                 let ticket = kept.ticket;
-                self.undone.push_reserved(ticket);
+                turn_undone(&mut self.undone, from, ticket);
                 Ok(ticket)
             }
             None => unreachable!(),
         }
     }
 
-    // Redoes the change at a place, and returns its ticket.
-    fn put_back(&mut self, world: &mut C::World, place: usize) -> Result<u64, NoMemory>
-        requires keeps { C.World.keeps world.old self.old.kept }
-        requires first { CanBeRedone C.World.table self.old.kept place }
-        ensures ticket { IfOk result (λ ticket. IsPutBack self.old ticket self.new × (ticket_at self.old.kept place ≡ Some ticket)) }
-        ensures free { IfSome (slice_get self.old.kept place) (λ k. C.World.needs_memory k.saved ≡ false) → IsOk result }
-        ensures moved { OnOk result (MovesStandings C.World.World world.old self.old world.new self.new) }
-        ensures err { OnErr result (ChangesNothing C.World.World world.old self.old world.new self.new) }
-        ensures counts { IsNoMore C.World.newest C.World.stored C.World.limit C.World.counts world.old world.new }
+    // The place of the last change that can be turned.
+    fn next(&self, from: Standing) -> Option<usize>
+        requires { from ≢ Cleared }
+        ensures none { IfNone result (turnable from self.now ≡ []) }
+        ensures some { IfSome result (IsNextTurn C.World.table from self.now) }
     {
-        match self.ring.get_mut(place) {
-            Some(kept) => {
-                C::again(world, &mut kept.saved)?;
-                kept.standing = Standing::Done;
-                let ticket = kept.ticket;
-                leave_out(&mut self.undone, ticket);
-                Ok(ticket)
-            }
-            None => unreachable!(),
+        match from {
+            Standing::Done => self.last_done(),
+            _ => self.last_undone(),
         }
     }
 
@@ -254,7 +272,7 @@ impl<C: Change> Journal<C> {
         let len = self.ring.len();
         for back in 0..len {
             let place = len - 1 - back;
-            if self.is_done_at(place) {
+            if self.is_from_at(Standing::Done, place) {
                 return Some(place);
             }
         }
@@ -275,12 +293,12 @@ impl<C: Change> Journal<C> {
         }
     }
 
-    // Whether the change at a place is in effect.
-    fn is_done_at(&self, place: usize) -> bool
-        ensures { IfSome (slice_get self.now.kept place) (λ k. result ≡ is_done k.standing) }
+    // Whether the change at a place stands as those that are turned from here.
+    fn is_from_at(&self, from: Standing, place: usize) -> bool
+        ensures { IfSome (slice_get self.now.kept place) (λ k. result ≡ is_from from k.standing) }
     {
         match self.ring.get(place) {
-            Some(kept) => is_done(kept.standing),
+            Some(kept) => is_from(from, kept.standing),
             None => false,
         }
     }
@@ -299,6 +317,7 @@ impl<C: Change> Journal<C> {
     fn place_of(&self, ticket: u64) -> Option<usize>
         ensures none { IfNone result (is_among (tickets_of self.now.kept) ticket ≡ false) }
         ensures some { IfSome result (λ place. IsPlaceOf C.World.table self.now.kept ticket place) }
+        ensures sound { AreChanges C.World.table self.now }
     {
         for place in 0..self.ring.len() {
             if let Some(kept) = self.ring.get(place) {
@@ -310,33 +329,20 @@ impl<C: Change> Journal<C> {
         None
     }
 
-    // The greatest later ticket of this table in effect.
-    fn over(&self, ticket: u64, table: Option<u8>) -> Option<u64>
-        ensures { result ≡ last_of (tickets_of (filter (lies_on C.World.table ticket table) self.now.kept)) }
+    // The farthest ticket of this table in the way of the turn of a ticket: the greatest later one in effect, or the least earlier one
+    // that is undone.
+    fn in_way(&self, from: Standing, ticket: u64, table: Option<u8>) -> Option<u64>
+        ensures { result ≡ farthest from (tickets_of (filter (lies_in_way C.World.table from ticket table) self.now.kept)) }
     {
-        let mut last = None;
+        let mut found = None;
         for place in 0..self.ring.len() {
             if let Some(kept) = self.ring.get(place) {
-                if lies_on::<C>(kept, ticket, table) {
-                    last = Some(kept.ticket);
+                if lies_in_way::<C>(kept, from, ticket, table) {
+                    found = farther(from, found, kept.ticket);
                 }
             }
         }
-        last
-    }
-
-    // The least earlier ticket of this table that is undone.
-    fn under(&self, ticket: u64, table: Option<u8>) -> Option<u64>
-        ensures { result ≡ first_of (tickets_of (filter (lies_under C.World.table ticket table) self.now.kept)) }
-    {
-        for place in 0..self.ring.len() {
-            if let Some(kept) = self.ring.get(place) {
-                if lies_under::<C>(kept, ticket, table) {
-                    return Some(kept.ticket);
-                }
-            }
-        }
-        None
+        found
     }
 
     // Settles the undone changes.

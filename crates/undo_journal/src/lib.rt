@@ -5,6 +5,8 @@
 mod outcome;
 // The changes in the way of an undo or a redo of a ticket.
 mod reach;
+// The turn of a change: its undo or its redo.
+mod turning;
 // The undone changes leave the ring.
 mod settling;
 // The journal, a bounded ring of changes.

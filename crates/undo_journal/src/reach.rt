@@ -1,37 +1,57 @@
 //! The changes in the way of an undo or a redo of a ticket.
 
-ghost use Rattle.std.specs.Prelude.{◌≡◌, vec_capacity};
+ghost use Rattle.std.specs.Prelude.{◌≡◌};
 ghost use Rattle.change_law.specs.Choice.{is_done};
-ghost use Rattle.undo_journal.specs.Journal.{is_one_table, lies_on, lies_under, without};
+ghost use Rattle.undo_journal.specs.Journal.{farther, is_from, is_one_table, is_passed, lies_in_way};
 
 use change_law::{Change, KeptChange, Standing, World};
 
 type Saved<C> = <<C as Change>::World as World>::Saved;
 
-/// Whether a change of this table is in effect and has a later ticket.
-pub(crate) fn lies_on<C: Change>(
+/// Whether a change of this table is in the way of the turn of a ticket: a later one in effect, or an earlier one that is undone.
+pub(crate) fn lies_in_way<C: Change>(
     kept: &KeptChange<Saved<C>>,
+    from: Standing,
     ticket: u64,
     table: Option<u8>,
 ) -> bool
-    ensures { result ≡ lies_on C.World.table ticket table kept.now }
+    ensures { result ≡ lies_in_way C.World.table from ticket table kept.now }
 {
-    is_done(kept.standing)
-        && ticket < kept.ticket
+    is_from(from, kept.standing)
+        && is_passed(from, ticket, kept.ticket)
         && is_one_table(table, <C::World as World>::table(&kept.saved))
 }
 
-/// Whether a change of this table is not in effect and has an earlier ticket.
-pub(crate) fn lies_under<C: Change>(
-    kept: &KeptChange<Saved<C>>,
-    ticket: u64,
-    table: Option<u8>,
-) -> bool
-    ensures { result ≡ lies_under C.World.table ticket table kept.now }
+/// Whether a change stands as those that are turned from here.
+pub(crate) fn is_from(from: Standing, standing: Standing) -> bool
+    ensures { result ≡ is_from from standing }
 {
-    !is_done(kept.standing)
-        && kept.ticket < ticket
-        && is_one_table(table, <C::World as World>::table(&kept.saved))
+    match from {
+        Standing::Done => is_done(standing),
+        _ => !is_done(standing),
+    }
+}
+
+fn is_passed(from: Standing, ticket: u64, other: u64) -> bool
+    ensures { result ≡ is_passed from ticket other }
+{
+    match from {
+        Standing::Done => ticket < other,
+        _ => other < ticket,
+    }
+}
+
+/// The farthest ticket in the way of a turn, by the farthest so far: the last for an undo, the first for a redo.
+pub(crate) fn farther(from: Standing, found: Option<u64>, ticket: u64) -> Option<u64>
+    ensures { result ≡ farther from found ticket }
+{
+    match from {
+        Standing::Done => Some(ticket),
+        _ => match found {
+            Some(first) => Some(first),
+            None => Some(ticket),
+        },
+    }
 }
 
 /// Whether a change of this standing is in effect.
@@ -52,12 +72,4 @@ fn is_one_table(a: Option<u8>, b: Option<u8>) -> bool
         (Some(a), Some(b)) => a == b,
         _ => false,
     }
-}
-
-/// Leaves one ticket out of a list.
-pub(crate) fn leave_out(tickets: &mut Vec<u64>, ticket: u64)
-    ensures left { tickets.new.items ≡ without ticket tickets.old.items }
-    ensures capacity { vec_capacity tickets.new ≡ vec_capacity tickets.old }
-{
-    tickets.retain(|t| *t != ticket);
 }

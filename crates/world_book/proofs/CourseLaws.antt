@@ -1,16 +1,15 @@
 -- The course of a world: lemmas by which a book shows that after each event its faces are those of a replay.
-use Rattle.std.proofs.Common.{◌≡◌, ◌≢◌, ℕ, zero, suc, ◌+◌, ◌-◌, ◌<◌, ◌≤◌, Bool, true, false, not, cond, eqb, eq-eqb, ltb, Option, Some, None, ◌⊎◌, inl, inr, List, [], ◌∷◌, ◌++◌, length, take, drop, map, refl, sym, ap, subst, ◌∙◌, arith, rules, length-append, append_assoc}
+use Rattle.std.proofs.Common.{◌≡◌, ◌≢◌, ℕ, zero, suc, ◌+◌, ◌-◌, ◌<◌, ◌≤◌, Bool, true, false, not, eq-eqb, Option, Some, None, ◌⊎◌, inl, inr, List, [], ◌∷◌, ◌++◌, length, take, drop, map, refl, sym, ap, subst, ◌∙◌, arith, length-append}
 use Rattle.std.specs.Prelude.{⊤, fold, nat_lt, ◌==◌, ◌&&◌, ◌||◌, if◌then◌else◌}
 use Rattle.std.specs.List.{AllByRecursion}
 use Rattle.std.proofs.lemmas.Bool.{false≢true, eqb-true}
-use Rattle.std.proofs.lemmas.List.{append-nil, take-append-drop}
 use Rattle.dns_name.specs.Labels.{Labels}
 use Rattle.dns_name.specs.Order.{name_eq}
 use Rattle.dns_name.specs.ListLaws.{all-append, all-take, all-drop, all_split, all_weaker}
 use Rattle.dns_text.specs.declared.record.Question.{Question}
 use Rattle.ranked.specs.declared.cell.Admitted.{Admitted}
 use Rattle.ranked.specs.declared.find.Find.{Find}
-use Rattle.ranked.specs.Cell.{is_alive, turns_away, after_admission}
+use Rattle.ranked.specs.Cell.{is_alive, after_admission}
 use Rattle.ranked.specs.Find.{touches, admission_of}
 use Rattle.ranked.specs.Rank.{level_of}
 use Rattle.change_law.specs.declared.kept.KeptChange.{KeptChange}
@@ -20,9 +19,9 @@ use Rattle.change_law.specs.Choice.{IsChoice, IsOneTable, IsPresent, IsUncovered
 use Rattle.change_law.specs.Effect.{effect}
 use Rattle.change_law.specs.Face.{Face, IsSame, IsSameAt, alive_at, cell_with, face_with, face_without}
 use Rattle.change_law.specs.Row.{IsRowAfter, IsRowFrom, any, same_face, where_chosen}
-use Rattle.undo_journal.specs.Journal.{Changes, AreChanges, IsChange, IsClosed, IsPutBack, IsTakenBack, done_of, in_effect, is_among, newest, out_of_effect, settled_by, standings_of, standings_with, tickets_of}
+use Rattle.undo_journal.specs.Journal.{Changes, AreChanges, IsChange, IsClosed, in_effect, is_among, out_of_effect, settled_by, standings_of, standings_with, tickets_of}
 use Rattle.undo_journal.specs.TicketLaws.{all_among, all_back, all_both, all_filter, all_images, all_in_effect, asc_filter, in_effect_done, map_length}
-use Rattle.world_book.specs.Course.{Deed, Came, Forgot, Made, face_after, face_by, AreAscending, IsFair, Stands, struck_with, struck_without}
+use Rattle.world_book.specs.Course.{Deed, Came, Forgot, Made, face_after, face_by, AreAscending, IsFair, Stands}
 
 -- ---- cells where they are alive
 
@@ -375,7 +374,7 @@ module _ {W S T : Type 0} (has_cells : Bool) (table : S → Option ℕ) (keeps :
       }
 
   -- a kept change is undone, or in effect again
-  stands_turned : (w w' : W) (before after : Changes S) (now : ℕ) (deeds : List (Deed T)) (struck : ℕ → Bool) (t : ℕ) (s : Standing) →
+  pub stands_turned : (w w' : W) (before after : Changes S) (now : ℕ) (deeds : List (Deed T)) (struck : ℕ → Bool) (t : ℕ) (s : Standing) →
       is_among (tickets_of before.kept) t ≡ true → standings_of after.kept ≡ standings_with t s (standings_of before.kept) → after.tickets ≡ before.tickets →
       IsRowAfter table keeps face same_face any w before.kept w' after.kept →
       ((chosen : ℕ → Bool) → IsChoice table after.kept chosen → IsChoice table before.kept chosen) →
@@ -406,22 +405,6 @@ module _ {W S T : Type 0} (has_cells : Bool) (table : S → Option ℕ) (keeps :
           by : (b : Bool) → (if b then not (is_done s) else struck one.0) ≡ not (is_done (if b then s else one.1))
           by true = refl
           by false = h.0
-
-  pub stands_taken_back : (w w' : W) (before after : Changes S) (now : ℕ) (deeds : List (Deed T)) (struck : ℕ → Bool) (ticket : ℕ) →
-      IsTakenBack before ticket after → IsRowAfter table keeps face same_face any w before.kept w' after.kept →
-      ((chosen : ℕ → Bool) → IsChoice table after.kept chosen → IsChoice table before.kept chosen) →
-      Stands has_cells table keeps face start w before now deeds struck → Stands has_cells table keeps face start w' after now deeds (struck_with struck (Some ticket))
-  unfolding stands_turned
-  stands_taken_back w w' before after now deeds struck t is row choices st =
-      stands_turned w w' before after now deeds struck t Undone (done_known before.kept t is.reached) is.standings is.tickets row choices st
-
-  pub stands_put_back : (w w' : W) (before after : Changes S) (now : ℕ) (deeds : List (Deed T)) (struck : ℕ → Bool) (ticket : ℕ) → AreChanges table before →
-      IsPutBack before ticket after → IsRowAfter table keeps face same_face any w before.kept w' after.kept →
-      ((chosen : ℕ → Bool) → IsChoice table after.kept chosen → IsChoice table before.kept chosen) →
-      Stands has_cells table keeps face start w before now deeds struck → Stands has_cells table keeps face start w' after now deeds (struck_without struck (Some ticket))
-  unfolding stands_turned
-  stands_put_back w w' before after now deeds struck t are is row choices st =
-      stands_turned w w' before after now deeds struck t Done (all_among (λ u. is_among (tickets_of before.kept) u ≡ true) before.undone t are.known is.reached) is.standings is.tickets row choices st
 
   pub stands_still : (w w' : W) (before after : Changes S) (now : ℕ) (deeds : List (Deed T)) (struck : ℕ → Bool) →
       after ≡ before → IsRowAfter table keeps face same_face any w before.kept w' after.kept →

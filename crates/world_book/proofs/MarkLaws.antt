@@ -1,6 +1,6 @@
 -- Lists of tickets: what is struck, what comes back at its place, what is last.
-use Rattle.std.proofs.Common.{◌≡◌, ℕ, ◌<◌, Bool, true, false, Option, Some, List, [], ◌∷◌, ◌++◌, map, refl, sym, ap, subst, ◌∙◌, inl, inr, arith}
-use Rattle.std.specs.Prelude.{filter, ◌==◌, ◌||◌, nat_lt, if◌then◌else◌}
+use Rattle.std.proofs.Common.{◌≡◌, ◌≢◌, ℕ, ◌<◌, Bool, true, false, Option, Some, List, [], ◌∷◌, ◌++◌, map, refl, sym, ap, subst, ◌∙◌, inl, inr, arith}
+use Rattle.std.specs.Prelude.{filter, not, ◌==◌, ◌||◌, nat_lt, if◌then◌else◌}
 use Rattle.std.specs.List.{AllByRecursion, list_any}
 use Rattle.std.proofs.Math.Path.{fun_ext}
 use Rattle.std.proofs.lemmas.Bool.{cases_Bool, eq-eqb, eqb-true, false≢true}
@@ -8,12 +8,13 @@ use Rattle.std.proofs.lemmas.Bool.Decides.{nat_tests}
 use Rattle.std.proofs.lemmas.List.Folds.{list_any-append}
 use Rattle.change_law.specs.declared.kept.KeptChange.{KeptChange}
 use Rattle.change_law.specs.declared.kept.Standing.{Standing}
-use Rattle.change_law.specs.declared.kept.Standing.TheVariants.{Done, Undone}
+use Rattle.change_law.specs.declared.kept.Standing.TheVariants.{Done, Undone, Cleared}
 use Rattle.change_law.specs.Choice.{is_done}
-use Rattle.undo_journal.specs.Journal.{AreAscending, AreChanges, Changes, IsPutBack, IsTakenBack, done_of, in_effect, is_among, standing_in, standings_of, standings_with, tickets_of}
+use Rattle.undo_journal.specs.Journal.{AreAscending, AreChanges, Changes, HasTurned, done_of, in_effect, is_among, standing_in, standings_of, standings_with, tickets_of, turned}
 use Rattle.world_book.specs.Course.{struck_with, struck_without}
 use Rattle.undo_journal.specs.TicketLaws.{all_among, among_without}
-use Rattle.world_book.proofs.CourseLaws.{firsts}
+use Rattle.world_book.specs.Turned.{turn_marks}
+use Rattle.world_book.proofs.CourseLaws.{done_known, firsts}
 use Rattle.history.specs.Marks.{Marks, in_place, is_struck, restore, strike, without}
 
 struck_more : (xs : List ℕ) (t u : ℕ) → list_any (λ s. s == u) (xs ++ t ∷ []) ≡ (if u == t then true else list_any (λ s. s == u) xs)
@@ -37,6 +38,11 @@ struck_after_strike marks t = fun_ext (struck_more marks.struck t)
 
 pub struck_after_restore : (marks : Marks) (t : ℕ) → is_struck (restore marks t) ≡ struck_without (is_struck marks) (Some t)
 struck_after_restore marks t = fun_ext (among_without marks.struck t)
+
+pub struck_after : (from : Standing) → from ≢ Cleared → (marks : Marks) (t : ℕ) → is_struck (turn_marks from marks t) ≡ (λ u. if u == t then not (is_done (turned from)) else is_struck marks u)
+struck_after Done live marks t = struck_after_strike marks t
+struck_after Undone live marks t = struck_after_restore marks t
+struck_after Cleared live marks t = absurd (live refl)
 
 -- ---- what is done, when the standing of one change has changed
 
@@ -67,7 +73,7 @@ done_struck t (one ∷ standings) =
           ]
     ]
 
-pub done_taken_back : {S : Type 0} (before after : Changes S) (t : ℕ) → IsTakenBack before t after → done_of after ≡ without t (done_of before)
+done_taken_back : {S : Type 0} (before after : Changes S) (t : ℕ) → HasTurned Done before t after → done_of after ≡ without t (done_of before)
 done_taken_back before after t is =
     done_by after.kept ∙ ap done_in is.standings ∙ done_struck t (standings_of before.kept) ∙ ap (λ (l : List ℕ). without t l) (sym (done_by before.kept))
 
@@ -110,7 +116,7 @@ done_restored t (one ∷ standings) up there out =
           ]
     ]
 
-pub done_put_back : {S : Type 0} (table : S → Option ℕ) (before after : Changes S) (t : ℕ) → AreChanges table before → IsPutBack before t after → done_of after ≡ in_place t (done_of before)
+done_put_back : {S : Type 0} (table : S → Option ℕ) (before after : Changes S) (t : ℕ) → AreChanges table before → HasTurned Undone before t after → done_of after ≡ in_place t (done_of before)
 done_put_back {S} table before after t are is =
     let there : is_among (tickets_of before.kept) t ≡ true = all_among (λ u. is_among (tickets_of before.kept) u ≡ true) before.undone t are.known is.reached in
     done_by after.kept ∙ ap done_in is.standings
@@ -121,3 +127,26 @@ done_put_back {S} table before after t are is =
     out [] h = tt
     out (k ∷ kept) h =
         (λ same. ap is_done h.0 ∙ ap (λ (b : Bool). is_done (if b then Undone else Done)) (ap (is_among before.undone) (eqb-true k.ticket t same) ∙ is.reached), out kept h.1)
+
+-- ---- the marks after a turn
+
+module _ {S : Type 0} (table : S → Option ℕ) (before after : Changes S) (t : ℕ) (are : AreChanges table before) where
+  pub turned_known : (from : Standing) → from ≢ Cleared → HasTurned from before t after → is_among (tickets_of before.kept) t ≡ true
+  turned_known Done live is = done_known before.kept t is.reached
+  turned_known Undone live is = all_among (λ u. is_among (tickets_of before.kept) u ≡ true) before.undone t are.known is.reached
+  turned_known Cleared live is = absurd (live refl)
+
+  pub done_turned : (from : Standing) → from ≢ Cleared → HasTurned from before t after → (marks : Marks) → done_of before ≡ marks.done → done_of after ≡ (turn_marks from marks t).done
+  done_turned Done live is marks done = done_taken_back before after t is ∙ ap (λ (l : List ℕ). without t l) done
+  done_turned Undone live is marks done = done_put_back table before after t are is ∙ ap (λ (l : List ℕ). in_place t l) done
+  done_turned Cleared live is marks done = absurd (live refl)
+
+  pub undone_turned : (from : Standing) → from ≢ Cleared → HasTurned from before t after → (marks : Marks) → before.undone ≡ marks.undone → after.undone ≡ (turn_marks from marks t).undone
+  undone_turned Done live is marks undone = is.undone ∙ ap (λ (l : List ℕ). l ++ t ∷ []) undone
+  undone_turned Undone live is marks undone = is.undone ∙ ap (λ (l : List ℕ). without t l) undone
+  undone_turned Cleared live is marks undone = absurd (live refl)
+
+pub tickets_turned : (from : Standing) (marks : Marks) (t : ℕ) → (turn_marks from marks t).tickets ≡ marks.tickets
+tickets_turned Done marks t = refl
+tickets_turned Undone marks t = refl
+tickets_turned Cleared marks t = refl

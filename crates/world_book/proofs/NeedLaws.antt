@@ -5,17 +5,21 @@ use Rattle.std.proofs.lemmas.Bool.{cases_Bool, eq-eqb, eqb-true, false≢true}
 use Rattle.std.proofs.lemmas.List.Folds.{list_any-append}
 use Rattle.change_law.specs.declared.kept.KeptChange.{KeptChange}
 use Rattle.change_law.specs.declared.kept.Standing.{Standing}
+use Rattle.change_law.specs.declared.kept.Standing.TheVariants.{Done, Undone, Cleared}
 use Rattle.change_law.specs.declared.world.World.{Ghosts}
 use Rattle.change_law.specs.Choice.{is_done}
-use Rattle.undo_journal.specs.Journal.{Changes, in_effect}
-use Rattle.undo_journal.specs.Needs.{HaveNeeds, IsNeededAfter, UndoNeedsNone, is_needy, needs_of, undo_needs}
+use Rattle.undo_journal.specs.Journal.{Changes, NeedsNone, in_effect, last_of, turnable}
+use Rattle.undo_journal.specs.Needs.{HaveNeeds, IsNeededAfter, TurnNeedsNone, UndoNeedsNone, is_needy, needs_of, undo_needs}
 use Rattle.history.specs.declared.event.Command.{Command}
 use Rattle.history.specs.declared.event.Event.{Event}
 use Rattle.history.specs.declared.event.Event.TheVariants.{Admit, Look, Sweep, Forget, Do, Undo, Redo, UndoOf, RedoOf}
 use Rattle.history.specs.declared.tables.Tables.{Tables}
 use Rattle.history.specs.History.{Past, past_of, reason_of, tables_of, ticket_unless}
+use Rattle.dns_name.specs.ListLaws.{all_weaker}
 use Rattle.world_book.specs.Removals.{HasRemoved, IsRemoval, removes}
+use Rattle.world_book.specs.Step.{IsFree}
 use Rattle.world_book.specs.Tied.{GainsNeeds, IsTied}
+use Rattle.world_book.specs.Turned.{turn_event, turn_of_event}
 use Rattle.world_book.specs.Versions.{IsFreeWhere}
 
 -- ---- the needs of a list
@@ -141,3 +145,20 @@ free_weaker P Q f past (Undo m) h = (h.0, h.1, or_weaker (f h.0) h.2)
 free_weaker P Q f past (Redo m) h = h
 free_weaker P Q f past (UndoOf m t) h = or_weaker (f t) h
 free_weaker P Q f past (RedoOf m t) h = h
+
+-- ---- an undo or a redo that wants no memory
+
+module _ {S : Type 0} (needs : S → Bool) where
+  turn_needs_none : (from : Standing) (kept : List (KeptChange S)) (t : ℕ) → NeedsNone needs kept t → TurnNeedsNone needs from kept t
+  turn_needs_none from kept t none = all_weaker _ _ (λ k free own stands. free own) kept none
+
+  pub turn_is_free : (from : Standing) (changes : Changes S) (moment : ℕ) → IsFree needs changes (turn_event from moment) →
+      (ticket : ℕ) × (last_of (turnable from changes) ≡ Some ticket) × TurnNeedsNone needs from changes.kept ticket
+  turn_is_free Done changes moment free = free
+  turn_is_free Undone changes moment free = (free.0, free.1, turn_needs_none Undone changes.kept free.0 free.2)
+  turn_is_free Cleared changes moment free = (free.0, free.1, turn_needs_none Cleared changes.kept free.0 free.2)
+
+  pub turn_of_is_free : (from : Standing) (changes : Changes S) (moment t : ℕ) → IsFree needs changes (turn_of_event from t moment) → TurnNeedsNone needs from changes.kept t
+  turn_of_is_free Done changes moment t free = free
+  turn_of_is_free Undone changes moment t free = turn_needs_none Undone changes.kept t free
+  turn_of_is_free Cleared changes moment t free = turn_needs_none Cleared changes.kept t free

@@ -1,8 +1,7 @@
 -- What is read of the choice in which one kept change stands the other way is what the history shows after its undo, or after its redo.
-use Rattle.std.proofs.Common.{◌≡◌, ◌≢◌, ℕ, zero, suc, ◌+◌, ◌<◌, ◌≤◌, Bool, true, false, max, Option, Some, None, List, [], ◌∷◌, ◌++◌, take, drop, refl, sym, ap, subst, ◌∙◌, inl, inr, ◌⊎◌, arith, rules, add-one, eq-eqb}
+use Rattle.std.proofs.Common.{◌≡◌, ◌≢◌, ℕ, zero, suc, ◌+◌, ◌<◌, ◌≤◌, Bool, true, false, Option, Some, None, List, [], ◌∷◌, ◌++◌, take, drop, refl, sym, ap, subst, ◌∙◌, inl, inr, ◌⊎◌, arith, rules, add-one, eq-eqb}
 use Rattle.std.specs.Prelude.{not, slice_get, ◌==◌, if◌then◌else◌}
 use Rattle.std.specs.List.{AllByRecursion}
-use Rattle.std.specs.Option.{option_map_or}
 use Rattle.std.proofs.lemmas.Bool.{false≢true}
 use Rattle.dns_text.specs.declared.record.Question.{Question}
 use Rattle.ranked.specs.declared.cell.Shown.{Shown}
@@ -16,21 +15,21 @@ use Rattle.change_law.specs.declared.world.World.{Ghosts}
 use Rattle.change_law.specs.Choice.{AllowsAt, AreLeftOut, IsChoice, IsFounded, IsOneTable, IsPresent, IsUncovered, is_done}
 use Rattle.change_law.specs.Row.{kept_as}
 use Rattle.change_law.specs.Turn.{CanTurn, HoldsOver}
-use Rattle.undo_journal.specs.Journal.{AreAscending, AreChanges, CanBeRedone, CanBeUndone, Changes, IsClosed, standings_of, tickets_of}
+use Rattle.undo_journal.specs.Journal.{AreAscending, AreChanges, CanBeTurned, Changes, IsClear, IsClosed, passed, standings_of, tickets_of, turned}
 use Rattle.world_book.specs.Course.{IsFair}
 use Rattle.world_book.proofs.CourseLaws.{differs, other_struck}
 use Rattle.history.specs.declared.event.Command.{Command}
-use Rattle.history.specs.declared.event.Journalled.{Journalled}
 use Rattle.history.specs.declared.event.Seen.{Seen}
 use Rattle.history.specs.declared.tables.Tables.{Tables}
 use Rattle.history.specs.History.{Past, is_unstruck}
 use Rattle.history.specs.Journal.{command_at}
-use Rattle.history.specs.Marks.{is_struck, restore, strike}
+use Rattle.history.specs.Marks.{is_struck}
 use Rattle.history.specs.Reply.{answer_by, seen_by, seen_first}
 use Rattle.world_book.specs.Deeds.{answer_in, face_of}
 use Rattle.world_book.specs.Held.{held_in, held_one}
 use Rattle.world_book.specs.Tied.{IsTied}
-use Rattle.world_book.proofs.MarkLaws.{struck_after_restore, struck_after_strike}
+use Rattle.world_book.specs.Turned.{turn_marks}
+use Rattle.world_book.proofs.MarkLaws.{struck_after}
 use Rattle.world_book.proofs.ReplyLaws.{shown_same}
 use Rattle.world_book.proofs.VersionLaws.{face_is}
 
@@ -77,17 +76,17 @@ module _ {S : Type 0} where
 
   -- a change that the journal can undo or redo can be turned
   pub can_turn : {W : Type 0} (table : S → Option ℕ) (keeps : W → List (KeptChange S) → Type 0) (w : W) (kept : List (KeptChange S)) (place : ℕ) (k : KeptChange S) → slice_get kept place ≡ Some k
-      → keeps w kept → CanBeUndone table kept place ⊎ CanBeRedone table kept place → CanTurn table keeps w k.saved
+      → keeps w kept → CanBeTurned table Done kept place ⊎ CanBeTurned table Undone kept place → CanTurn table keeps w k.saved
   can_turn {W} table keeps w kept place k there holds (inl can) =
       let same : can.here ≡ k = cc (can.there, there) in
       subst (λ (x : KeptChange S). CanTurn table keeps w x.saved) same
-      (inl (take place kept, (can.here.ticket, (drop (place + 1) kept, record { kept = subst (keeps w) (kept_at kept place can.here Done can.there can.done) holds; uncovered = can.uncovered }))))
+      (inl (take place kept, (can.here.ticket, (drop (place + 1) kept, record { kept = subst (keeps w) (kept_at kept place can.here Done can.there can.stands) holds; uncovered = can.clear }))))
   can_turn {W} table keeps w kept place k there holds (inr can) =
       let same : can.here ≡ k = cc (can.there, there) in
       subst (λ (x : KeptChange S). CanTurn table keeps w x.saved) same
-      (inr (take place kept, (can.here.ticket, (drop (place + 1) kept, record { kept = subst (keeps w) (kept_at kept place can.here Undone can.there can.undone) holds; founded = can.founded }))))
+      (inr (take place kept, (can.here.ticket, (drop (place + 1) kept, record { kept = subst (keeps w) (kept_at kept place can.here Undone can.there can.stands) holds; founded = can.clear }))))
 
-  pub is_there : (table : S → Option ℕ) (kept : List (KeptChange S)) (place : ℕ) → CanBeUndone table kept place ⊎ CanBeRedone table kept place → slice_get kept place ≢ None
+  pub is_there : (table : S → Option ℕ) (kept : List (KeptChange S)) (place : ℕ) → CanBeTurned table Done kept place ⊎ CanBeTurned table Undone kept place → slice_get kept place ≢ None
   is_there table kept place (inl can) e = let f = sym can.there ∙ e in absurd cc
   is_there table kept place (inr can) e = let f = sym can.there ∙ e in absurd cc
 
@@ -144,6 +143,13 @@ module _ {S : Type 0} (table : S → Option ℕ) (chosen : ℕ → Bool) where
       choice_back earlier c.1 f.1 p.1,
     )
 
+    -- the other way round, from a standing
+    pub choice_over : (from : Standing) → from ≢ Cleared → (earlier : List (KeptChange S)) → IsClosed table (earlier ++ kept_as from ticket saved ∷ later) → IsClear table from saved (passed from earlier later)
+        → IsPresent (earlier ++ kept_as (turned from) ticket saved ∷ later) chosen → IsChoice table (earlier ++ kept_as from ticket saved ∷ later) chosen
+    choice_over Done live earlier c clear p = choice_struck earlier c clear p
+    choice_over Undone live earlier c clear p = choice_back earlier c clear p
+    choice_over Cleared live earlier c clear p = absurd (live refl)
+
 -- what is not struck
 abbrev unstruck : (ℕ → Bool) → ℕ → Bool
 unstruck struck t = not (struck t)
@@ -197,42 +203,36 @@ module _ {W S : Type 0} (by : Ghosts W Tables S Command) (w : W) (changes : Chan
         → seen ≡ answer_by (chosen_over (is_struck past.marks) ticket to) past.log q clock → seen ≡ answer_by chosen past.log q clock
     as_chosen chosen to same e = e ∙ ap (λ (c : ℕ → Bool). answer_by c past.log q clock) (sym same)
 
-    pub tells_back : changes.kept ≡ earlier ++ kept_as Done ticket saved ∷ later → IsUncovered by.table saved later → seen ≡ answer_by (is_unstruck (strike past.marks ticket)) past.log q clock
-    tells_back e uncovered =
-        let chosen = chosen_over (is_struck past.marks) ticket Undone in
-        let here = present Done Undone e in
-        let choice = subst (λ (l : List (KeptChange S)). IsChoice by.table l chosen) (sym e)
-        (choice_struck by.table chosen ticket saved later earlier (subst (λ (l : List (KeptChange S)). IsClosed by.table l) e are.closed) uncovered here) in
-        as_chosen (is_unstruck (strike past.marks ticket)) Undone (ap unstruck (struck_after_strike past.marks ticket))
-        (over.back earlier ticket later (record { kept = subst (by.keeps w) e tied.stands.kept; uncovered = uncovered }) chosen here
-        ∙ ap (λ (l : List (KeptChange S)). answer_in (by.face w l chosen) q clock) (sym e)
-        ∙ face_tells chosen choice (fair_over Done Undone e))
+    seen_over : (from : Standing) → from ≢ Cleared → by.keeps w (earlier ++ kept_as from ticket saved ∷ later) → IsClear by.table from saved (passed from earlier later) → (chosen : ℕ → Bool)
+        → IsPresent (earlier ++ kept_as (turned from) ticket saved ∷ later) chosen → seen ≡ answer_in (by.face w (earlier ++ kept_as from ticket saved ∷ later) chosen) q clock
+    seen_over Done live kept clear = over.back earlier ticket later (record { kept = kept; uncovered = clear })
+    seen_over Undone live kept clear = over.again earlier ticket later (record { kept = kept; founded = clear })
+    seen_over Cleared live kept clear = absurd (live refl)
 
-    pub tells_again : changes.kept ≡ earlier ++ kept_as Undone ticket saved ∷ later → IsFounded by.table saved earlier → seen ≡ answer_by (is_unstruck (restore past.marks ticket)) past.log q clock
-    tells_again e founded =
-        let chosen = chosen_over (is_struck past.marks) ticket Done in
-        let here = present Undone Done e in
+    pub tells : (from : Standing) → from ≢ Cleared → changes.kept ≡ earlier ++ kept_as from ticket saved ∷ later → IsClear by.table from saved (passed from earlier later)
+        → seen ≡ answer_by (is_unstruck (turn_marks from past.marks ticket)) past.log q clock
+    tells from live e clear =
+        let chosen = chosen_over (is_struck past.marks) ticket (turned from) in
+        let here = present from (turned from) e in
         let choice = subst (λ (l : List (KeptChange S)). IsChoice by.table l chosen) (sym e)
-        (choice_back by.table chosen ticket saved later earlier (subst (λ (l : List (KeptChange S)). IsClosed by.table l) e are.closed) founded here) in
-        as_chosen (is_unstruck (restore past.marks ticket)) Done (ap unstruck (struck_after_restore past.marks ticket))
-        (over.again earlier ticket later (record { kept = subst (by.keeps w) e tied.stands.kept; founded = founded }) chosen here
+        (choice_over by.table chosen ticket saved later from live earlier (subst (λ (l : List (KeptChange S)). IsClosed by.table l) e are.closed) clear here) in
+        as_chosen (is_unstruck (turn_marks from past.marks ticket)) (turned from) (ap unstruck (struck_after from live past.marks ticket))
+        (seen_over from live (subst (by.keeps w) e tied.stands.kept) clear chosen here
         ∙ ap (λ (l : List (KeptChange S)). answer_in (by.face w l chosen) q clock) (sym e)
-        ∙ face_tells chosen choice (fair_over Undone Done e))
+        ∙ face_tells chosen choice (fair_over from (turned from) e))
 
   -- ---- at a place of the journal
 
-  pub undo_tells : (place : ℕ) (t : ℕ) (can : CanBeUndone by.table changes.kept place) → can.here.ticket ≡ t
+  pub turn_tells : (from : Standing) → from ≢ Cleared → (place : ℕ) (t : ℕ) (can : CanBeTurned by.table from changes.kept place) → can.here.ticket ≡ t
       → ((k : KeptChange S) → slice_get changes.kept place ≡ Some k → HoldsOver by.table by.keeps by.face w k.saved (λ face. seen ≡ answer_in face q clock))
-      → seen ≡ answer_by (is_unstruck (strike past.marks t)) past.log q clock
-  undo_tells place t can own over =
-      subst (λ (n : ℕ). seen ≡ answer_by (is_unstruck (strike past.marks n)) past.log q clock) own
-      (tells_back (take place changes.kept) can.here.ticket can.here.saved (drop (place + 1) changes.kept) (over can.here can.there)
-      (kept_at changes.kept place can.here Done can.there can.done) can.uncovered)
+      → seen ≡ answer_by (is_unstruck (turn_marks from past.marks t)) past.log q clock
+  turn_tells from live place t can own over =
+      subst (λ (n : ℕ). seen ≡ answer_by (is_unstruck (turn_marks from past.marks n)) past.log q clock) own
+      (tells (take place changes.kept) can.here.ticket can.here.saved (drop (place + 1) changes.kept) (over can.here can.there) from live
+      (kept_at changes.kept place can.here from can.there can.stands) can.clear)
 
-  pub redo_tells : (place : ℕ) (t : ℕ) (can : CanBeRedone by.table changes.kept place) → can.here.ticket ≡ t
-      → ((k : KeptChange S) → slice_get changes.kept place ≡ Some k → HoldsOver by.table by.keeps by.face w k.saved (λ face. seen ≡ answer_in face q clock))
-      → seen ≡ answer_by (is_unstruck (restore past.marks t)) past.log q clock
-  redo_tells place t can own over =
-      subst (λ (n : ℕ). seen ≡ answer_by (is_unstruck (restore past.marks n)) past.log q clock) own
-      (tells_again (take place changes.kept) can.here.ticket can.here.saved (drop (place + 1) changes.kept) (over can.here can.there)
-      (kept_at changes.kept place can.here Undone can.there can.undone) can.founded)
+pub done_lives : Done ≢ Cleared
+done_lives e = absurd cc
+
+pub undone_lives : Undone ≢ Cleared
+undone_lives e = absurd cc

@@ -1,15 +1,17 @@
 -- The tie of a world under its journal to a past goes on with each event.
-use Rattle.std.proofs.Common.{◌≡◌, ℕ, ◌+◌, ◌-◌, ◌<◌, ◌≤◌, Bool, Option, Some, None, List, [], ◌∷◌, ◌++◌, length, take, drop, map, max, refl, sym, ap, subst, ◌∙◌, arith, rules}
+use Rattle.std.proofs.Common.{◌≡◌, ◌≢◌, ℕ, ◌+◌, ◌-◌, ◌<◌, ◌≤◌, Bool, Option, Some, None, List, [], ◌∷◌, ◌++◌, length, drop, map, max, refl, sym, ap, subst, ◌∙◌, arith, rules}
 use Rattle.std.specs.List.{AllByRecursion, Contains, cons_option}
 use Rattle.std.specs.Option.{option_map_or}
 use Rattle.std.proofs.Math.Path.{fun_ext}
 use Rattle.std.proofs.lemmas.List.{append-nil, map-append}
 use Rattle.std.proofs.lemmas.List.Elements.{filter_map-append, Contains-append_left, Contains-append_right}
-use Rattle.dns_name.specs.ListLaws.{all-append, all-take, all-drop, all_weaker}
+use Rattle.dns_name.specs.ListLaws.{all-append, all-drop, all_weaker}
 use Rattle.dns_name.specs.Labels.{Labels}
 use Rattle.dns_text.specs.declared.record.Question.{Question}
 use Rattle.ranked.specs.declared.find.Find.{Find}
 use Rattle.change_law.specs.declared.kept.KeptChange.{KeptChange}
+use Rattle.change_law.specs.declared.kept.Standing.{Standing}
+use Rattle.change_law.specs.declared.kept.Standing.TheVariants.{Done, Undone, Cleared}
 use Rattle.change_law.specs.declared.world.World.{Ghosts}
 use Rattle.change_law.specs.Choice.{IsChoice, IsPresent, is_done}
 use Rattle.change_law.specs.Effect.{effect}
@@ -17,27 +19,29 @@ use Rattle.change_law.specs.Face.{IsSame, IsSameAt, face_with, face_without}
 use Rattle.change_law.specs.Row.{IsRowAfter, IsRowFrom, IsSameRow, any, same_face, where_chosen}
 use Rattle.undo_journal.specs.declared.outcome.Outcome.{Outcome}
 use Rattle.undo_journal.specs.declared.outcome.Outcome.TheVariants.{Moved, NotKept, Buried}
-use Rattle.undo_journal.specs.Journal.{Changes, AreChanges, IsChange, IsPutBack, IsRedo, IsRedoOf, IsTakenBack, IsUndo, IsUndoOf, done_of, in_effect, told_of, newest, settled_by}
+use Rattle.undo_journal.specs.Journal.{Changes, AreChanges, HasTurned, IsChange, IsTurn, IsTurnOf, done_of, in_effect, told_of, newest, settled_by, turned}
 use Rattle.undo_journal.specs.Moving.{MovesStandings}
 use Rattle.undo_journal.specs.TicketLaws.{all_back, all_filter, all_images, map_length}
 use Rattle.world_book.specs.Course.{Deed, Came, Forgot, Made, AreAscending, Stands, face_by, moved_by}
-use Rattle.world_book.proofs.CourseLaws.{asc_push, drop_map, same_at, same_at_later, same_at_then, stands_admitted, stands_swept, stands_forgot, stands_made, stands_put_back, stands_shown, stands_still, stands_taken_back}
+use Rattle.world_book.proofs.CourseLaws.{asc_push, drop_map, same_at, same_at_later, same_at_then, stands_admitted, stands_swept, stands_forgot, stands_made, stands_shown, stands_still, stands_turned}
 use Rattle.history.specs.declared.event.Ask.{Ask}
 use Rattle.history.specs.declared.event.Command.{Command}
-use Rattle.history.specs.declared.event.Event.TheVariants.{Admit, Look, Sweep, Forget, Do, Undo, Redo, UndoOf, RedoOf}
+use Rattle.history.specs.declared.event.Event.TheVariants.{Admit, Look, Sweep, Forget, Do}
 use Rattle.history.specs.declared.event.Entry.{Entry}
 use Rattle.history.specs.declared.event.Reason.{Reason}
 use Rattle.history.specs.declared.tables.Tables.{Tables}
 use Rattle.history.specs.Event.{covers}
 use Rattle.history.specs.Changes.{after_command_on}
-use Rattle.history.specs.Marks.{Marks, is_struck, last_of, without, in_place, strike, restore, after_command}
-use Rattle.history.specs.History.{Past, followed_by, marks_after, ticket_unless, reason_of, is_unstruck}
+use Rattle.history.specs.Journal.{commands_of, is_among}
+use Rattle.history.specs.Marks.{Marks, is_struck, last_of, after_command}
+use Rattle.history.specs.History.{Past, followed_by, marks_after, ticket_unless, reason_of, is_unstruck, unless_buried}
 use Rattle.world_book.specs.Deeds.{deed_of, deeds_of, given_of, given_in, given_tickets, empty_face, face_of}
 use Rattle.world_book.specs.Tied.{AreGiven, IsTied, tables_told}
+use Rattle.world_book.specs.Turned.{command_in_way, marks_from, turn_event, turn_marks, turn_of_event}
 use Rattle.world_book.specs.Versions.{table_of}
 use Rattle.world_book.proofs.DeedLaws.{deeds_show}
-use Rattle.world_book.proofs.MarkLaws.{done_put_back, done_taken_back, struck_after_restore, struck_after_strike}
-use Rattle.world_book.proofs.WayLaws.{have_tables, redo_of_moves, undo_of_moves}
+use Rattle.world_book.proofs.MarkLaws.{done_turned, struck_after, tickets_turned, turned_known, undone_turned}
+use Rattle.world_book.proofs.WayLaws.{have_tables, turn_of_moves, turnable_marked}
 
 -- ---- one entry more
 
@@ -126,13 +130,9 @@ module _ {W S : Type 0} (by : Ghosts W Tables S Command) where
   abbrev StandsAt : W → Changes S → ℕ → List (Deed Tables) → (ℕ → Bool) → Type 0
   StandsAt world changes now deeds struck = Stands by.has_cells by.table by.keeps by.face empty_face world changes now deeds struck
 
-  pub undo_reaches : (w : W) (before after : Changes S) (bound : ℕ) (past : Past) (ticket : Option ℕ) → Tied w before bound past → IsUndo before ticket after → last_of past.marks.done ≡ ticket
-  undo_reaches w before after bound past None tied is = ap last_of (sym tied.done ∙ is.0)
-  undo_reaches w before after bound past (Some t) tied is = ap last_of (sym tied.done) ∙ is.0
-
-  pub redo_reaches : (w : W) (before after : Changes S) (bound : ℕ) (past : Past) (ticket : Option ℕ) → Tied w before bound past → IsRedo before ticket after → last_of past.marks.undone ≡ ticket
-  redo_reaches w before after bound past None tied is = ap last_of (sym tied.undone ∙ is.0)
-  redo_reaches w before after bound past (Some t) tied is = ap last_of (sym tied.undone) ∙ is.0
+  pub turn_reaches : (from : Standing) (w : W) (before after : Changes S) (bound : ℕ) (past : Past) (ticket : Option ℕ) → Tied w before bound past → IsTurn from before ticket after → last_of (marks_from from past.marks) ≡ ticket
+  turn_reaches from w before after bound past None tied is = ap last_of (sym (turnable_marked by.table by.told from before past tied.done tied.undone) ∙ is.0)
+  turn_reaches from w before after bound past (Some t) tied is = ap last_of (sym (turnable_marked by.table by.told from before past tied.done tied.undone)) ∙ is.0
 
   -- ---- at a later moment
 
@@ -172,113 +172,80 @@ module _ {W S : Type 0} (by : Ghosts W Tables S Command) where
       (later w' after past.now now (deeds_of past.log) (is_struck past.marks) less (stands_still by.has_cells by.table by.keeps by.face empty_face w w' before after past.now (deeds_of past.log) (is_struck past.marks) is still.row tied.stands))
       (ap done_of is ∙ tied.done) (ap (λ (x : Changes S). x.undone) is ∙ tied.undone) (ap (λ (x : Changes S). x.tickets) is) (ap (λ (x : Changes S). x.limit) is) refl still.told still.tables tied
 
-  -- ---- undo
+  -- ---- undo and redo
 
-  taken_back_now : (w w' : W) (before after : Changes S) (bound now : ℕ) (past : Past) (e : Entry) (t : ℕ) → past.now ≤ now →
-      deed_of e.event e.moment e.ticket ≡ None → given_of e.event e.ticket ≡ None →
-      IsTakenBack before t after → MovesStandings by w before w' after →
-      Tied w before bound past → Tied w' after bound (record { now = now; marks = strike past.marks t; log = past.log ++ e ∷ [] })
-  taken_back_now w w' before after bound now past e t less no_deed no_command is still tied =
-      moved w w' before after bound now past (strike past.marks t) e no_deed no_command
-      (later w' after past.now now (deeds_of past.log) (is_struck (strike past.marks t)) less
-      (subst (λ (struck : ℕ → Bool). StandsAt w' after past.now (deeds_of past.log) struck) (sym (struck_after_strike past.marks t))
-      (stands_taken_back by.has_cells by.table by.keeps by.face empty_face w w' before after past.now (deeds_of past.log) (is_struck past.marks) t is still.row (λ chosen choice. still.choices chosen tt choice) tied.stands)))
-      (done_taken_back before after t is ∙ ap (λ (l : List ℕ). without t l) tied.done)
-      (is.undone ∙ ap (λ (l : List ℕ). l ++ t ∷ []) tied.undone)
-      is.tickets is.limit refl still.told still.tables tied
+  turned_now : (from : Standing) → from ≢ Cleared → (w w' : W) (before after : Changes S) (bound now : ℕ) (past : Past) (e : Entry) (t : ℕ) → past.now ≤ now →
+      deed_of e.event e.moment e.ticket ≡ None → given_of e.event e.ticket ≡ None → AreChanges by.table before →
+      HasTurned from before t after → MovesStandings by w before w' after →
+      Tied w before bound past → Tied w' after bound (record { now = now; marks = turn_marks from past.marks t; log = past.log ++ e ∷ [] })
+  turned_now from live w w' before after bound now past e t less no_deed no_command are is still tied =
+      let marks = turn_marks from past.marks t in
+      moved w w' before after bound now past marks e no_deed no_command
+      (later w' after past.now now (deeds_of past.log) (is_struck marks) less
+      (subst (λ (struck : ℕ → Bool). StandsAt w' after past.now (deeds_of past.log) struck) (sym (struck_after from live past.marks t))
+      (stands_turned by.has_cells by.table by.keeps by.face empty_face w w' before after past.now (deeds_of past.log) (is_struck past.marks) t (turned from)
+      (turned_known by.table before after t are from live is) is.standings is.tickets still.row (λ chosen choice. still.choices chosen tt choice) tied.stands)))
+      (done_turned by.table before after t are from live is past.marks tied.done)
+      (undone_turned by.table before after t are from live is past.marks tied.undone)
+      is.tickets is.limit (tickets_turned from past.marks t) still.told still.tables tied
 
-  undone_now : (w w' : W) (before after : Changes S) (bound now : ℕ) (past : Past) (e : Entry) (ticket : Option ℕ) → past.now ≤ now →
-      deed_of e.event e.moment e.ticket ≡ None → given_of e.event e.ticket ≡ None →
-      IsUndo before ticket after → MovesStandings by w before w' after →
-      Tied w before bound past → Tied w' after bound (record { now = now; marks = option_map_or (strike past.marks) ticket past.marks; log = past.log ++ e ∷ [] })
-  undone_now w w' before after bound now past e None less no_deed no_command is still tied = unmoved w w' before after bound now past e less no_deed no_command is.1 still tied
-  undone_now w w' before after bound now past e (Some t) less no_deed no_command is still tied =
-      taken_back_now w w' before after bound now past e t less no_deed no_command is.1 still tied
+  turn_now : (from : Standing) → from ≢ Cleared → (w w' : W) (before after : Changes S) (bound now : ℕ) (past : Past) (e : Entry) (ticket : Option ℕ) → past.now ≤ now →
+      deed_of e.event e.moment e.ticket ≡ None → given_of e.event e.ticket ≡ None → AreChanges by.table before →
+      IsTurn from before ticket after → MovesStandings by w before w' after →
+      Tied w before bound past → Tied w' after bound (record { now = now; marks = option_map_or (turn_marks from past.marks) ticket past.marks; log = past.log ++ e ∷ [] })
+  turn_now from live w w' before after bound now past e None less no_deed no_command are is still tied = unmoved w w' before after bound now past e less no_deed no_command is.1 still tied
+  turn_now from live w w' before after bound now past e (Some t) less no_deed no_command are is still tied =
+      turned_now from live w w' before after bound now past e t less no_deed no_command are is.1 still tied
 
-  pub tied_undo : (w w' : W) (before after : Changes S) (bound moment : ℕ) (past : Past) (ticket : Option ℕ) →
-      IsUndo before ticket after → MovesStandings by w before w' after →
-      Tied w before bound past → Tied w' after bound (followed_by bound past (Undo moment))
-  tied_undo w w' before after bound moment past ticket is still tied =
-      let now = max past.now moment in
-      let e : Entry = record { event = Undo moment; moment = now; ticket = None } in
-      subst (λ (o : Option ℕ). Tied w' after bound (record { now = now; marks = option_map_or (strike past.marks) o past.marks; log = past.log ++ e ∷ [] }))
-      (sym (undo_reaches w before after bound past ticket tied is))
-      (undone_now w w' before after bound now past e ticket (omega arith) refl refl is still tied)
+  abbrev turn_entry : Standing → Past → ℕ → Entry
+  turn_entry s past moment = record { event = turn_event s moment; moment = max past.now moment; ticket = None }
 
-  undone_of_now : (w w' : W) (before after : Changes S) (bound now : ℕ) (past : Past) (e : Entry) (t : ℕ) (outcome : Outcome) → past.now ≤ now →
-      deed_of e.event e.moment e.ticket ≡ None → given_of e.event e.ticket ≡ None →
-      IsUndoOf by.table before t outcome after → MovesStandings by w before w' after →
-      Tied w before bound past → Tied w' after bound (record { now = now; marks = option_map_or (strike past.marks) (moved_by outcome t) past.marks; log = past.log ++ e ∷ [] })
-  undone_of_now w w' before after bound now past e t Moved less no_deed no_command is still tied =
-      taken_back_now w w' before after bound now past e t less no_deed no_command is.1 still tied
-  undone_of_now w w' before after bound now past e t NotKept less no_deed no_command is still tied =
+  pub tied_turn : (from : Standing) → from ≢ Cleared → (w w' : W) (before after : Changes S) (bound moment : ℕ) (past : Past) (ticket : Option ℕ) → AreChanges by.table before →
+      IsTurn from before ticket after → MovesStandings by w before w' after →
+      Tied w before bound past → Tied w' after bound (followed_by bound past (turn_event from moment))
+  tied_turn from live w w' before after bound moment past ticket are is still tied = by_event from live (turn_reaches from w before after bound past ticket tied is) is
+    where
+      goes : (s : Standing) → s ≢ Cleared → last_of (marks_from s past.marks) ≡ ticket → IsTurn s before ticket after → deed_of (turn_event s moment) (max past.now moment) None ≡ None → given_of (turn_event s moment) None ≡ None →
+          Tied w' after bound (record { now = max past.now moment; marks = option_map_or (turn_marks s past.marks) (last_of (marks_from s past.marks)) past.marks; log = past.log ++ turn_entry s past moment ∷ [] })
+      goes s live reaches is no_deed no_command =
+          subst (λ (o : Option ℕ). Tied w' after bound (record { now = max past.now moment; marks = option_map_or (turn_marks s past.marks) o past.marks; log = past.log ++ turn_entry s past moment ∷ [] })) (sym reaches)
+          (turn_now s live w w' before after bound (max past.now moment) past (turn_entry s past moment) ticket (omega arith) no_deed no_command are is still tied)
+
+      by_event : (s : Standing) → s ≢ Cleared → last_of (marks_from s past.marks) ≡ ticket → IsTurn s before ticket after → Tied w' after bound (followed_by bound past (turn_event s moment))
+      by_event Done live reaches is = goes Done live reaches is refl refl
+      by_event Undone live reaches is = goes Undone live reaches is refl refl
+      by_event Cleared live reaches is = absurd (live refl)
+
+  turn_of_now : (from : Standing) → from ≢ Cleared → (w w' : W) (before after : Changes S) (bound now : ℕ) (past : Past) (e : Entry) (t : ℕ) (outcome : Outcome) → past.now ≤ now →
+      deed_of e.event e.moment e.ticket ≡ None → given_of e.event e.ticket ≡ None → AreChanges by.table before →
+      IsTurnOf by.table from before t outcome after → MovesStandings by w before w' after →
+      Tied w before bound past → Tied w' after bound (record { now = now; marks = option_map_or (turn_marks from past.marks) (moved_by outcome t) past.marks; log = past.log ++ e ∷ [] })
+  turn_of_now from live w w' before after bound now past e t Moved less no_deed no_command are is still tied =
+      turned_now from live w w' before after bound now past e t less no_deed no_command are is.1 still tied
+  turn_of_now from live w w' before after bound now past e t NotKept less no_deed no_command are is still tied =
       unmoved w w' before after bound now past e less no_deed no_command is.1 still tied
-  undone_of_now w w' before after bound now past e t (Buried other) less no_deed no_command is still tied =
+  turn_of_now from live w w' before after bound now past e t (Buried other) less no_deed no_command are is still tied =
       unmoved w w' before after bound now past e less no_deed no_command is.2 still tied
 
-  pub tied_undo_of : (w w' : W) (before after : Changes S) (bound moment : ℕ) (past : Past) (t : ℕ) (outcome : Outcome) → AreChanges by.table before →
-      IsUndoOf by.table before t outcome after → MovesStandings by w before w' after →
-      Tied w before bound past → Tied w' after bound (followed_by bound past (UndoOf moment t))
-  tied_undo_of w w' before after bound moment past t outcome are is still tied =
-      let now = max past.now moment in
-      let e : Entry = record { event = UndoOf moment t; moment = now; ticket = None } in
-      subst (λ (o : Option ℕ). Tied w' after bound (record { now = now; marks = option_map_or (strike past.marks) o past.marks; log = past.log ++ e ∷ [] }))
-      (undo_of_moves by.table by.told before after past t outcome are tied.done tied.undone tied.given tied.tables is)
-      (undone_of_now w w' before after bound now past e t outcome (omega arith) refl refl is still tied)
+  abbrev turn_of_entry : Standing → Past → ℕ → ℕ → Entry
+  turn_of_entry s past t moment = record { event = turn_of_event s t moment; moment = max past.now moment; ticket = None }
 
-  -- ---- redo
+  pub tied_turn_of : (from : Standing) → from ≢ Cleared → (w w' : W) (before after : Changes S) (bound moment : ℕ) (past : Past) (t : ℕ) (outcome : Outcome) → AreChanges by.table before →
+      IsTurnOf by.table from before t outcome after → MovesStandings by w before w' after →
+      Tied w before bound past → Tied w' after bound (followed_by bound past (turn_of_event from t moment))
+  tied_turn_of from live w w' before after bound moment past t outcome are is still tied = by_event from live is
+    where
+      goes : (s : Standing) → s ≢ Cleared → IsTurnOf by.table s before t outcome after → deed_of (turn_of_event s t moment) (max past.now moment) None ≡ None → given_of (turn_of_event s t moment) None ≡ None →
+          Tied w' after bound (record { now = max past.now moment; marks = option_map_or (turn_marks s past.marks) (unless_buried (is_among (marks_from s past.marks) t) (command_in_way s (commands_of past) t) t) past.marks; log = past.log ++ turn_of_entry s past t moment ∷ [] })
+      goes s live is no_deed no_command =
+          subst (λ (o : Option ℕ). Tied w' after bound (record { now = max past.now moment; marks = option_map_or (turn_marks s past.marks) o past.marks; log = past.log ++ turn_of_entry s past t moment ∷ [] }))
+          (turn_of_moves by.table by.told s before after past t outcome are tied.done tied.undone tied.given tied.tables is)
+          (turn_of_now s live w w' before after bound (max past.now moment) past (turn_of_entry s past t moment) t outcome (omega arith) no_deed no_command are is still tied)
 
-  put_back_now : (w w' : W) (before after : Changes S) (bound now : ℕ) (past : Past) (e : Entry) (t : ℕ) → past.now ≤ now →
-      deed_of e.event e.moment e.ticket ≡ None → given_of e.event e.ticket ≡ None → AreChanges by.table before →
-      IsPutBack before t after → MovesStandings by w before w' after →
-      Tied w before bound past → Tied w' after bound (record { now = now; marks = restore past.marks t; log = past.log ++ e ∷ [] })
-  put_back_now w w' before after bound now past e t less no_deed no_command are is still tied =
-      moved w w' before after bound now past (restore past.marks t) e no_deed no_command
-      (later w' after past.now now (deeds_of past.log) (is_struck (restore past.marks t)) less
-      (subst (λ (struck : ℕ → Bool). StandsAt w' after past.now (deeds_of past.log) struck) (sym (struck_after_restore past.marks t))
-      (stands_put_back by.has_cells by.table by.keeps by.face empty_face w w' before after past.now (deeds_of past.log) (is_struck past.marks) t are is still.row (λ chosen choice. still.choices chosen tt choice) tied.stands)))
-      (done_put_back by.table before after t are is ∙ ap (λ (l : List ℕ). in_place t l) tied.done)
-      (is.undone ∙ ap (λ (l : List ℕ). without t l) tied.undone)
-      is.tickets is.limit refl still.told still.tables tied
-
-  redone_now : (w w' : W) (before after : Changes S) (bound now : ℕ) (past : Past) (e : Entry) (ticket : Option ℕ) → past.now ≤ now →
-      deed_of e.event e.moment e.ticket ≡ None → given_of e.event e.ticket ≡ None → AreChanges by.table before →
-      IsRedo before ticket after → MovesStandings by w before w' after →
-      Tied w before bound past → Tied w' after bound (record { now = now; marks = option_map_or (restore past.marks) ticket past.marks; log = past.log ++ e ∷ [] })
-  redone_now w w' before after bound now past e None less no_deed no_command are is still tied = unmoved w w' before after bound now past e less no_deed no_command is.1 still tied
-  redone_now w w' before after bound now past e (Some t) less no_deed no_command are is still tied =
-      put_back_now w w' before after bound now past e t less no_deed no_command are is.1 still tied
-
-  pub tied_redo : (w w' : W) (before after : Changes S) (bound moment : ℕ) (past : Past) (ticket : Option ℕ) → AreChanges by.table before →
-      IsRedo before ticket after → MovesStandings by w before w' after →
-      Tied w before bound past → Tied w' after bound (followed_by bound past (Redo moment))
-  tied_redo w w' before after bound moment past ticket are is still tied =
-      let now = max past.now moment in
-      let e : Entry = record { event = Redo moment; moment = now; ticket = None } in
-      subst (λ (o : Option ℕ). Tied w' after bound (record { now = now; marks = option_map_or (restore past.marks) o past.marks; log = past.log ++ e ∷ [] }))
-      (sym (redo_reaches w before after bound past ticket tied is))
-      (redone_now w w' before after bound now past e ticket (omega arith) refl refl are is still tied)
-
-  redone_of_now : (w w' : W) (before after : Changes S) (bound now : ℕ) (past : Past) (e : Entry) (t : ℕ) (outcome : Outcome) → past.now ≤ now →
-      deed_of e.event e.moment e.ticket ≡ None → given_of e.event e.ticket ≡ None → AreChanges by.table before →
-      IsRedoOf by.table before t outcome after → MovesStandings by w before w' after →
-      Tied w before bound past → Tied w' after bound (record { now = now; marks = option_map_or (restore past.marks) (moved_by outcome t) past.marks; log = past.log ++ e ∷ [] })
-  redone_of_now w w' before after bound now past e t Moved less no_deed no_command are is still tied =
-      put_back_now w w' before after bound now past e t less no_deed no_command are is.1 still tied
-  redone_of_now w w' before after bound now past e t NotKept less no_deed no_command are is still tied =
-      unmoved w w' before after bound now past e less no_deed no_command is.1 still tied
-  redone_of_now w w' before after bound now past e t (Buried other) less no_deed no_command are is still tied =
-      unmoved w w' before after bound now past e less no_deed no_command is.2 still tied
-
-  pub tied_redo_of : (w w' : W) (before after : Changes S) (bound moment : ℕ) (past : Past) (t : ℕ) (outcome : Outcome) → AreChanges by.table before →
-      IsRedoOf by.table before t outcome after → MovesStandings by w before w' after →
-      Tied w before bound past → Tied w' after bound (followed_by bound past (RedoOf moment t))
-  tied_redo_of w w' before after bound moment past t outcome are is still tied =
-      let now = max past.now moment in
-      let e : Entry = record { event = RedoOf moment t; moment = now; ticket = None } in
-      subst (λ (o : Option ℕ). Tied w' after bound (record { now = now; marks = option_map_or (restore past.marks) o past.marks; log = past.log ++ e ∷ [] }))
-      (redo_of_moves by.table by.told before after past t outcome are tied.done tied.undone tied.given tied.tables is)
-      (redone_of_now w w' before after bound now past e t outcome (omega arith) refl refl are is still tied)
+      by_event : (s : Standing) → s ≢ Cleared → IsTurnOf by.table s before t outcome after → Tied w' after bound (followed_by bound past (turn_of_event s t moment))
+      by_event Done live is = goes Done live is refl refl
+      by_event Undone live is = goes Undone live is refl refl
+      by_event Cleared live is = absurd (live refl)
 
   -- ---- what changes no command
 

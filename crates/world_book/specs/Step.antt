@@ -6,8 +6,6 @@ use Rattle.change_law.specs.Pairs.{AddsPairs, CountsNoneOf}
 use Rattle.ranked.specs.declared.cell.Fate.{Fate}
 use Rattle.ranked.specs.declared.cell.Fate.TheVariants as fate
 use Rattle.ranked.specs.declared.find.Scope.{Scope}
-use Rattle.undo_journal.specs.declared.outcome.Outcome.{Outcome}
-use Rattle.undo_journal.specs.declared.outcome.Outcome.TheVariants as outcome
 use Rattle.undo_journal.specs.Journal.{Changes, NeedsNone, done_of, last_of}
 use Rattle.undo_journal.specs.Needs.{UndoNeedsNone}
 use Rattle.history.specs.declared.book.StepFault.{StepFault}
@@ -17,7 +15,7 @@ use Rattle.history.specs.declared.event.Event.TheVariants.{Sweep, Forget, Undo, 
 use Rattle.history.specs.declared.event.Reason.{Reason}
 use Rattle.history.specs.declared.event.Reason.TheVariants.{BelowRedirect, DataBelow, CnameClash, TooMany}
 use Rattle.history.specs.declared.event.Reply.{Reply}
-use Rattle.history.specs.declared.event.Reply.TheVariants.{Taken, Outranked, Undone, Redone, NotKept, Buried}
+use Rattle.history.specs.declared.event.Reply.TheVariants.{Taken, Outranked}
 use Rattle.history.specs.Event.{is_admission}
 use Rattle.world_book.specs.Versions.{pairs_left}
 
@@ -61,18 +59,6 @@ abbrev pub IsFaultOf : {W T S D : Type 0} → Ghosts W T S D → W → Event →
 IsFaultOf by world event NoMemory = IsTrue (is_admission event) → by.stored world ≢ by.limit world
 IsFaultOf by world event (Full n) = IsTrue (is_admission event) × (by.stored world ≡ n) × (by.limit world ≡ n)
 IsFaultOf by world event _ = ⊥
-
--- the reply to an undo of a ticket, by what it did
-abbrev pub undo_told : Outcome → ℕ → Reply
-undo_told outcome.Moved ticket = Undone ticket
-undo_told outcome.NotKept ticket = NotKept
-undo_told (outcome.Buried other) ticket = Buried other
-
--- the reply to a redo of a ticket, by what it did
-abbrev pub redo_told : Outcome → ℕ → Reply
-redo_told outcome.Moved ticket = Redone ticket
-redo_told outcome.NotKept ticket = NotKept
-redo_told (outcome.Buried other) ticket = Buried other
 
 -- An event that wants no memory: a sweep, a forget, and an undo or a redo whose change wants none.
 abbrev pub IsFree : {S : Type 0} → (S → Bool) → Changes S → Event → Type 0

@@ -7,8 +7,9 @@ ghost use Rattle.world_book.specs.Tied.{Discards, GainsNeeds, IsHistoryReply, Is
 use crate::admissions::{admit, forget, sweep};
 use crate::obey_command::give;
 use crate::seen::seen;
-use crate::undo_redo::{redo, redo_of, undo, undo_of};
+use crate::undo_redo::{turn, turn_of};
 use crate::world::BookChange;
+use change_law::Standing;
 use history::{Event, Reply, Settings, StepFault};
 use std::alloc::Global;
 use undo_journal::Journal;
@@ -51,9 +52,9 @@ pub(crate) fn obey<C: BookChange>(
             Ok(Reply::Forgotten)
         }
         Event::Do { command, .. } => Ok(give(journal, world, command)?),
-        Event::Undo { .. } => Ok(undo(journal, world)?),
-        Event::Redo { .. } => Ok(redo(journal, world)?),
-        Event::UndoOf { ticket, .. } => Ok(undo_of(journal, world, ticket)?),
-        Event::RedoOf { ticket, .. } => Ok(redo_of(journal, world, ticket)?),
+        Event::Undo { .. } => Ok(turn(journal, world, Standing::Done)?),
+        Event::Redo { .. } => Ok(turn(journal, world, Standing::Undone)?),
+        Event::UndoOf { ticket, .. } => Ok(turn_of(journal, world, Standing::Done, ticket)?),
+        Event::RedoOf { ticket, .. } => Ok(turn_of(journal, world, Standing::Undone, ticket)?),
     }
 }

@@ -1,7 +1,8 @@
 //! What a lookup would see right after an undo or a redo, of a world under its journal. Nothing is done and taken back.
 
 ghost use Rattle.std.specs.Prelude.{◌⊎◌, IfOk};
-ghost use Rattle.undo_journal.specs.Journal.{CanBeRedone, CanBeUndone};
+ghost use Rattle.change_law.specs.declared.kept.Standing.TheVariants.{Done, Undone};
+ghost use Rattle.undo_journal.specs.Journal.{CanBeTurned};
 ghost use Rattle.world_book.specs.Held.{held_one};
 ghost use Rattle.world_book.specs.Seen.{AnswersAfter, AnswersOverPlace, ShowsNextUndo};
 
@@ -54,7 +55,7 @@ fn answer_at<C: BookChange>(
     clock: u64,
 ) -> Result<Seen, NoMemory>
     requires keeps { C.World.keeps world.now journal.now.kept }
-    requires turns { CanBeUndone C.World.table journal.now.kept place ⊎ CanBeRedone C.World.table journal.now.kept place }
+    requires turns { CanBeTurned C.World.table Done journal.now.kept place ⊎ CanBeTurned C.World.table Undone journal.now.kept place }
     ensures { IfOk result (AnswersOverPlace C.World.World world.now journal.now place question.now clock) }
 {
     match journal.kept(place) {

@@ -1,0 +1,5 @@
+use Rattle.dns_name.specs.ListLaws.{all_weaker}
+use Rattle.undo_journal.proofs.journal.Journal.redo.Goals as goal
+
+pub returns-clause-free : goal.returns-clause-free
+returns-clause-free g c = λ ticket last none. c.turn.ensures.free ticket last (all_weaker _ _ (λ k free own stands. free own) c.args.self.now.kept none)
