@@ -37,13 +37,31 @@ is_done _ = false
 abbrev pub IsPresent : {S : Type 0} → List (KeptChange S) → (ℕ → Bool) → Type 0
 IsPresent kept chosen = AllByRecursion (λ k. chosen k.ticket ≡ is_done k.standing) kept
 
+-- ---- turns: an undo turns a change that is in effect, a redo one that is undone
+
+-- the standing of a change after its turn
+abbrev pub turned : Standing → Standing
+turned Done = Undone
+turned _ = Done
+
+-- what is in the way of a turn, of what is before a place and what is after it: an undo goes past later ones, a redo past earlier ones
+abbrev pub passed : {X : Type 0} → Standing → X → X → X
+passed Done earlier later = later
+passed _ earlier later = earlier
+
+-- No change of its table that the turn goes past stands as it does.
+abbrev pub IsClear : {S : Type 0} → (S → Option ℕ) → Standing → S → List (KeptChange S) → Type 0
+IsClear table from saved others = AllByRecursion (λ k. IsOneTable (table saved) (table k.saved) → k.standing ≢ from) others
+
 -- No later change of its table is in effect.
 abbrev pub IsUncovered : {S : Type 0} → (S → Option ℕ) → S → List (KeptChange S) → Type 0
-IsUncovered table saved later = AllByRecursion (λ k. IsOneTable (table saved) (table k.saved) → k.standing ≢ Done) later
+IsUncovered table saved later = IsClear table Done saved later
 
 -- No earlier change of its table is undone.
 abbrev pub IsFounded : {S : Type 0} → (S → Option ℕ) → S → List (KeptChange S) → Type 0
-IsFounded table saved earlier = AllByRecursion (λ k. IsOneTable (table saved) (table k.saved) → k.standing ≢ Undone) earlier
+IsFounded table saved earlier = IsClear table Undone saved earlier
+
+-- ---- when nothing can be redone any more
 
 -- the standing of a change when nothing can be redone any more
 abbrev pub clear : Standing → Standing

@@ -1,5 +1,5 @@
 -- The row of a world: its face for each choice of the changes that it keeps. `table`, `keeps` and `face` are the world's own.
-use Rattle.std.specs.Prelude.{◌≡◌, ◌<◌, ◌≤◌, ◌+◌, ℕ, Bool, true, false, Option, List, [], ◌∷◌, ◌++◌, if◌then◌else◌}
+use Rattle.std.specs.Prelude.{◌≡◌, ◌≢◌, ◌<◌, ◌≤◌, ◌+◌, ℕ, Bool, true, false, Option, List, [], ◌∷◌, ◌++◌, if◌then◌else◌}
 use Rattle.std.proofs.Common.{refl, sym, subst}
 use Rattle.std.specs.List.{AllByRecursion}
 use Rattle.dns_name.specs.Labels.{Labels}
@@ -7,9 +7,9 @@ use Rattle.dns_text.specs.declared.record.Question.{Question}
 use Rattle.ranked.specs.declared.find.Scope.{Scope}
 use Rattle.change_law.specs.declared.kept.KeptChange.{KeptChange}
 use Rattle.change_law.specs.declared.kept.Standing.{Standing}
-use Rattle.change_law.specs.declared.kept.Standing.TheVariants.{Done, Undone, Cleared}
+use Rattle.change_law.specs.declared.kept.Standing.TheVariants.{Done, Cleared}
 use Rattle.change_law.specs.Face.{Face, IsSame, IsSameAt}
-use Rattle.change_law.specs.Choice.{Agree, IsChoice, IsFounded, IsPresent, IsUncovered, cleared}
+use Rattle.change_law.specs.Choice.{Agree, IsChoice, IsClear, IsPresent, cleared, passed, turned}
 use Rattle.change_law.specs.Pairs.{AddsPairs}
 
 -- a kept change, by its ticket and the data that it saved
@@ -24,17 +24,12 @@ with_change kept ticket saved = cleared kept ++ kept_as Done ticket saved ∷ []
 abbrev pub IsNext : {S : Type 0} → ℕ → List (KeptChange S) → Type 0
 IsNext ticket kept = AllByRecursion (λ k. k.ticket < ticket) kept
 
--- The world keeps a change that is in effect, and no later one of its table is.
-pub record IsLast {W S : Type 0} (table : S → Option ℕ) (keeps : W → List (KeptChange S) → Type 0)
+-- The world keeps a change that stands so, and no other one of its table that its turn goes past does.
+pub record IsTurnable {W S : Type 0} (table : S → Option ℕ) (keeps : W → List (KeptChange S) → Type 0) (from : Standing)
     (world : W) (earlier : List (KeptChange S)) (ticket : ℕ) (saved : S) (later : List (KeptChange S)) : Type 0 where
-  pub kept : keeps world (earlier ++ kept_as Done ticket saved ∷ later)
-  pub uncovered : IsUncovered table saved later
-
--- The world keeps a change that is undone, and no earlier one of its table is.
-pub record IsFirst {W S : Type 0} (table : S → Option ℕ) (keeps : W → List (KeptChange S) → Type 0)
-    (world : W) (earlier : List (KeptChange S)) (ticket : ℕ) (saved : S) (later : List (KeptChange S)) : Type 0 where
-  pub kept : keeps world (earlier ++ kept_as Undone ticket saved ∷ later)
-  pub founded : IsFounded table saved earlier
+  pub live : from ≢ Cleared
+  pub kept : keeps world (earlier ++ kept_as from ticket saved ∷ later)
+  pub clear : IsClear table from saved (passed from earlier later)
 
 -- The world keeps these changes now. For each choice of them with a property, the face is a function of the face before.
 pub record IsRowAfter {W S T : Type 0} (table : S → Option ℕ) (keeps : W → List (KeptChange S) → Type 0) (face : W → List (KeptChange S) → (ℕ → Bool) → Face T)
@@ -88,23 +83,15 @@ abbrev pub IsMade : {W S T : Type 0} → (S → Option ℕ) → (W → List (Kep
 IsMade {S = S} table keeps face newest made ticket saved before after =
     (kept : List (KeptChange S)) → keeps before kept → IsNext ticket kept → newest before < ticket → IsRowAfter table keeps face made any before kept after (with_change kept ticket saved)
 
--- Among the changes that the world keeps, this one is in effect, and no later one of its table is.
-abbrev pub CanGoBack : {W S : Type 0} → (S → Option ℕ) → (W → List (KeptChange S) → Type 0) → W → S → Type 0
-CanGoBack {S = S} table keeps world saved = (earlier : List (KeptChange S)) × ((ticket : ℕ) × ((later : List (KeptChange S)) × IsLast table keeps world earlier ticket saved later))
+-- Among the changes that the world keeps, this one can be turned.
+abbrev pub CanTurn : {W S : Type 0} → (S → Option ℕ) → (W → List (KeptChange S) → Type 0) → Standing → W → S → Type 0
+CanTurn {S = S} table keeps from world saved =
+    (earlier : List (KeptChange S)) × ((ticket : ℕ) × ((later : List (KeptChange S)) × IsTurnable table keeps from world earlier ticket saved later))
 
--- Among the changes that the world keeps, this one is undone, and no earlier one of its table is.
-abbrev pub CanGoAgain : {W S : Type 0} → (S → Option ℕ) → (W → List (KeptChange S) → Type 0) → W → S → Type 0
-CanGoAgain {S = S} table keeps world saved = (earlier : List (KeptChange S)) × ((ticket : ℕ) × ((later : List (KeptChange S)) × IsFirst table keeps world earlier ticket saved later))
-
--- The change is undone at its place among the kept ones, and each face is the same.
-abbrev pub GoesBack : {W S T : Type 0} → (S → Option ℕ) → (W → List (KeptChange S) → Type 0) → (W → List (KeptChange S) → (ℕ → Bool) → Face T) → W → S → W → S → Type 0
-GoesBack {S = S} table keeps face before saved after left = (earlier : List (KeptChange S)) (ticket : ℕ) (later : List (KeptChange S)) → IsLast table keeps before earlier ticket saved later →
-    IsRowAfter table keeps face same_face any before (earlier ++ kept_as Done ticket saved ∷ later) after (earlier ++ kept_as Undone ticket left ∷ later)
-
--- The change is in effect again at its place among the kept ones, and each face is the same.
-abbrev pub GoesAgain : {W S T : Type 0} → (S → Option ℕ) → (W → List (KeptChange S) → Type 0) → (W → List (KeptChange S) → (ℕ → Bool) → Face T) → W → S → W → S → Type 0
-GoesAgain {S = S} table keeps face before saved after left = (earlier : List (KeptChange S)) (ticket : ℕ) (later : List (KeptChange S)) → IsFirst table keeps before earlier ticket saved later →
-    IsRowAfter table keeps face same_face any before (earlier ++ kept_as Undone ticket saved ∷ later) after (earlier ++ kept_as Done ticket left ∷ later)
+-- The change stands the other way at its place among the kept ones, and each face is the same.
+abbrev pub Turns : {W S T : Type 0} → (S → Option ℕ) → (W → List (KeptChange S) → Type 0) → (W → List (KeptChange S) → (ℕ → Bool) → Face T) → Standing → W → S → W → S → Type 0
+Turns {S = S} table keeps face from before saved after left = (earlier : List (KeptChange S)) (ticket : ℕ) (later : List (KeptChange S)) → IsTurnable table keeps from before earlier ticket saved later →
+    IsRowAfter table keeps face same_face any before (earlier ++ kept_as from ticket saved ∷ later) after (earlier ++ kept_as (turned from) ticket left ∷ later)
 
 -- The world does not keep its oldest change any more. Each choice with it has the face that it had.
 abbrev pub SettlesOldest : {W S T : Type 0} → (S → Option ℕ) → (W → List (KeptChange S) → Type 0) → (W → List (KeptChange S) → (ℕ → Bool) → Face T) → W → S → W → Type 0

@@ -1,19 +1,17 @@
 -- What a world would show, if one of its changes were undone, or redone.
-use Rattle.std.specs.Prelude.{◌⊎◌, ℕ, Bool, Option, List, ◌∷◌, ◌++◌}
+use Rattle.std.specs.Prelude.{ℕ, Bool, Option, List, ◌∷◌, ◌++◌}
 use Rattle.change_law.specs.declared.kept.KeptChange.{KeptChange}
-use Rattle.change_law.specs.declared.kept.Standing.TheVariants.{Done, Undone}
-use Rattle.change_law.specs.Choice.{IsPresent}
+use Rattle.change_law.specs.declared.kept.Standing.{Standing}
+use Rattle.change_law.specs.Choice.{IsPresent, turned}
 use Rattle.change_law.specs.Face.{Face}
-use Rattle.change_law.specs.Row.{CanGoAgain, CanGoBack, IsFirst, IsLast, kept_as}
+use Rattle.change_law.specs.Row.{CanTurn, IsTurnable, kept_as}
 
 -- Among the changes that the world keeps, this one can be undone, or it can be redone.
-abbrev pub CanTurn : {W S : Type 0} → (S → Option ℕ) → (W → List (KeptChange S) → Type 0) → W → S → Type 0
-CanTurn table keeps world saved = CanGoBack table keeps world saved ⊎ CanGoAgain table keeps world saved
+abbrev pub CanTurnOver : {W S : Type 0} → (S → Option ℕ) → (W → List (KeptChange S) → Type 0) → W → S → Type 0
+CanTurnOver table keeps world saved = (from : Standing) × CanTurn table keeps from world saved
 
--- If the change is in effect, the face of the choice without it has a property, and if it is undone that of the choice with it. All other changes stand as they do.
-pub record HoldsOver {W S T : Type 0} (table : S → Option ℕ) (keeps : W → List (KeptChange S) → Type 0) (face : W → List (KeptChange S) → (ℕ → Bool) → Face T)
-    (world : W) (saved : S) (P : Face T → Type 0) : Type 0 where
-  pub back : (earlier : List (KeptChange S)) (ticket : ℕ) (later : List (KeptChange S)) → IsLast table keeps world earlier ticket saved later →
-      (chosen : ℕ → Bool) → IsPresent (earlier ++ kept_as Undone ticket saved ∷ later) chosen → P (face world (earlier ++ kept_as Done ticket saved ∷ later) chosen)
-  pub again : (earlier : List (KeptChange S)) (ticket : ℕ) (later : List (KeptChange S)) → IsFirst table keeps world earlier ticket saved later →
-      (chosen : ℕ → Bool) → IsPresent (earlier ++ kept_as Done ticket saved ∷ later) chosen → P (face world (earlier ++ kept_as Undone ticket saved ∷ later) chosen)
+-- The face of the choice in which the change alone stands the other way has a property. All other changes stand as they do.
+abbrev pub HoldsOver : {W S T : Type 0} → (S → Option ℕ) → (W → List (KeptChange S) → Type 0) → (W → List (KeptChange S) → (ℕ → Bool) → Face T) → W → S → (Face T → Type 0) → Type 0
+HoldsOver {S = S} table keeps face world saved P =
+    (from : Standing) (earlier : List (KeptChange S)) (ticket : ℕ) (later : List (KeptChange S)) → IsTurnable table keeps from world earlier ticket saved later →
+    (chosen : ℕ → Bool) → IsPresent (earlier ++ kept_as (turned from) ticket saved ∷ later) chosen → P (face world (earlier ++ kept_as from ticket saved ∷ later) chosen)

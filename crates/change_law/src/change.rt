@@ -4,10 +4,11 @@ ghost use Rattle.std.specs.Prelude.{◌≡◌, ◌≤◌, ◌<◌, max, ℕ, Boo
 ghost use Rattle.dns_text.specs.declared.record.Question.{Question};
 ghost use Rattle.change_law.specs.Made.{MakesChange, RefusesChange, RefusesTurn};
 ghost use Rattle.change_law.specs.Effect.{effect, IsFaultFor};
-ghost use Rattle.change_law.specs.Row.{CanGoBack, CanGoAgain, GoesBack, GoesAgain, IsSameKind, IsTurned, SettlesOldest, SettlesCleared};
+ghost use Rattle.change_law.specs.Row.{CanTurn, IsSameKind, IsTurned, SettlesOldest, SettlesCleared, Turns};
 ghost use Rattle.change_law.specs.Row.{IsNoMore, NeedsNoneUnless, StoresNoMoreCells};
 
 use crate::fault::ChangeFault;
+use crate::kept::Standing;
 use crate::world::World;
 use dns_name::NoMemory;
 
@@ -59,26 +60,15 @@ pub trait Change: Drop {
         ensures same { OnErr result (RefusesChange Self.World.World world.old world.new) }
         ensures store { StoresNoMoreCells Self.World.stored Self.World.limit Self.World.counts world.old world.new };
 
-    /// Undoes a change. No later change of its table is in effect. No face changes.
-    fn back(
+    /// Undoes a change that is in effect, or redoes one that is undone. No other change of its table that this goes past stands as it
+    /// does: no later one if it is in effect, no earlier one if it is undone. No face changes.
+    fn turn(
         world: &mut Self::World,
+        from: Standing,
         saved: &mut <Self::World as World>::Saved,
     ) -> Result<(), NoMemory>
-        requires { CanGoBack Self.World.table Self.World.keeps world.old saved.old }
-        ensures row { OnOk result (GoesBack Self.World.table Self.World.keeps Self.World.face world.old saved.old world.new saved.new) }
-        ensures kind { OnOk result (IsSameKind Self.World.table Self.World.told saved.old saved.new) }
-        ensures turned { OnOk result (IsTurned Self.World.needs_memory Self.World.needs_memory_after saved.old saved.new) }
-        ensures free { Self.World.needs_memory saved.old ≡ false → IsOk result }
-        ensures err { OnErr result (RefusesTurn Self.World.World world.old saved.old world.new saved.new) }
-        ensures counts { IsNoMore Self.World.newest Self.World.stored Self.World.limit Self.World.counts world.old world.new };
-
-    /// Redoes an undone change. No earlier change of its table is undone. No face changes.
-    fn again(
-        world: &mut Self::World,
-        saved: &mut <Self::World as World>::Saved,
-    ) -> Result<(), NoMemory>
-        requires { CanGoAgain Self.World.table Self.World.keeps world.old saved.old }
-        ensures row { OnOk result (GoesAgain Self.World.table Self.World.keeps Self.World.face world.old saved.old world.new saved.new) }
+        requires { CanTurn Self.World.table Self.World.keeps from world.old saved.old }
+        ensures row { OnOk result (Turns Self.World.table Self.World.keeps Self.World.face from world.old saved.old world.new saved.new) }
         ensures kind { OnOk result (IsSameKind Self.World.table Self.World.told saved.old saved.new) }
         ensures turned { OnOk result (IsTurned Self.World.needs_memory Self.World.needs_memory_after saved.old saved.new) }
         ensures free { Self.World.needs_memory saved.old ≡ false → IsOk result }

@@ -1,5 +1,5 @@
 -- What is read of the store, if one kept change stood the other way: a change of the tables moves no cell, and a flush moves no table.
-use Rattle.std.proofs.Common.{◌≡◌, ℕ, Bool, Option, List, ◌∷◌, ◌++◌, inl, inr, sym, ap, subst, ◌∙◌}
+use Rattle.std.proofs.Common.{◌≡◌, ℕ, Bool, Option, List, ◌∷◌, ◌++◌, sym, ap, subst, ◌∙◌}
 use Rattle.dns_text.specs.declared.record.Question.{Question}
 use Rattle.dns_text.specs.declared.record.Record.{Record}
 use Rattle.ranked.specs.declared.cell.Admitted.{Admitted}
@@ -10,10 +10,9 @@ use Rattle.local_zone.specs.declared.local_answer.Local.{Local}
 use Rattle.local_zone.specs.Answer.{local_of}
 use Rattle.change_law.specs.declared.kept.KeptChange.{KeptChange}
 use Rattle.change_law.specs.declared.kept.Standing.{Standing}
-use Rattle.change_law.specs.declared.kept.Standing.TheVariants.{Done, Undone}
-use Rattle.change_law.specs.Choice.{IsPresent}
+use Rattle.change_law.specs.Choice.{IsPresent, turned}
 use Rattle.change_law.specs.Row.{kept_as}
-use Rattle.change_law.specs.Turn.{CanTurn, HoldsOver}
+use Rattle.change_law.specs.Turn.{HoldsOver}
 use Rattle.history.specs.declared.event.Seen.{Seen}
 use Rattle.history.specs.declared.tables.Tables.{Tables}
 use Rattle.history.specs.Reply.{seen_by, seen_first}
@@ -32,13 +31,7 @@ use Rattle.store.specs.declared.store.WayBack.TheVariants as way
 use Rattle.store.specs.declared.store.SavedChange.{SavedChange}
 use Rattle.store.specs.declared.store.Store.{Store}
 use Rattle.store.specs.Store.{flush_way, of_cells, of_tables, store_face, store_table, table_way, KeepsStore}
-use Rattle.store.specs.StoreLaws.{cells_agree, no_table, table_can_go_again, table_can_go_back, tables_agree}
-use Rattle.store.specs.SumLaws.{first_part, last_part}
-
--- A change of the tables that can be turned in the store can be turned in them.
-pub table_can_turn : (x : Store) (saved : SavedChange) (s : SavedTable) → saved.way ≡ way.Table s → CanTurn store_table KeepsStore x saved → CanTurn saved_table KeepsBoth x.tables s
-table_can_turn x saved s e (inl can) = inl (table_can_go_back x saved s e can)
-table_can_turn x saved s e (inr can) = inr (table_can_go_again x saved s e can)
+use Rattle.store.specs.StoreLaws.{flush_turnable, no_table, table_turnable}
 
 module _ (x : Store) (saved : SavedChange) (q : Question) (m : ℕ) (seen : Seen) where
   -- a change of the tables
@@ -59,18 +52,10 @@ module _ (x : Store) (saved : SavedChange) (q : Question) (m : ℕ) (seen : Seen
         (sym ((shows_present x.cells (part of_cells now) chosen kept.1 still).cell q))
 
     pub table_over : HoldsOver saved_table KeepsBoth tables.face_by x.tables s (λ face. answer ≡ local_of face.tables.local q) → HoldsOver store_table KeepsStore store_face x saved (λ face. seen ≡ answer_in face q m)
-    table_over over = record {
-      back = λ earlier ticket later last chosen present.
-          at_tables Done Undone earlier ticket later chosen last.kept present
-          (over.back (part of_tables earlier) ticket (part of_tables later)
-          (last_part of_tables store_table saved_table tables_agree KeepsBoth x.tables earlier ticket saved later s (ap table_way e) last.kept.0 last.uncovered) chosen
-          (subst (λ (l : List (KeptChange SavedTable)). IsPresent l chosen) (part_at of_tables earlier Undone ticket saved later s (ap table_way e)) (part_present of_tables (earlier ++ kept_as Undone ticket saved ∷ later) chosen present)));
-      again = λ earlier ticket later first chosen present.
-          at_tables Undone Done earlier ticket later chosen first.kept present
-          (over.again (part of_tables earlier) ticket (part of_tables later)
-          (first_part of_tables store_table saved_table tables_agree KeepsBoth x.tables earlier ticket saved later s (ap table_way e) first.kept.0 first.founded) chosen
-          (subst (λ (l : List (KeptChange SavedTable)). IsPresent l chosen) (part_at of_tables earlier Done ticket saved later s (ap table_way e)) (part_present of_tables (earlier ++ kept_as Done ticket saved ∷ later) chosen present)));
-    }
+    table_over over = λ from earlier ticket later at chosen present.
+        at_tables from (turned from) earlier ticket later chosen at.kept present
+        (over from (part of_tables earlier) ticket (part of_tables later) (table_turnable x from earlier ticket saved later s e at) chosen
+        (subst (λ (l : List (KeptChange SavedTable)). IsPresent l chosen) (part_at of_tables earlier (turned from) ticket saved later s (ap table_way e)) (part_present of_tables (earlier ++ kept_as (turned from) ticket saved ∷ later) chosen present)))
 
   -- a flush
   module _ (s : SavedFlush) (e : saved.way ≡ way.Flush s) (is : seen ≡ seen_first (local_of x.tables.tables.local q) (seen_by (shows_over x.cells s m q))) where
@@ -90,15 +75,7 @@ module _ (x : Store) (saved : SavedChange) (q : Question) (m : ℕ) (seen : Seen
         (sym (shows_both x.tables (part of_tables now) chosen still).tables)
 
     pub flush_over : HoldsOver no_table KeepsFlushes cells.face_by x.cells s (λ face. shows_over x.cells s m q ≡ shown_at (face.cell q) m) → HoldsOver store_table KeepsStore store_face x saved (λ face. seen ≡ answer_in face q m)
-    flush_over over = record {
-      back = λ earlier ticket later last chosen present.
-          at_cells Done Undone earlier ticket later chosen present
-          (over.back (part of_cells earlier) ticket (part of_cells later)
-          (last_part of_cells store_table no_table cells_agree KeepsFlushes x.cells earlier ticket saved later s (ap flush_way e) last.kept.1 last.uncovered) chosen
-          (subst (λ (l : List (KeptChange SavedFlush)). IsPresent l chosen) (part_at of_cells earlier Undone ticket saved later s (ap flush_way e)) (part_present of_cells (earlier ++ kept_as Undone ticket saved ∷ later) chosen present)));
-      again = λ earlier ticket later first chosen present.
-          at_cells Undone Done earlier ticket later chosen present
-          (over.again (part of_cells earlier) ticket (part of_cells later)
-          (first_part of_cells store_table no_table cells_agree KeepsFlushes x.cells earlier ticket saved later s (ap flush_way e) first.kept.1 first.founded) chosen
-          (subst (λ (l : List (KeptChange SavedFlush)). IsPresent l chosen) (part_at of_cells earlier Done ticket saved later s (ap flush_way e)) (part_present of_cells (earlier ++ kept_as Done ticket saved ∷ later) chosen present)));
-    }
+    flush_over over = λ from earlier ticket later at chosen present.
+        at_cells from (turned from) earlier ticket later chosen present
+        (over from (part of_cells earlier) ticket (part of_cells later) (flush_turnable x from earlier ticket saved later s e at) chosen
+        (subst (λ (l : List (KeptChange SavedFlush)). IsPresent l chosen) (part_at of_cells earlier (turned from) ticket saved later s (ap flush_way e)) (part_present of_cells (earlier ++ kept_as (turned from) ticket saved ∷ later) chosen present)))

@@ -9,23 +9,24 @@ use Rattle.ranked.specs.declared.find.Find.{Find}
 use Rattle.ranked.specs.declared.find.Scope.{Scope}
 use Rattle.ranked.specs.declared.find.Scope.TheVariants.{One, Whole}
 use Rattle.change_law.specs.declared.kept.KeptChange.{KeptChange}
-use Rattle.change_law.specs.declared.kept.Standing.TheVariants.{Done, Undone, Cleared}
-use Rattle.change_law.specs.Choice.{IsPresent, cleared}
+use Rattle.change_law.specs.declared.kept.Standing.{Standing}
+use Rattle.change_law.specs.declared.kept.Standing.TheVariants.{Done, Cleared}
+use Rattle.change_law.specs.Choice.{IsPresent, cleared, turned}
 use Rattle.change_law.specs.Effect.{effect}
 use Rattle.change_law.specs.Face.{Face, IsSame, face_with, face_without, fate_in}
 use Rattle.change_law.specs.Pairs.{IsAliveIn}
-use Rattle.change_law.specs.Row.{IsRowAfter, IsEachRow, IsEachRowFrom, IsSameRow, IsMade, CanGoBack, CanGoAgain, GoesBack, GoesAgain, any, same_face, where_chosen, kept_as}
+use Rattle.change_law.specs.Row.{IsRowAfter, IsEachRow, IsEachRowFrom, IsSameRow, IsMade, IsTurnable, CanTurn, Turns, any, same_face, where_chosen, kept_as}
 use Rattle.history.specs.declared.event.Command.{Command}
 use Rattle.history.specs.declared.tables.Tables.{Tables}
 use Rattle.table_changes.specs.Part.{part}
 use Rattle.table_changes.specs.PartLaws.{part_at}
-use Rattle.table_changes.specs.Both.{saved_table, change_after, shown_tables, KeepsBoth}
+use Rattle.table_changes.specs.Both.{saved_table, shown_tables, KeepsBoth}
 use Rattle.table_changes.specs.Both as tables
 use Rattle.table_changes.specs.BothLaws.{clears_both, shows_both}
 use Rattle.table_changes.specs.declared.tables.SavedTable.{SavedTable}
 use Rattle.table_changes.specs.declared.tables.SavedTable.TheVariants as saved_by
-use Rattle.store.specs.SumLaws.{choice_part, sum_same, sum_clears, sum_shows, sum_admitted, sum_swept, sum_forgot, first_made, second_made, first_moved, second_moved, first_gone, second_gone, next_part, last_part, first_part, part_can_go_back, part_can_go_again, row_still}
-use Rattle.store.specs.World.{Shelved, KeepsFlushes, shown_face}
+use Rattle.store.specs.SumLaws.{choice_part, sum_same, sum_clears, sum_shows, sum_admitted, sum_swept, sum_forgot, first_made, second_made, first_moved, second_moved, first_gone, second_gone, next_part, turnable_part, part_can_turn, row_still}
+use Rattle.store.specs.World.{KeepsFlushes, shown_face}
 use Rattle.store.specs.World as cells
 use Rattle.store.specs.WorldLaws.{shows_present, clears_by_word}
 use Rattle.store.specs.declared.world.SavedFlush.{SavedFlush}
@@ -145,41 +146,31 @@ flush_made x x' command ticket empties saved stays made = λ kept h next newest.
 pub same_table : (saved : SavedChange) (s s' : SavedTable) → saved.way ≡ way.Table s → s' ≡ s → ◌≡◌ {A = SavedChange} (record { command = saved.command; way = way.Table s' }) saved
 same_table saved s s' e same = ap (λ (w : WayBack). record { command = saved.command; way = w }) (ap (λ (t : SavedTable). way.Table t) same ∙ sym e)
 
-pub table_can_go_back : (x : Store) (saved : SavedChange) (s : SavedTable) → saved.way ≡ way.Table s → CanGoBack store_table KeepsStore x saved → CanGoBack saved_table KeepsBoth x.tables s
-table_can_go_back x saved s e r = part_can_go_back of_tables store_table saved_table tables_agree KeepsStore KeepsBoth x x.tables (λ kept keeps. keeps.0) saved s (ap table_way e) r
+pub table_turnable : (x : Store) (from : Standing) (earlier : List (KeptChange SavedChange)) (ticket : ℕ) (saved : SavedChange) (later : List (KeptChange SavedChange)) (s : SavedTable) → saved.way ≡ way.Table s →
+    IsTurnable store_table KeepsStore from x earlier ticket saved later → IsTurnable saved_table KeepsBoth from x.tables (part of_tables earlier) ticket s (part of_tables later)
+table_turnable x from earlier ticket saved later s e at = turnable_part of_tables store_table saved_table tables_agree KeepsStore KeepsBoth x x.tables (λ kept keeps. keeps.0) from earlier ticket saved later s (ap table_way e) at
 
-pub table_goes_back : (x x' : Store) (saved saved' : SavedChange) (s s' : SavedTable) → saved.way ≡ way.Table s → saved'.way ≡ way.Table s' → x'.cells ≡ x.cells →
-    GoesBack saved_table KeepsBoth tables.face_by x.tables s x'.tables s' → GoesBack store_table KeepsStore store_face x saved x' saved'
-table_goes_back x x' saved saved' s s' e e' stays goes = λ earlier ticket later at.
-    first_moved tables_in cells_in of_tables of_cells store_table saved_table no_table tables_agree cells_agree KeepsBoth KeepsFlushes tables.face_by cells.face_by x x' earlier Done Undone ticket saved saved' later s s' (ap table_way e) (ap table_way e') (ap flush_way e) (ap flush_way e') stays at.kept
-    (goes (part of_tables earlier) ticket (part of_tables later) (last_part of_tables store_table saved_table tables_agree KeepsBoth x.tables earlier ticket saved later s (ap table_way e) at.kept.0 at.uncovered))
+pub table_can_turn : (x : Store) (from : Standing) (saved : SavedChange) (s : SavedTable) → saved.way ≡ way.Table s → CanTurn store_table KeepsStore from x saved → CanTurn saved_table KeepsBoth from x.tables s
+table_can_turn x from saved s e r = part_can_turn of_tables store_table saved_table tables_agree KeepsStore KeepsBoth x x.tables (λ kept keeps. keeps.0) from saved s (ap table_way e) r
 
-pub table_can_go_again : (x : Store) (saved : SavedChange) (s : SavedTable) → saved.way ≡ way.Table s → CanGoAgain store_table KeepsStore x saved → CanGoAgain saved_table KeepsBoth x.tables s
-table_can_go_again x saved s e r = part_can_go_again of_tables store_table saved_table tables_agree KeepsStore KeepsBoth x x.tables (λ kept keeps. keeps.0) saved s (ap table_way e) r
+pub table_turns : (x x' : Store) (from : Standing) (saved saved' : SavedChange) (s s' : SavedTable) → saved.way ≡ way.Table s → saved'.way ≡ way.Table s' → x'.cells ≡ x.cells →
+    Turns saved_table KeepsBoth tables.face_by from x.tables s x'.tables s' → Turns store_table KeepsStore store_face from x saved x' saved'
+table_turns x x' from saved saved' s s' e e' stays turns = λ earlier ticket later at.
+    first_moved tables_in cells_in of_tables of_cells store_table saved_table no_table tables_agree cells_agree KeepsBoth KeepsFlushes tables.face_by cells.face_by x x' earlier from (turned from) ticket saved saved' later s s' (ap table_way e) (ap table_way e') (ap flush_way e) (ap flush_way e') stays at.kept
+    (turns (part of_tables earlier) ticket (part of_tables later) (table_turnable x from earlier ticket saved later s e at))
 
-pub table_goes_again : (x x' : Store) (saved saved' : SavedChange) (s s' : SavedTable) → saved.way ≡ way.Table s → saved'.way ≡ way.Table s' → x'.cells ≡ x.cells →
-    GoesAgain saved_table KeepsBoth tables.face_by x.tables s x'.tables s' → GoesAgain store_table KeepsStore store_face x saved x' saved'
-table_goes_again x x' saved saved' s s' e e' stays goes = λ earlier ticket later at.
-    first_moved tables_in cells_in of_tables of_cells store_table saved_table no_table tables_agree cells_agree KeepsBoth KeepsFlushes tables.face_by cells.face_by x x' earlier Undone Done ticket saved saved' later s s' (ap table_way e) (ap table_way e') (ap flush_way e) (ap flush_way e') stays at.kept
-    (goes (part of_tables earlier) ticket (part of_tables later) (first_part of_tables store_table saved_table tables_agree KeepsBoth x.tables earlier ticket saved later s (ap table_way e) at.kept.0 at.founded))
+pub flush_turnable : (x : Store) (from : Standing) (earlier : List (KeptChange SavedChange)) (ticket : ℕ) (saved : SavedChange) (later : List (KeptChange SavedChange)) (s : SavedFlush) → saved.way ≡ way.Flush s →
+    IsTurnable store_table KeepsStore from x earlier ticket saved later → IsTurnable no_table KeepsFlushes from x.cells (part of_cells earlier) ticket s (part of_cells later)
+flush_turnable x from earlier ticket saved later s e at = turnable_part of_cells store_table no_table cells_agree KeepsStore KeepsFlushes x x.cells (λ kept keeps. keeps.1) from earlier ticket saved later s (ap flush_way e) at
 
-pub flush_can_go_back : (x : Store) (saved : SavedChange) (s : SavedFlush) → saved.way ≡ way.Flush s → CanGoBack store_table KeepsStore x saved → CanGoBack no_table KeepsFlushes x.cells s
-flush_can_go_back x saved s e r = part_can_go_back of_cells store_table no_table cells_agree KeepsStore KeepsFlushes x x.cells (λ kept keeps. keeps.1) saved s (ap flush_way e) r
+pub flush_can_turn : (x : Store) (from : Standing) (saved : SavedChange) (s : SavedFlush) → saved.way ≡ way.Flush s → CanTurn store_table KeepsStore from x saved → CanTurn no_table KeepsFlushes from x.cells s
+flush_can_turn x from saved s e r = part_can_turn of_cells store_table no_table cells_agree KeepsStore KeepsFlushes x x.cells (λ kept keeps. keeps.1) from saved s (ap flush_way e) r
 
-pub flush_goes_back : (x x' : Store) (saved saved' : SavedChange) (s s' : SavedFlush) → saved.way ≡ way.Flush s → saved'.way ≡ way.Flush s' → x'.tables ≡ x.tables →
-    GoesBack no_table KeepsFlushes cells.face_by x.cells s x'.cells s' → GoesBack store_table KeepsStore store_face x saved x' saved'
-flush_goes_back x x' saved saved' s s' e e' stays goes = λ earlier ticket later at.
-    second_moved tables_in cells_in of_tables of_cells store_table saved_table no_table tables_agree cells_agree KeepsBoth KeepsFlushes tables.face_by cells.face_by x x' earlier Done Undone ticket saved saved' later s s' (ap flush_way e) (ap flush_way e') (ap table_way e) (ap table_way e') stays at.kept
-    (goes (part of_cells earlier) ticket (part of_cells later) (last_part of_cells store_table no_table cells_agree KeepsFlushes x.cells earlier ticket saved later s (ap flush_way e) at.kept.1 at.uncovered))
-
-pub flush_can_go_again : (x : Store) (saved : SavedChange) (s : SavedFlush) → saved.way ≡ way.Flush s → CanGoAgain store_table KeepsStore x saved → CanGoAgain no_table KeepsFlushes x.cells s
-flush_can_go_again x saved s e r = part_can_go_again of_cells store_table no_table cells_agree KeepsStore KeepsFlushes x x.cells (λ kept keeps. keeps.1) saved s (ap flush_way e) r
-
-pub flush_goes_again : (x x' : Store) (saved saved' : SavedChange) (s s' : SavedFlush) → saved.way ≡ way.Flush s → saved'.way ≡ way.Flush s' → x'.tables ≡ x.tables →
-    GoesAgain no_table KeepsFlushes cells.face_by x.cells s x'.cells s' → GoesAgain store_table KeepsStore store_face x saved x' saved'
-flush_goes_again x x' saved saved' s s' e e' stays goes = λ earlier ticket later at.
-    second_moved tables_in cells_in of_tables of_cells store_table saved_table no_table tables_agree cells_agree KeepsBoth KeepsFlushes tables.face_by cells.face_by x x' earlier Undone Done ticket saved saved' later s s' (ap flush_way e) (ap flush_way e') (ap table_way e) (ap table_way e') stays at.kept
-    (goes (part of_cells earlier) ticket (part of_cells later) (first_part of_cells store_table no_table cells_agree KeepsFlushes x.cells earlier ticket saved later s (ap flush_way e) at.kept.1 at.founded))
+pub flush_turns : (x x' : Store) (from : Standing) (saved saved' : SavedChange) (s s' : SavedFlush) → saved.way ≡ way.Flush s → saved'.way ≡ way.Flush s' → x'.tables ≡ x.tables →
+    Turns no_table KeepsFlushes cells.face_by from x.cells s x'.cells s' → Turns store_table KeepsStore store_face from x saved x' saved'
+flush_turns x x' from saved saved' s s' e e' stays turns = λ earlier ticket later at.
+    second_moved tables_in cells_in of_tables of_cells store_table saved_table no_table tables_agree cells_agree KeepsBoth KeepsFlushes tables.face_by cells.face_by x x' earlier from (turned from) ticket saved saved' later s s' (ap flush_way e) (ap flush_way e') (ap table_way e) (ap table_way e') stays at.kept
+    (turns (part of_cells earlier) ticket (part of_cells later) (flush_turnable x from earlier ticket saved later s e at))
 
 -- ---- a change that is no longer kept
 

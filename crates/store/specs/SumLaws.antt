@@ -9,10 +9,10 @@ use Rattle.ranked.specs.declared.find.Find.{Find}
 use Rattle.change_law.specs.declared.kept.KeptChange.{KeptChange}
 use Rattle.change_law.specs.declared.kept.Standing.{Standing}
 use Rattle.change_law.specs.declared.kept.Standing.TheVariants.{Done, Undone, Cleared}
-use Rattle.change_law.specs.Choice.{IsOneTable, AllowsAt, IsChoice, IsPresent, IsUncovered, IsFounded, cleared}
+use Rattle.change_law.specs.Choice.{IsOneTable, AllowsAt, IsChoice, IsClear, IsPresent, cleared, passed}
 use Rattle.change_law.specs.Effect.{effect}
 use Rattle.change_law.specs.Face.{Face, IsSame, IsSameAt, face_with, face_without}
-use Rattle.change_law.specs.Row.{IsRowAfter, IsRowFrom, IsNext, IsLast, IsFirst, CanGoBack, CanGoAgain, any, same_face, where_chosen, kept_as, with_change}
+use Rattle.change_law.specs.Row.{IsRowAfter, IsRowFrom, IsNext, IsTurnable, CanTurn, any, same_face, where_chosen, kept_as, with_change}
 use Rattle.table_changes.specs.Part.{with_part, part}
 use Rattle.table_changes.specs.PartLaws.{part_append, part_cleared, part_at, part_past, part_all, part_present}
 use Rattle.store.specs.Sum.{joined, KeepsParts, face_of_parts}
@@ -25,15 +25,19 @@ module _ {S P : Type 0} (mine : S → Option P) (table : S → Option ℕ) (own 
   one_table a b p q e f one =
       subst (λ (x : Option ℕ). IsOneTable x (table b)) (sym (agrees a p e)) (subst (λ (y : Option ℕ). IsOneTable (own p) y) (sym (agrees b q f)) one)
 
-  pub uncovered_part : (saved : S) (p : P) (later : List (KeptChange S)) → mine saved ≡ Some p → IsUncovered table saved later → IsUncovered own p (part mine later)
-  uncovered_part saved p later e h =
-      part_all mine (λ k. IsOneTable (table saved) (table k.saved) → k.standing ≢ Done) (λ k. IsOneTable (own p) (own k.saved) → k.standing ≢ Done)
-      (λ k q f g one. g (one_table saved k.saved p q e f one)) later h
+  pub clear_part : (from : Standing) (saved : S) (p : P) (earlier later : List (KeptChange S)) → mine saved ≡ Some p → IsClear table from saved (passed from earlier later) →
+      IsClear own from p (passed from (part mine earlier) (part mine later))
+  clear_part from saved p earlier later e h = by from h
+    where
+      aside : (s : Standing) (others : List (KeptChange S)) → IsClear table s saved others → IsClear own s p (part mine others)
+      aside s others c =
+          part_all mine (λ k. IsOneTable (table saved) (table k.saved) → k.standing ≢ s) (λ k. IsOneTable (own p) (own k.saved) → k.standing ≢ s)
+          (λ k q f g one. g (one_table saved k.saved p q e f one)) others c
 
-  pub founded_part : (saved : S) (p : P) (earlier : List (KeptChange S)) → mine saved ≡ Some p → IsFounded table saved earlier → IsFounded own p (part mine earlier)
-  founded_part saved p earlier e h =
-      part_all mine (λ k. IsOneTable (table saved) (table k.saved) → k.standing ≢ Undone) (λ k. IsOneTable (own p) (own k.saved) → k.standing ≢ Undone)
-      (λ k q f g one. g (one_table saved k.saved p q e f one)) earlier h
+      by : (s : Standing) → IsClear table s saved (passed s earlier later) → IsClear own s p (passed s (part mine earlier) (part mine later))
+      by Done c = aside Done later c
+      by Undone c = aside Undone earlier c
+      by Cleared c = aside Cleared earlier c
 
   pub choice_part : (kept : List (KeptChange S)) (chosen : ℕ → Bool) → IsChoice table kept chosen → IsChoice own (part mine kept) chosen
   choice_part [] chosen h = tt
@@ -57,33 +61,20 @@ module _ {S P : Type 0} (mine : S → Option P) (table : S → Option ℕ) (own 
   pub next_part : (ticket : ℕ) (kept : List (KeptChange S)) → IsNext ticket kept → IsNext ticket (part mine kept)
   next_part ticket kept h = part_all mine (λ k. k.ticket < ticket) (λ k. k.ticket < ticket) (λ k p e less. less) kept h
 
-  pub last_part : {W : Type 0} (keeps : W → List (KeptChange P) → Type 0) (world : W) (earlier : List (KeptChange S)) (ticket : ℕ) (saved : S) (later : List (KeptChange S)) (p : P) → mine saved ≡ Some p →
-      keeps world (part mine (earlier ++ kept_as Done ticket saved ∷ later)) → IsUncovered table saved later →
-      IsLast own keeps world (part mine earlier) ticket p (part mine later)
-  last_part keeps world earlier ticket saved later p e kept uncovered = record {
-    kept = subst (λ (l : List (KeptChange P)). keeps world l) (part_at mine earlier Done ticket saved later p e) kept;
-    uncovered = uncovered_part saved p later e uncovered;
+  pub turnable_part : {X W : Type 0} (all : X → List (KeptChange S) → Type 0) (keeps : W → List (KeptChange P) → Type 0) (whole : X) (world : W)
+      → ((kept : List (KeptChange S)) → all whole kept → keeps world (part mine kept)) → (from : Standing) (earlier : List (KeptChange S)) (ticket : ℕ) (saved : S) (later : List (KeptChange S)) (p : P) → mine saved ≡ Some p
+      → IsTurnable table all from whole earlier ticket saved later → IsTurnable own keeps from world (part mine earlier) ticket p (part mine later)
+  turnable_part all keeps whole world keeps_part from earlier ticket saved later p e at = record {
+    live = at.live;
+    kept = subst (λ (l : List (KeptChange P)). keeps world l) (part_at mine earlier from ticket saved later p e) (keeps_part _ at.kept);
+    clear = clear_part from saved p earlier later e at.clear;
   }
 
-  pub first_part : {W : Type 0} (keeps : W → List (KeptChange P) → Type 0) (world : W) (earlier : List (KeptChange S)) (ticket : ℕ) (saved : S) (later : List (KeptChange S)) (p : P) → mine saved ≡ Some p →
-      keeps world (part mine (earlier ++ kept_as Undone ticket saved ∷ later)) → IsFounded table saved earlier →
-      IsFirst own keeps world (part mine earlier) ticket p (part mine later)
-  first_part keeps world earlier ticket saved later p e kept founded = record {
-    kept = subst (λ (l : List (KeptChange P)). keeps world l) (part_at mine earlier Undone ticket saved later p e) kept;
-    founded = founded_part saved p earlier e founded;
-  }
-
-  -- what can be undone in the whole can be undone in its part
-  pub part_can_go_back : {X W : Type 0} (all : X → List (KeptChange S) → Type 0) (keeps : W → List (KeptChange P) → Type 0) (whole : X) (world : W)
-      → ((kept : List (KeptChange S)) → all whole kept → keeps world (part mine kept)) → (saved : S) (p : P) → mine saved ≡ Some p → CanGoBack table all whole saved → CanGoBack own keeps world p
-  part_can_go_back all keeps whole world keeps_part saved p e r =
-      (part mine r.0, (r.1.0, (part mine r.1.1.0, last_part keeps world r.0 r.1.0 saved r.1.1.0 p e (keeps_part _ r.1.1.1.kept) r.1.1.1.uncovered)))
-
-  -- and what can be redone, redone
-  pub part_can_go_again : {X W : Type 0} (all : X → List (KeptChange S) → Type 0) (keeps : W → List (KeptChange P) → Type 0) (whole : X) (world : W)
-      → ((kept : List (KeptChange S)) → all whole kept → keeps world (part mine kept)) → (saved : S) (p : P) → mine saved ≡ Some p → CanGoAgain table all whole saved → CanGoAgain own keeps world p
-  part_can_go_again all keeps whole world keeps_part saved p e r =
-      (part mine r.0, (r.1.0, (part mine r.1.1.0, first_part keeps world r.0 r.1.0 saved r.1.1.0 p e (keeps_part _ r.1.1.1.kept) r.1.1.1.founded)))
+  -- what can be turned in the whole can be turned in its part
+  pub part_can_turn : {X W : Type 0} (all : X → List (KeptChange S) → Type 0) (keeps : W → List (KeptChange P) → Type 0) (whole : X) (world : W)
+      → ((kept : List (KeptChange S)) → all whole kept → keeps world (part mine kept)) → (from : Standing) (saved : S) (p : P) → mine saved ≡ Some p → CanTurn table all from whole saved → CanTurn own keeps from world p
+  part_can_turn all keeps whole world keeps_part from saved p e r =
+      (part mine r.0, (r.1.0, (part mine r.1.1.0, turnable_part all keeps whole world keeps_part from r.0 r.1.0 saved r.1.1.0 p e r.1.1.1)))
 
 -- ---- the rows of a part, at other names of its lists
 

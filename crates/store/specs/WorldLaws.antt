@@ -10,7 +10,7 @@ use Rattle.ranked.specs.declared.cell.Admitted.{Admitted}
 use Rattle.change_law.specs.declared.kept.KeptChange.{KeptChange}
 use Rattle.change_law.specs.declared.kept.Standing.{Standing}
 use Rattle.change_law.specs.declared.kept.Standing.TheVariants.{Done, Undone, Cleared}
-use Rattle.change_law.specs.Choice.{is_done, clear, cleared, IsPresent}
+use Rattle.change_law.specs.Choice.{is_done, clear, cleared, turned as after_turn, IsPresent}
 use Rattle.change_law.specs.Effect.{effect}
 use Rattle.change_law.specs.declared.fault.WorldFault.TheVariants as world
 use Rattle.change_law.specs.Face.{Face, IsSame, alive_at, face_with, face_without, fate_in}
@@ -219,6 +219,11 @@ flipped from to number saved (e ∷ earlier) later other up =
 chosen_flipped : (q : Question) (chosen : ℕ → Bool) (number v : ℕ) (items : List KeptFlush) → fold (later_chosen q chosen) v items ≡ fold (later_chosen q chosen) v (map (turned_over number) items)
 chosen_flipped q chosen number v [] = refl
 chosen_flipped q chosen number v (own ∷ items) = chosen_flipped q chosen number (later_chosen q chosen v own) items
+
+pub other_done : (from : Standing) → from ≢ Cleared → not (is_done from) ≡ is_done (after_turn from)
+other_done Done live = refl
+other_done Undone live = refl
+other_done Cleared live = absurd (live refl)
 
 -- The choice in which one flush alone stands the other way gives the version that is in force if its flag is turned over.
 pub version_over : (from to : Standing) (shelf : Shelved) (earlier : List (KeptChange SavedFlush)) (ticket : ℕ) (saved : SavedFlush) (later : List (KeptChange SavedFlush)) (chosen : ℕ → Bool) (q : Question) →

@@ -2,7 +2,7 @@
 
 use crate::world::{FlushChange, SavedFlush, ShelfWorld};
 use cell_store::NameSeed;
-use change_law::{Change, ChangeFault, World, WorldFault};
+use change_law::{Change, ChangeFault, Standing, World, WorldFault};
 use dns_name::{Name, NoMemory};
 use history::{Command, Tables};
 use ranked::{Fate, SharedFind};
@@ -201,27 +201,14 @@ impl Change for StoreChange {
         }
     }
 
-    fn back(world: &mut Store, saved: &mut SavedChange) -> Result<(), NoMemory> {
+    fn turn(world: &mut Store, from: Standing, saved: &mut SavedChange) -> Result<(), NoMemory> {
         match &mut saved.way {
             WayBack::Table(saved) => {
-                TableChange::back(&mut world.tables, saved)?;
+                TableChange::turn(&mut world.tables, from, saved)?;
                 Ok(())
             }
             WayBack::Flush(saved) => {
-                FlushChange::back(&mut world.cells, saved)?;
-                Ok(())
-            }
-        }
-    }
-
-    fn again(world: &mut Store, saved: &mut SavedChange) -> Result<(), NoMemory> {
-        match &mut saved.way {
-            WayBack::Table(saved) => {
-                TableChange::again(&mut world.tables, saved)?;
-                Ok(())
-            }
-            WayBack::Flush(saved) => {
-                FlushChange::again(&mut world.cells, saved)?;
+                FlushChange::turn(&mut world.cells, from, saved)?;
                 Ok(())
             }
         }

@@ -2,10 +2,12 @@
 
 ghost use Rattle.std.specs.Prelude.{◌≡◌, None, Some, IfOk};
 ghost use Rattle.shelf.specs.declared.fault.StoreFault.{StoreFault};
+ghost use Rattle.change_law.specs.Choice.{is_done, turned};
+ghost use Rattle.shelf.specs.Told.{IsShelf, TurnsFlush};
 ghost use Rattle.store.specs.World.{fault_told};
 
 use cell_store::NameSeed;
-use change_law::{Change, ChangeFault, World, WorldFault};
+use change_law::{Change, ChangeFault, Standing, World, WorldFault};
 use dns_name::{Name, NoMemory};
 use dns_text::Question;
 use history::Hidden;
@@ -298,17 +300,33 @@ impl Change for FlushChange {
         Ok(SavedFlush { number: ticket })
     }
 
-    fn back(world: &mut ShelfWorld, saved: &mut SavedFlush) -> Result<(), NoMemory> {
-        world.shelf.hide(saved.number);
-        Ok(())
-    }
-
-    fn again(world: &mut ShelfWorld, saved: &mut SavedFlush) -> Result<(), NoMemory> {
-        world.shelf.unhide(saved.number);
+    fn turn(
+        world: &mut ShelfWorld,
+        from: Standing,
+        saved: &mut SavedFlush,
+    ) -> Result<(), NoMemory> {
+        turn_flush(&mut world.shelf, from, saved.number);
         Ok(())
     }
 
     fn settle(world: &mut ShelfWorld, saved: SavedFlush) {
         world.shelf.settle(saved.number);
+    }
+}
+
+// Undoes a flush that is in effect, or redoes one that is undone.
+fn turn_flush(shelf: &mut Shelf, from: Standing, number: u64)
+    ensures turns { TurnsFlush number (is_done (turned from)) shelf.old shelf.new }
+    ensures whole { IsShelf shelf.old → IsShelf shelf.new }
+{
+    match from {
+        Standing::Done => {
+            shelf.hide(number);
+            return;
+        }
+        _ => {
+            shelf.unhide(number);
+            return;
+        }
     }
 }

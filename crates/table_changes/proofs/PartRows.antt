@@ -6,15 +6,16 @@ use Rattle.dns_text.specs.declared.record.Question.{Question}
 use Rattle.ranked.specs.declared.cell.Admitted.{Admitted}
 use Rattle.ranked.specs.declared.find.Find.{Find}
 use Rattle.change_law.specs.declared.kept.KeptChange.{KeptChange}
-use Rattle.change_law.specs.declared.kept.Standing.TheVariants.{Done, Undone, Cleared}
-use Rattle.change_law.specs.Choice.{IsOneTable, IsChoice, cleared}
+use Rattle.change_law.specs.declared.kept.Standing.{Standing}
+use Rattle.change_law.specs.declared.kept.Standing.TheVariants.{Done, Cleared}
+use Rattle.change_law.specs.Choice.{IsOneTable, IsChoice, cleared, turned}
 use Rattle.change_law.specs.Effect.{effect}
 use Rattle.change_law.specs.Face.{Face, IsSame}
-use Rattle.change_law.specs.Row.{kept_as, with_change, IsLast, IsFirst, IsRowAfter, any, same_face, where_chosen}
+use Rattle.change_law.specs.Row.{kept_as, with_change, IsTurnable, IsRowAfter, any, same_face, where_chosen}
 use Rattle.table_changes.specs.Part.{with_part, part}
-use Rattle.table_changes.specs.PartLaws.{part_append, part_cleared, part_at, part_past, of_part, of_one, part_choice, part_uncovered, part_founded}
+use Rattle.table_changes.specs.PartLaws.{part_append, part_cleared, part_at, part_past, of_part, of_one, part_choice, part_clear}
 use Rattle.table_changes.specs.TableRow.{table_by, KeepsRow, face_of}
-use Rattle.table_changes.specs.TableRowLaws.{table_with, keeps_with, keeps_stale, table_stale, keeps_oldest, table_oldest, keeps_cleared, table_cleared, keeps_back, table_back, keeps_again, table_again, leads_last, leads_first}
+use Rattle.table_changes.specs.TableRowLaws.{table_with, keeps_with, keeps_stale, table_stale, keeps_oldest, table_oldest, keeps_cleared, table_cleared, keeps_turned, table_turned, leads_over}
 
 made_where : {T : Type 0} (b : Bool) (made : T → T) (empties : Question → Bool) (t x : T) → (b ≡ false → t ≡ x) → (b ≡ true → t ≡ made x) → IsSame (face_of t) (if b then effect made empties (face_of x) else face_of x)
 made_where true made empties t x out it = record { tables = it refl; cell = λ q. none_either (empties q) }
@@ -85,54 +86,27 @@ module _ {W S T V U P Q : Type 0} (tab : W → V) (far : W → U) (both : V → 
             (λ it. (λ i. both ((mine_same ∙ (laws.1 it).0 ∙ is ∙ ap after (sym (laws.1 it).1)) i) (theirs_same i)) ∙ sym (makes a b));
       }
 
-  pub both_back : (w w' : W) (earlier : List (KeptChange S)) (ticket : ℕ) (saved saved' : S) (later : List (KeptChange S)) (p p' : P) → mine saved ≡ Some p → mine saved' ≡ Some p' →
-      other p (tab w) ≡ tab w' → other p' (tab w') ≡ tab w → Leads p' (tab w') (tab w) → far w' ≡ far w → IsLast table keeps w earlier ticket saved later →
-      IsRowAfter table keeps face_both same_face any w (earlier ++ kept_as Done ticket saved ∷ later) w' (earlier ++ kept_as Undone ticket saved' ∷ later)
-  both_back w w' earlier ticket saved saved' later p p' e e' way again leads stays last =
-      let before = earlier ++ kept_as Done ticket saved ∷ later in
-      let after = earlier ++ kept_as Undone ticket saved' ∷ later in
-      let rows = split w before last.kept in
-      let mine_before = part_at mine earlier Done ticket saved later p e in
-      let mine_after = part_at mine earlier Undone ticket saved' later p' e' in
-      let theirs_same = part_past theirs earlier Undone ticket saved' later (apart saved' p' e') ∙ sym (part_past theirs earlier Done ticket saved later (apart saved p e)) in
-      let uncovered = part_uncovered mine table number numbered saved p later e last.uncovered in
+  pub both_turned : (w w' : W) (from : Standing) (earlier : List (KeptChange S)) (ticket : ℕ) (saved saved' : S) (later : List (KeptChange S)) (p p' : P) → mine saved ≡ Some p → mine saved' ≡ Some p' →
+      other p (tab w) ≡ tab w' → other p' (tab w') ≡ tab w → Leads p' (tab w') (tab w) → far w' ≡ far w → IsTurnable table keeps from w earlier ticket saved later →
+      IsRowAfter table keeps face_both same_face any w (earlier ++ kept_as from ticket saved ∷ later) w' (earlier ++ kept_as (turned from) ticket saved' ∷ later)
+  both_turned w w' from earlier ticket saved saved' later p p' e e' way again leads stays at =
+      let before = earlier ++ kept_as from ticket saved ∷ later in
+      let after = earlier ++ kept_as (turned from) ticket saved' ∷ later in
+      let rows = split w before at.kept in
+      let mine_before = part_at mine earlier from ticket saved later p e in
+      let mine_after = part_at mine earlier (turned from) ticket saved' later p' e' in
+      let theirs_same = part_past theirs earlier (turned from) ticket saved' later (apart saved' p' e') ∙ sym (part_past theirs earlier from ticket saved later (apart saved p e)) in
+      let clear = part_clear mine table number numbered from saved p earlier later e at.clear in
       let kept = subst (λ (x : List (KeptChange P)). KeepsRow other Leads (tab w) x) mine_before rows.0 in
       record {
         keeps_left = join w' after
             (subst (λ (x : List (KeptChange P)). KeepsRow other Leads (tab w') x) (sym mine_after)
-            (keeps_back other Leads mine_of mine_one (tab w) (tab w') (part mine earlier) ticket p p' (part mine later) way again leads uncovered kept))
+            (keeps_turned other Leads mine_of mine_one (tab w) (tab w') (part mine earlier) ticket p p' (part mine later) way again leads from at.live clear kept))
             (subst (λ (x : List (KeptChange Q)). KeepsRow other' Leads' (far w') x) (sym theirs_same) (subst (λ (u : U). KeepsRow other' Leads' u (part theirs before)) (sym stays) rows.1));
         faces = λ chosen any_of choice.
             let choice_mine = subst (λ (x : List (KeptChange P)). IsChoice mine_of x chosen) mine_after (part_choice mine table number numbered after chosen choice) in
             let one = ap (λ (x : List (KeptChange P)). table_by other (tab w') x chosen) mine_after
-            ∙ table_back other Leads mine_of mine_one (tab w) (tab w') (part mine earlier) ticket p p' (part mine later) way again leads uncovered kept chosen choice_mine
-            ∙ ap (λ (x : List (KeptChange P)). table_by other (tab w) x chosen) (sym mine_before) in
-            same_faces (both (table_by other (tab w') (part mine after) chosen) (table_by other' (far w') (part theirs after) chosen))
-            (both (table_by other (tab w) (part mine before) chosen) (table_by other' (far w) (part theirs before) chosen))
-            (λ i. both (one i) (table_by other' (stays i) (theirs_same i) chosen));
-      }
-
-  pub both_again : (w w' : W) (earlier : List (KeptChange S)) (ticket : ℕ) (saved saved' : S) (later : List (KeptChange S)) (p p' : P) → mine saved ≡ Some p → mine saved' ≡ Some p' →
-      other p (tab w) ≡ tab w' → other p' (tab w') ≡ tab w → Leads p' (tab w') (tab w) → far w' ≡ far w → IsFirst table keeps w earlier ticket saved later →
-      IsRowAfter table keeps face_both same_face any w (earlier ++ kept_as Undone ticket saved ∷ later) w' (earlier ++ kept_as Done ticket saved' ∷ later)
-  both_again w w' earlier ticket saved saved' later p p' e e' way again leads stays first =
-      let before = earlier ++ kept_as Undone ticket saved ∷ later in
-      let after = earlier ++ kept_as Done ticket saved' ∷ later in
-      let rows = split w before first.kept in
-      let mine_before = part_at mine earlier Undone ticket saved later p e in
-      let mine_after = part_at mine earlier Done ticket saved' later p' e' in
-      let theirs_same = part_past theirs earlier Done ticket saved' later (apart saved' p' e') ∙ sym (part_past theirs earlier Undone ticket saved later (apart saved p e)) in
-      let founded = part_founded mine table number numbered saved p earlier e first.founded in
-      let kept = subst (λ (x : List (KeptChange P)). KeepsRow other Leads (tab w) x) mine_before rows.0 in
-      record {
-        keeps_left = join w' after
-            (subst (λ (x : List (KeptChange P)). KeepsRow other Leads (tab w') x) (sym mine_after)
-            (keeps_again other Leads mine_of mine_one (tab w) (tab w') (part mine earlier) ticket p p' (part mine later) way again leads founded kept))
-            (subst (λ (x : List (KeptChange Q)). KeepsRow other' Leads' (far w') x) (sym theirs_same) (subst (λ (u : U). KeepsRow other' Leads' u (part theirs before)) (sym stays) rows.1));
-        faces = λ chosen any_of choice.
-            let choice_mine = subst (λ (x : List (KeptChange P)). IsChoice mine_of x chosen) mine_after (part_choice mine table number numbered after chosen choice) in
-            let one = ap (λ (x : List (KeptChange P)). table_by other (tab w') x chosen) mine_after
-            ∙ table_again other Leads mine_of mine_one (tab w) (tab w') (part mine earlier) ticket p p' (part mine later) way again leads founded kept chosen choice_mine
+            ∙ table_turned other Leads mine_of mine_one (tab w) (tab w') (part mine earlier) ticket p p' (part mine later) way again leads from at.live clear kept chosen choice_mine
             ∙ ap (λ (x : List (KeptChange P)). table_by other (tab w) x chosen) (sym mine_before) in
             same_faces (both (table_by other (tab w') (part mine after) chosen) (table_by other' (far w') (part theirs after) chosen))
             (both (table_by other (tab w) (part mine before) chosen) (table_by other' (far w) (part theirs before) chosen))
@@ -182,14 +156,8 @@ module _ {W S T V U P Q : Type 0} (tab : W → V) (far : W → U) (both : V → 
             (λ i. both (one i) (table_by other' (stays i) (theirs_same i) chosen));
       }
 
-  pub both_last : (w : W) (earlier : List (KeptChange S)) (ticket : ℕ) (saved : S) (later : List (KeptChange S)) (p : P) → mine saved ≡ Some p → IsLast table keeps w earlier ticket saved later → Leads p (tab w) (other p (tab w))
-  both_last w earlier ticket saved later p e last =
-      leads_last other Leads mine_of mine_one (tab w) (part mine earlier) ticket p (part mine later)
-      (subst (λ (x : List (KeptChange P)). KeepsRow other Leads (tab w) x) (part_at mine earlier Done ticket saved later p e) (split w (earlier ++ kept_as Done ticket saved ∷ later) last.kept).0)
-      (part_uncovered mine table number numbered saved p later e last.uncovered)
-
-  pub both_first : (w : W) (earlier : List (KeptChange S)) (ticket : ℕ) (saved : S) (later : List (KeptChange S)) (p : P) → mine saved ≡ Some p → IsFirst table keeps w earlier ticket saved later → Leads p (tab w) (other p (tab w))
-  both_first w earlier ticket saved later p e first =
-      leads_first other Leads mine_of mine_one (tab w) (part mine earlier) ticket p (part mine later)
-      (subst (λ (x : List (KeptChange P)). KeepsRow other Leads (tab w) x) (part_at mine earlier Undone ticket saved later p e) (split w (earlier ++ kept_as Undone ticket saved ∷ later) first.kept).0)
-      (part_founded mine table number numbered saved p earlier e first.founded)
+  pub both_leads : (w : W) (from : Standing) (earlier : List (KeptChange S)) (ticket : ℕ) (saved : S) (later : List (KeptChange S)) (p : P) → mine saved ≡ Some p → IsTurnable table keeps from w earlier ticket saved later → Leads p (tab w) (other p (tab w))
+  both_leads w from earlier ticket saved later p e at =
+      leads_over other Leads mine_of mine_one (tab w) from at.live (part mine earlier) ticket p (part mine later)
+      (subst (λ (x : List (KeptChange P)). KeepsRow other Leads (tab w) x) (part_at mine earlier from ticket saved later p e) (split w (earlier ++ kept_as from ticket saved ∷ later) at.kept).0)
+      (part_clear mine table number numbered from saved p earlier later e at.clear)

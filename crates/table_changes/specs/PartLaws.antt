@@ -4,7 +4,7 @@ use Rattle.std.specs.List.{AllByRecursion}
 use Rattle.change_law.specs.declared.kept.KeptChange.{KeptChange}
 use Rattle.change_law.specs.declared.kept.Standing.{Standing}
 use Rattle.change_law.specs.declared.kept.Standing.TheVariants.{Done, Undone, Cleared}
-use Rattle.change_law.specs.Choice.{IsOneTable, AllowsAt, IsChoice, IsPresent, IsUncovered, IsFounded, is_done, clear, cleared}
+use Rattle.change_law.specs.Choice.{IsOneTable, AllowsAt, IsChoice, IsClear, IsPresent, is_done, clear, cleared, passed}
 use Rattle.change_law.specs.Row.{kept_as}
 use Rattle.table_changes.specs.Part.{with_part, part}
 
@@ -62,13 +62,18 @@ module _ {S P : Type 0} (mine : S → Option P) where
     same_table a b p q e f =
         subst (λ (x : Option ℕ). IsOneTable x (table b)) (sym (numbered a p e)) (subst (λ (y : Option ℕ). IsOneTable (Some number) y) (sym (numbered b q f)) refl)
 
-    pub part_uncovered : (saved : S) (p : P) (later : List (KeptChange S)) → mine saved ≡ Some p → IsUncovered table saved later → IsUncovered of_part p (part mine later)
-    part_uncovered saved p later e h =
-        part_all (λ k. IsOneTable (table saved) (table k.saved) → k.standing ≢ Done) (λ k. IsOneTable (of_part p) (of_part k.saved) → k.standing ≢ Done) (λ k q f g one. g (same_table saved k.saved p q e f)) later h
+    pub part_clear : (from : Standing) (saved : S) (p : P) (earlier later : List (KeptChange S)) → mine saved ≡ Some p → IsClear table from saved (passed from earlier later) →
+        IsClear of_part from p (passed from (part mine earlier) (part mine later))
+    part_clear from saved p earlier later e h = by from h
+      where
+        aside : (s : Standing) (others : List (KeptChange S)) → IsClear table s saved others → IsClear of_part s p (part mine others)
+        aside s others c =
+            part_all (λ k. IsOneTable (table saved) (table k.saved) → k.standing ≢ s) (λ k. IsOneTable (of_part p) (of_part k.saved) → k.standing ≢ s) (λ k q f g one. g (same_table saved k.saved p q e f)) others c
 
-    pub part_founded : (saved : S) (p : P) (earlier : List (KeptChange S)) → mine saved ≡ Some p → IsFounded table saved earlier → IsFounded of_part p (part mine earlier)
-    part_founded saved p earlier e h =
-        part_all (λ k. IsOneTable (table saved) (table k.saved) → k.standing ≢ Undone) (λ k. IsOneTable (of_part p) (of_part k.saved) → k.standing ≢ Undone) (λ k q f g one. g (same_table saved k.saved p q e f)) earlier h
+        by : (s : Standing) → IsClear table s saved (passed s earlier later) → IsClear of_part s p (passed s (part mine earlier) (part mine later))
+        by Done c = aside Done later c
+        by Undone c = aside Undone earlier c
+        by Cleared c = aside Cleared earlier c
 
     pub part_choice : (kept : List (KeptChange S)) (chosen : ℕ → Bool) → IsChoice table kept chosen → IsChoice of_part (part mine kept) chosen
     part_choice [] chosen h = tt

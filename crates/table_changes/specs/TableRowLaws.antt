@@ -7,7 +7,7 @@ use Rattle.dns_name.specs.ListLaws.{all-append, all_split, all_weaker}
 use Rattle.change_law.specs.declared.kept.KeptChange.{KeptChange}
 use Rattle.change_law.specs.declared.kept.Standing.{Standing}
 use Rattle.change_law.specs.declared.kept.Standing.TheVariants.{Done, Undone, Cleared}
-use Rattle.change_law.specs.Choice.{IsOneTable, AllowsAt, IsChoice, IsPresent, IsUncovered, IsFounded, is_done, clear, cleared, cleared_one}
+use Rattle.change_law.specs.Choice.{IsOneTable, AllowsAt, IsChoice, IsPresent, IsUncovered, IsFounded, is_done, clear, cleared, cleared_one, IsClear, passed, turned}
 use Rattle.change_law.specs.Row.{kept_as, with_change}
 use Rattle.table_changes.specs.TableRow.{back_over, again_over, taken_back, made_again, table_by, IsOrdered, nothing, LeadBack, LeadOn, KeepsRow}
 
@@ -350,7 +350,7 @@ module _ {S V : Type 0} (other : S → V → V) (Leads : S → V → V → Type 
     no_undone : IsFounded table saved earlier → AllByRecursion (λ k. k.standing ≢ Undone) earlier
     no_undone h = all_weaker _ _ (λ k f. f (one saved k.saved)) earlier h
 
-    pub keeps_back : IsUncovered table saved later → KeepsRow other Leads v (earlier ++ kept_as Done ticket saved ∷ later) → KeepsRow other Leads v' (earlier ++ kept_as Undone ticket saved' ∷ later)
+    keeps_back : IsUncovered table saved later → KeepsRow other Leads v (earlier ++ kept_as Done ticket saved ∷ later) → KeepsRow other Leads v' (earlier ++ kept_as Undone ticket saved' ∷ later)
     unfolding leads_there no_done
     keeps_back u h =
         let k = kept_as Done ticket saved in
@@ -366,7 +366,7 @@ module _ {S V : Type 0} (other : S → V → V) (Leads : S → V → V → Type 
           on = on_before v' earlier (k' ∷ later) first (λ e. leads_there, subst (λ (x : V). LeadOn other Leads x later) (sym again) on.1);
         }
 
-    pub table_back : IsUncovered table saved later → KeepsRow other Leads v (earlier ++ kept_as Done ticket saved ∷ later) → (chosen : ℕ → Bool) → IsChoice table (earlier ++ kept_as Undone ticket saved' ∷ later) chosen →
+    table_back : IsUncovered table saved later → KeepsRow other Leads v (earlier ++ kept_as Done ticket saved ∷ later) → (chosen : ℕ → Bool) → IsChoice table (earlier ++ kept_as Undone ticket saved' ∷ later) chosen →
         table_by other v' (earlier ++ kept_as Undone ticket saved' ∷ later) chosen ≡ table_by other v (earlier ++ kept_as Done ticket saved ∷ later) chosen
     unfolding no_done
     table_back u h chosen choice =
@@ -400,7 +400,7 @@ module _ {S V : Type 0} (other : S → V → V) (Leads : S → V → V → Type 
         ap (λ (z : V). made_again other chosen z (earlier ++ k' ∷ later)) taken' ∙ made' ∙ ap (λ (z : V). made_again other chosen z later) same
         ∙ sym (ap (λ (z : V). made_again other chosen z (earlier ++ k ∷ later)) taken ∙ made)
 
-    pub keeps_again : IsFounded table saved earlier → KeepsRow other Leads v (earlier ++ kept_as Undone ticket saved ∷ later) → KeepsRow other Leads v' (earlier ++ kept_as Done ticket saved' ∷ later)
+    keeps_again : IsFounded table saved earlier → KeepsRow other Leads v (earlier ++ kept_as Undone ticket saved ∷ later) → KeepsRow other Leads v' (earlier ++ kept_as Done ticket saved' ∷ later)
     unfolding leads_there no_undone
     keeps_again u h =
         let k = kept_as Undone ticket saved in
@@ -419,7 +419,7 @@ module _ {S V : Type 0} (other : S → V → V) (Leads : S → V → V → Type 
           on = on_before v' earlier (k' ∷ later) first (λ e. absurd (Done≢Undone e), subst (λ (x : V). LeadOn other Leads x later) way on.1);
         }
 
-    pub table_again : IsFounded table saved earlier → KeepsRow other Leads v (earlier ++ kept_as Undone ticket saved ∷ later) → (chosen : ℕ → Bool) → IsChoice table (earlier ++ kept_as Done ticket saved' ∷ later) chosen →
+    table_again : IsFounded table saved earlier → KeepsRow other Leads v (earlier ++ kept_as Undone ticket saved ∷ later) → (chosen : ℕ → Bool) → IsChoice table (earlier ++ kept_as Done ticket saved' ∷ later) chosen →
         table_by other v' (earlier ++ kept_as Done ticket saved' ∷ later) chosen ≡ table_by other v (earlier ++ kept_as Undone ticket saved ∷ later) chosen
     unfolding no_undone
     table_again u h chosen choice =
@@ -452,18 +452,39 @@ module _ {S V : Type 0} (other : S → V → V) (Leads : S → V → V → Type 
         ap (λ (z : V). made_again other chosen z (earlier ++ k' ∷ later)) taken' ∙ made' ∙ ap (λ (z : V). made_again other chosen z later) same
         ∙ sym (ap (λ (z : V). made_again other chosen z (earlier ++ k ∷ later)) taken ∙ made)
 
-  -- what back and again ask of the saved value
-  pub leads_last : (table : S → Option ℕ) (one : (a b : S) → IsOneTable (table a) (table b)) (v : V) (earlier : List (KeptChange S)) (ticket : ℕ) (saved : S) (later : List (KeptChange S)) →
+    -- ---- either way
+
+    pub keeps_turned : (from : Standing) → from ≢ Cleared → IsClear table from saved (passed from earlier later) → KeepsRow other Leads v (earlier ++ kept_as from ticket saved ∷ later) →
+        KeepsRow other Leads v' (earlier ++ kept_as (turned from) ticket saved' ∷ later)
+    keeps_turned Done live clear h = keeps_back clear h
+    keeps_turned Undone live clear h = keeps_again clear h
+    keeps_turned Cleared live clear h = absurd (live refl)
+
+    pub table_turned : (from : Standing) → from ≢ Cleared → IsClear table from saved (passed from earlier later) → KeepsRow other Leads v (earlier ++ kept_as from ticket saved ∷ later) →
+        (chosen : ℕ → Bool) → IsChoice table (earlier ++ kept_as (turned from) ticket saved' ∷ later) chosen →
+        table_by other v' (earlier ++ kept_as (turned from) ticket saved' ∷ later) chosen ≡ table_by other v (earlier ++ kept_as from ticket saved ∷ later) chosen
+    table_turned Done live clear h chosen choice = table_back clear h chosen choice
+    table_turned Undone live clear h chosen choice = table_again clear h chosen choice
+    table_turned Cleared live clear h chosen choice = absurd (live refl)
+
+  -- what a turn asks of the saved value
+  leads_last : (table : S → Option ℕ) (one : (a b : S) → IsOneTable (table a) (table b)) (v : V) (earlier : List (KeptChange S)) (ticket : ℕ) (saved : S) (later : List (KeptChange S)) →
       KeepsRow other Leads v (earlier ++ kept_as Done ticket saved ∷ later) → IsUncovered table saved later → Leads saved v (other saved v)
   leads_last table one v earlier ticket saved later h u =
       let none = all_weaker (λ k. IsOneTable (table saved) (table k.saved) → k.standing ≢ Done) (λ k. k.standing ≢ Done) (λ k f. f (one saved k.saved)) later u in
       subst (λ (x : V). Leads saved x (other saved x)) (taken_no_done other nothing v later none) ((lead_at v earlier (kept_as Done ticket saved) later h.back).0 refl)
 
-  pub leads_first : (table : S → Option ℕ) (one : (a b : S) → IsOneTable (table a) (table b)) (v : V) (earlier : List (KeptChange S)) (ticket : ℕ) (saved : S) (later : List (KeptChange S)) →
+  leads_first : (table : S → Option ℕ) (one : (a b : S) → IsOneTable (table a) (table b)) (v : V) (earlier : List (KeptChange S)) (ticket : ℕ) (saved : S) (later : List (KeptChange S)) →
       KeepsRow other Leads v (earlier ++ kept_as Undone ticket saved ∷ later) → IsFounded table saved earlier → Leads saved v (other saved v)
   leads_first table one v earlier ticket saved later h u =
       let first = all_weaker (λ k. IsOneTable (table saved) (table k.saved) → k.standing ≢ Undone) (λ k. k.standing ≢ Undone) (λ k f. f (one saved k.saved)) earlier u in
       (on_past v earlier (kept_as Undone ticket saved ∷ later) first h.on).0 refl
+
+  pub leads_over : (table : S → Option ℕ) (one : (a b : S) → IsOneTable (table a) (table b)) (v : V) (from : Standing) → from ≢ Cleared → (earlier : List (KeptChange S)) (ticket : ℕ) (saved : S) (later : List (KeptChange S)) →
+      KeepsRow other Leads v (earlier ++ kept_as from ticket saved ∷ later) → IsClear table from saved (passed from earlier later) → Leads saved v (other saved v)
+  leads_over table one v Done live earlier ticket saved later h clear = leads_last table one v earlier ticket saved later h clear
+  leads_over table one v Undone live earlier ticket saved later h clear = leads_first table one v earlier ticket saved later h clear
+  leads_over table one v Cleared live earlier ticket saved later h clear = absurd (live refl)
 
 -- ---- what is in effect
 
@@ -491,7 +512,7 @@ table_present {S} {V} other v kept chosen h =
 
 module _ {S V : Type 0} (other : S → V → V) (v : V) (earlier : List (KeptChange S)) (ticket : ℕ) (saved : S) (later : List (KeptChange S)) (chosen : ℕ → Bool) where
   -- a choice of what is in effect but this change gives the other side of it
-  pub table_without : IsPresent (earlier ++ kept_as Undone ticket saved ∷ later) chosen → table_by other v (earlier ++ kept_as Done ticket saved ∷ later) chosen ≡ other saved v
+  table_without : IsPresent (earlier ++ kept_as Undone ticket saved ∷ later) chosen → table_by other v (earlier ++ kept_as Done ticket saved ∷ later) chosen ≡ other saved v
   table_without present =
       let k = kept_as Done ticket saved in
       let parts = all_split (λ e. chosen e.ticket ≡ is_done e.standing) earlier (kept_as Undone ticket saved ∷ later) present in
@@ -506,7 +527,7 @@ module _ {S V : Type 0} (other : S → V → V) (v : V) (earlier : List (KeptCha
       ((λ x. again_not_undone other (chosen ticket) Done saved x Done≢Undone), none_again other chosen later parts.1.1))
 
   -- the same with it, if it is undone
-  pub table_added : IsPresent (earlier ++ kept_as Done ticket saved ∷ later) chosen → table_by other v (earlier ++ kept_as Undone ticket saved ∷ later) chosen ≡ other saved v
+  table_added : IsPresent (earlier ++ kept_as Done ticket saved ∷ later) chosen → table_by other v (earlier ++ kept_as Undone ticket saved ∷ later) chosen ≡ other saved v
   table_added present =
       let k = kept_as Undone ticket saved in
       let parts = all_split (λ e. chosen e.ticket ≡ is_done e.standing) earlier (kept_as Done ticket saved ∷ later) present in
@@ -519,3 +540,8 @@ module _ {S V : Type 0} (other : S → V → V) (v : V) (earlier : List (KeptCha
       ∙ ap (λ (x : V). made_again other chosen (again_over other (chosen ticket) Undone saved x) later) (made_same other chosen v earlier (none_again other chosen earlier parts.0))
       ∙ ap (λ (b : Bool). made_again other chosen (again_over other b Undone saved v) later) parts.1.0
       ∙ made_same other chosen (other saved v) later (none_again other chosen later parts.1.1)
+
+  pub table_over : (from : Standing) → from ≢ Cleared → IsPresent (earlier ++ kept_as (turned from) ticket saved ∷ later) chosen → table_by other v (earlier ++ kept_as from ticket saved ∷ later) chosen ≡ other saved v
+  table_over Done live present = table_without present
+  table_over Undone live present = table_added present
+  table_over Cleared live present = absurd (live refl)

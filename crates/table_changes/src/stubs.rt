@@ -1,12 +1,13 @@
 //! The changes of stubs.
 
-ghost use Rattle.std.specs.Prelude.{◌≡◌, false, IfErr, IfOk, OnOk};
+ghost use Rattle.std.specs.Prelude.{◌≡◌, false, IfErr, IfOk, IsOk, OnErr, OnOk};
 ghost use Rattle.change_law.specs.Effect.{IsFaultFor};
-ghost use Rattle.stub_table.specs.Saved.{needs_memory, TakesBack};
+ghost use Rattle.stub_table.specs.Saved.{before_of, needs_memory, IsTurned, TakesBack};
+ghost use Rattle.stub_table.specs.Stubs.{Stubs};
 ghost use Rattle.table_changes.specs.Stubs.{stub_code, stubs_after, stubs_removed, FailsStubChange, MakesStubChange};
 
-use change_law::ChangeFault;
-use dns_name::Name;
+use change_law::{ChangeFault, Standing};
+use dns_name::{Name, NoMemory};
 use dns_text::Shared;
 use stub_table::{SavedStubs, Stub, StubFault, StubTable};
 
@@ -68,5 +69,24 @@ pub(crate) fn make_stub_change(
     match change {
         StubChange::Set(stub) => set_stub(table, stub),
         StubChange::Drop(name) => drop_stub(table, name),
+    }
+}
+
+// Takes a change back, or makes it again.
+pub(crate) fn turn_stubs(
+    table: &mut StubTable,
+    from: Standing,
+    saved: &mut SavedStubs,
+) -> Result<(), NoMemory>
+    requires { (other : Stubs) × TakesBack saved.old table.old other }
+    ensures ok { OnOk result (table.new ≡ before_of saved.old table.old) }
+    ensures again { OnOk result (TakesBack saved.new table.new table.old) }
+    ensures turned { OnOk result (IsTurned saved.old saved.new) }
+    ensures err { OnErr result ((table.new ≡ table.old) × (saved.new ≡ saved.old)) }
+    ensures free { needs_memory saved.old ≡ false → IsOk result }
+{
+    match from {
+        Standing::Done => table.back(saved),
+        _ => table.again(saved),
     }
 }

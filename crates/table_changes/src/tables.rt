@@ -2,9 +2,9 @@
 
 ghost use Rattle.std.specs.Prelude.{◌≡◌, IfOk};
 
-use crate::stubs::{StubChange, make_stub_change};
-use crate::zones::{ZoneChange, make_zone_change};
-use change_law::{Change, ChangeFault, World, WorldFault};
+use crate::stubs::{StubChange, make_stub_change, turn_stubs};
+use crate::zones::{ZoneChange, make_zone_change, turn_zones};
+use change_law::{Change, ChangeFault, Standing, World, WorldFault};
 use dns_name::{Name, NoMemory};
 use dns_text::{Items, Question};
 use history::{Command, Tables, share_answer};
@@ -67,7 +67,7 @@ impl TableChange {
 
 impl TableWorld {
     ghost use Rattle.std.specs.Prelude.{[]};
-    ghost use Rattle.change_law.specs.Turn.{CanTurn};
+    ghost use Rattle.change_law.specs.Turn.{CanTurnOver};
     ghost use Rattle.table_changes.specs.Shown.{AnswersOver, ShowsEmpty};
 
     /// Empty tables, which keep no changes. They take no memory.
@@ -89,7 +89,7 @@ impl TableWorld {
         saved: &SavedTable,
         question: &Question,
     ) -> Result<Local<Items<SeenRecord>, LocalRecord>, NoMemory>
-        requires { CanTurn ⟦<TableWorld as World>⟧.table ⟦<TableWorld as World>⟧.keeps self.now saved.now }
+        requires { CanTurnOver ⟦<TableWorld as World>⟧.table ⟦<TableWorld as World>⟧.keeps self.now saved.now }
         ensures { IfOk result (AnswersOver ⟦<TableWorld as World>⟧ self.now saved.now question.now) }
     {
         match saved {
@@ -215,27 +215,18 @@ impl Change for TableChange {
         }
     }
 
-    fn back(world: &mut TableWorld, saved: &mut SavedTable) -> Result<(), NoMemory> {
+    fn turn(
+        world: &mut TableWorld,
+        from: Standing,
+        saved: &mut SavedTable,
+    ) -> Result<(), NoMemory> {
         match saved {
             SavedTable::Zones(saved) => {
-                world.tables.local.back(saved)?;
+                turn_zones(&mut world.tables.local, from, saved)?;
                 Ok(())
             }
             SavedTable::Stubs(saved) => {
-                world.tables.stubs.back(saved)?;
-                Ok(())
-            }
-        }
-    }
-
-    fn again(world: &mut TableWorld, saved: &mut SavedTable) -> Result<(), NoMemory> {
-        match saved {
-            SavedTable::Zones(saved) => {
-                world.tables.local.again(saved)?;
-                Ok(())
-            }
-            SavedTable::Stubs(saved) => {
-                world.tables.stubs.again(saved)?;
+                turn_stubs(&mut world.tables.stubs, from, saved)?;
                 Ok(())
             }
         }

@@ -1,12 +1,13 @@
 //! The changes of local zones and records.
 
-ghost use Rattle.std.specs.Prelude.{◌≡◌, false, IfErr, IfOk, OnOk};
+ghost use Rattle.std.specs.Prelude.{◌≡◌, false, IfErr, IfOk, IsOk, OnErr, OnOk};
 ghost use Rattle.change_law.specs.Effect.{IsFaultFor};
-ghost use Rattle.local_zone.specs.Saved.{needs_memory, TakesBack};
+ghost use Rattle.local_zone.specs.Saved.{needs_memory, TakesBack, TurnsOver};
+ghost use Rattle.local_zone.specs.Tables.{Tables};
 ghost use Rattle.table_changes.specs.Zones.{zone_code, zones_after, zones_removed, FailsZoneChange, MakesZoneChange};
 
-use change_law::ChangeFault;
-use dns_name::Name;
+use change_law::{ChangeFault, Standing};
+use dns_name::{Name, NoMemory};
 use dns_text::{Record, Shared};
 use local_zone::{SavedTables, TableFault, ZoneTable, ZoneType};
 
@@ -110,5 +111,22 @@ pub(crate) fn make_zone_change(
         ZoneChange::DropZone(name) => drop_zone(table, name),
         ZoneChange::AddRecord(new) => add_record(table, new),
         ZoneChange::DropName(name) => drop_name(table, name),
+    }
+}
+
+// Takes a change back, or makes it again.
+pub(crate) fn turn_zones(
+    table: &mut ZoneTable,
+    from: Standing,
+    saved: &mut SavedTables,
+) -> Result<(), NoMemory>
+    requires { (other : Tables) × TakesBack saved.old table.old other }
+    ensures turns { OnOk result (TurnsOver saved.old table.old saved.new table.new) }
+    ensures err { OnErr result ((table.new ≡ table.old) × (saved.new ≡ saved.old)) }
+    ensures free { needs_memory saved.old ≡ false → IsOk result }
+{
+    match from {
+        Standing::Done => table.back(saved),
+        _ => table.again(saved),
     }
 }

@@ -6,10 +6,10 @@ use Rattle.dns_name.specs.ListLaws.{all-append, all-drop, all-take, all_weaker}
 use Rattle.change_law.specs.declared.kept.KeptChange.{KeptChange}
 use Rattle.change_law.specs.declared.kept.Standing.{Standing}
 use Rattle.change_law.specs.declared.kept.Standing.TheVariants.{Done, Undone, Cleared}
-use Rattle.change_law.specs.Choice.{IsChoice, IsPresent, cleared, is_done}
+use Rattle.change_law.specs.Choice.{IsChoice, IsPresent, cleared, is_done, turned}
 use Rattle.change_law.specs.Face.{Face}
 use Rattle.change_law.specs.Row.{kept_as, IsNext, IsRowAfter, IsTurned, any, same_face}
-use Rattle.undo_journal.specs.Journal.{AreChanges, Changes, IsChange, IsForgotten, in_effect, newest, out_of_effect, settled_by, tickets_of, told_of, turned}
+use Rattle.undo_journal.specs.Journal.{AreChanges, Changes, IsChange, IsForgotten, in_effect, newest, out_of_effect, settled_by, tickets_of, told_of}
 use Rattle.undo_journal.specs.Needs.{IsNeededAfter, needs_of, undo_needs}
 use Rattle.undo_journal.proofs.RingLaws.{IsAt, map_append, map_length}
 use Rattle.undo_journal.proofs.RowLaws.{all_in_effect, choice_as, choice_front, choice_with_gone, choice_with_old, choice_with_undone, in_effect_done, present_append, present_out, row_then}

@@ -7,9 +7,9 @@ use Rattle.dns_name.specs.ListLaws.{all-append, all_split, all_weaker}
 use Rattle.change_law.specs.declared.kept.KeptChange.{KeptChange}
 use Rattle.change_law.specs.declared.kept.Standing.{Standing}
 use Rattle.change_law.specs.declared.kept.Standing.TheVariants.{Done, Undone, Cleared}
-use Rattle.change_law.specs.Choice.{IsFounded, IsOneTable, IsUncovered, is_done}
+use Rattle.change_law.specs.Choice.{IsFounded, IsOneTable, IsUncovered, is_done, IsClear, passed, turned}
 use Rattle.change_law.specs.ChoiceLaws.{same_number, other_number}
-use Rattle.undo_journal.specs.Journal.{AreAscending, AreChanges, AreDifferent, AreInTurn, HasTurned, IsClear, IsClosed, in_effect, is_among, is_before, out_of_effect, passed, standing_in, standings_of, standings_with, tickets_of, turnable, turned, undone_with, without}
+use Rattle.undo_journal.specs.Journal.{AreAscending, AreChanges, AreDifferent, AreInTurn, HasTurned, IsClosed, in_effect, is_among, is_before, out_of_effect, standing_in, standings_of, standings_with, tickets_of, turnable, undone_with, without}
 use Rattle.undo_journal.proofs.RingLaws.{Done≢Undone, Undone≢Done, all_back, all_both, all_filter, among_push_here, among_push_other, among_without_here, among_without_other, before_last, before_push, before_without, different_push, different_without, last_before_none, length_without, or_left, or_right}
 
 -- ---- standings

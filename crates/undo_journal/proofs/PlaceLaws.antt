@@ -5,12 +5,11 @@ use Rattle.change_law.specs.declared.kept.KeptChange.{KeptChange}
 use Rattle.change_law.specs.declared.kept.Standing.{Standing}
 use Rattle.change_law.specs.declared.kept.Standing.TheVariants.{Done, Cleared}
 use Rattle.change_law.specs.declared.world.World.{Ghosts}
-use Rattle.change_law.specs.Choice.{is_done}
+use Rattle.change_law.specs.Choice.{is_done, IsClear, passed, turned}
 use Rattle.change_law.specs.Face.{Face}
-use Rattle.change_law.specs.Row.{IsRefused, IsRowAfter, IsSameKind, IsTurned, any, kept_as, same_face}
-use Rattle.undo_journal.specs.Journal.{AreChanges, CanBeTurned, Changes, HasTurned, IsClear, passed, turned, undone_with}
+use Rattle.change_law.specs.Row.{IsRefused, IsRowAfter, IsSameKind, IsTurned, any, kept_as, same_face, CanTurn, IsTurnable, Turns}
+use Rattle.undo_journal.specs.Journal.{AreChanges, CanBeTurned, Changes, HasTurned, undone_with}
 use Rattle.undo_journal.specs.Moving.{ChangesNothing, MovesStandings}
-use Rattle.undo_journal.specs.Turning.{CanTurnFrom, IsTurnable, Turns}
 use Rattle.undo_journal.proofs.AppliedLaws.{choices_at, needs_at, told_at}
 use Rattle.undo_journal.proofs.RingLaws.{IsAt, at_place, kept_is, passed_at, row_of, turned≢Cleared}
 use Rattle.undo_journal.proofs.MoveLaws.{out_less, turned_are, turned_is}
@@ -94,7 +93,7 @@ module _ {W T S D : Type 0} (by : Ghosts W T S D) (kept : List (KeptChange S)) (
   turnable_now : (world : W) (from : Standing) → from ≢ Cleared → by.keeps world now.kept → CanBeTurned by.table from now.kept place → IsTurnable by.table by.keeps from world at.earlier k.ticket k.saved at.later
   turnable_now world from live held can = turnable_here by.table kept place k there at by.keeps world from live (subst (λ (x : Changes S). by.keeps world x.kept) (sym is) held) (turns_then from can)
 
-  pub can_turn : (world : W) (from : Standing) → from ≢ Cleared → by.keeps world now.kept → CanBeTurned by.table from now.kept place → CanTurnFrom by.table by.keeps from world k.saved
+  pub can_turn : (world : W) (from : Standing) → from ≢ Cleared → by.keeps world now.kept → CanBeTurned by.table from now.kept place → CanTurn by.table by.keeps from world k.saved
   can_turn world from live held can = (at.earlier, (k.ticket, (at.later, turnable_now world from live held can)))
 
   -- A refused call leaves the journal as it was.

@@ -10,9 +10,9 @@ use Rattle.dns_name.specs.ListLaws.{all_split, all_weaker, never_past}
 use Rattle.change_law.specs.declared.kept.KeptChange.{KeptChange}
 use Rattle.change_law.specs.declared.kept.Standing.{Standing}
 use Rattle.change_law.specs.declared.kept.Standing.TheVariants.{Done, Undone, Cleared}
-use Rattle.change_law.specs.Choice.{IsFounded, IsOneTable, is_done}
+use Rattle.change_law.specs.Choice.{IsFounded, IsOneTable, is_done, IsClear, passed}
 use Rattle.change_law.specs.ChoiceLaws.{same_number, other_number}
-use Rattle.undo_journal.specs.Journal.{AreAscending, AreChanges, AreInTurn, CanBeTurned, Changes, IsClear, IsPlaceOf, farther, farthest, first_of, in_effect, is_among, is_from, is_one_table, is_passed, last_of, lies_in_way, passed, standing_in, table_at, tickets_of, turnable}
+use Rattle.undo_journal.specs.Journal.{AreAscending, AreChanges, AreInTurn, CanBeTurned, Changes, IsPlaceOf, farther, farthest, first_of, in_effect, is_among, is_from, is_one_table, is_passed, last_of, lies_in_way, standing_in, table_at, tickets_of, turnable}
 use Rattle.undo_journal.specs.Needs.{TurnNeedsNone}
 use Rattle.undo_journal.proofs.RingLaws.{all_among, all_both, among_push_here, among_push_other, and_true, at_place, drop_past, map_append, or_none, passed_at, take_there}
 use Rattle.undo_journal.proofs.MoveLaws.{asc_after, asc_before, done_here, done_standing, last_founded, standing_undone}

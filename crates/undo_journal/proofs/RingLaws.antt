@@ -10,7 +10,8 @@ use Rattle.change_law.specs.declared.kept.Standing.TheVariants.{Done, Undone, Cl
 use Rattle.change_law.specs.ChoiceLaws.{same_number, other_number}
 use Rattle.change_law.specs.Face.{Face}
 use Rattle.change_law.specs.Row.{kept_as, IsRowAfter}
-use Rattle.undo_journal.specs.Journal.{AreDifferent, is_among, is_before, passed, turned, without}
+use Rattle.change_law.specs.Choice.{passed, turned}
+use Rattle.undo_journal.specs.Journal.{AreDifferent, is_among, is_before, without}
 pub use Rattle.undo_journal.specs.TicketLaws.{all_among, all_back, all_both, all_filter, all_images, among_without, map_length}
 
 -- ---- lists

@@ -1,11 +1,11 @@
 -- The journal: its changes, and how an undo, a redo and a new change alter them.
-use Rattle.std.specs.Prelude.{◌≡◌, ◌≢◌, ℕ, ◌+◌, ◌-◌, ◌<◌, ◌≤◌, ◌==◌, ◌&&◌, ◌||◌, nat_lt, Bool, true, false, not, Option, Some, None, List, [], ◌∷◌, ◌++◌, length, map, filter, take, drop, slice_get, option_map, refl, if◌then◌else◌}
+use Rattle.std.specs.Prelude.{◌≡◌, ℕ, ◌+◌, ◌-◌, ◌<◌, ◌≤◌, ◌==◌, ◌&&◌, ◌||◌, nat_lt, Bool, true, false, not, Option, Some, None, List, [], ◌∷◌, ◌++◌, length, map, filter, take, drop, slice_get, option_map, refl, if◌then◌else◌}
 use Rattle.std.specs.List.{AllByRecursion, list_any}
 use Rattle.std.specs.Coded.{Coded, code_by, coded×, coded_list, coded_ℕ}
 use Rattle.change_law.specs.declared.kept.KeptChange.{KeptChange}
 use Rattle.change_law.specs.declared.kept.Standing.{Standing}
 use Rattle.change_law.specs.declared.kept.Standing.TheVariants.{Done, Undone}
-use Rattle.change_law.specs.Choice.{IsChoice, IsOneTable, IsUncovered, is_done}
+use Rattle.change_law.specs.Choice.{IsChoice, IsClear, IsOneTable, IsUncovered, is_done, passed, turned}
 use Rattle.change_law.specs.Row.{kept_as}
 use Rattle.undo_journal.specs.declared.outcome.Outcome.{Outcome}
 use Rattle.undo_journal.specs.declared.outcome.Outcome.TheVariants.{Moved, NotKept, Buried}
@@ -108,11 +108,6 @@ table_at table (k ∷ kept) ticket = if k.ticket == ticket then table k.saved el
 
 -- ---- turns: an undo turns a change that is in effect, a redo one that is undone
 
--- the standing of a change after its turn
-abbrev pub turned : Standing → Standing
-turned Done = Undone
-turned _ = Done
-
 -- whether a change stands as those that are turned from here
 abbrev pub is_from : Standing → Standing → Bool
 is_from Done standing = is_done standing
@@ -127,11 +122,6 @@ turnable _ changes = changes.undone
 abbrev pub undone_with : Standing → ℕ → List ℕ → List ℕ
 undone_with Done ticket undone = undone ++ ticket ∷ []
 undone_with _ ticket undone = without ticket undone
-
--- what is in the way of a turn, of what is before a place and what is after it: an undo goes past later ones, a redo past earlier ones
-abbrev pub passed : {X : Type 0} → Standing → X → X → X
-passed Done earlier later = later
-passed _ earlier later = earlier
 
 -- whether the turn of one ticket goes past another
 abbrev pub is_passed : Standing → ℕ → ℕ → Bool
@@ -156,10 +146,6 @@ lies_in_way table from ticket own k = is_from from k.standing && (is_passed from
 -- the farthest ticket of its table in the way: that change must be turned first
 abbrev pub in_way : {S : Type 0} → (S → Option ℕ) → Standing → List (KeptChange S) → ℕ → Option ℕ
 in_way table from kept ticket = farthest from (tickets_of (filter (lies_in_way table from ticket (table_at table kept ticket)) kept))
-
--- No change of its table that the turn goes past stands as it does.
-abbrev pub IsClear : {S : Type 0} → (S → Option ℕ) → Standing → S → List (KeptChange S) → Type 0
-IsClear table from saved others = AllByRecursion (λ k. IsOneTable (table saved) (table k.saved) → k.standing ≢ from) others
 
 -- ---- the journal
 

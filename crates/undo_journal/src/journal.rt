@@ -8,7 +8,7 @@ ghost use Rattle.change_law.specs.Row.{IsNoMore};
 use crate::outcome::{Outcome, TicketReach};
 use crate::reach::{farther, is_from, lies_in_way};
 use crate::settling::settle_undone;
-use crate::turning::{turn_saved, turn_undone, turned};
+use crate::turning::{turn_undone, turned};
 use change_law::{Change, ChangeFault, KeptChange, Standing, World};
 use circular_buffer::HeapCircularBuffer;
 use dns_name::NoMemory;
@@ -242,7 +242,7 @@ impl<C: Change> Journal<C> {
     {
         match self.ring.get_mut(place) {
             Some(kept) => {
-                turn_saved::<C>(world, from, &mut kept.saved)?;
+                C::turn(world, from, &mut kept.saved)?;
                 kept.standing = turned(from);
                 let ticket = kept.ticket;
                 turn_undone(&mut self.undone, from, ticket);

@@ -1,36 +1,11 @@
-//! The turn of a kept change: its undo if it is in effect, its redo if it is undone.
+//! The turn of a kept change under its journal: where it stands, and where its ticket is.
 
-ghost use Rattle.std.specs.Prelude.{◌≡◌, ◌<◌, false, length, vec_capacity, IsOk, OnErr, OnOk};
+ghost use Rattle.std.specs.Prelude.{◌≡◌, ◌<◌, length, vec_capacity};
 ghost use Rattle.change_law.specs.declared.kept.Standing.TheVariants.{Done};
-ghost use Rattle.change_law.specs.Made.{RefusesTurn};
-ghost use Rattle.change_law.specs.Row.{IsNoMore, IsSameKind, IsTurned};
-ghost use Rattle.undo_journal.specs.Journal.{turned, undone_with, without};
-ghost use Rattle.undo_journal.specs.Turning.{CanTurnFrom, Turns};
+ghost use Rattle.change_law.specs.Choice.{turned};
+ghost use Rattle.undo_journal.specs.Journal.{undone_with, without};
 
-use change_law::{Change, Standing, World};
-use dns_name::NoMemory;
-
-type Saved<C> = <<C as Change>::World as World>::Saved;
-
-/// Undoes or redoes a change, which stands so.
-pub(crate) fn turn_saved<C: Change>(
-    world: &mut C::World,
-    from: Standing,
-    saved: &mut Saved<C>,
-) -> Result<(), NoMemory>
-    requires { CanTurnFrom C.World.table C.World.keeps from world.old saved.old }
-    ensures row { OnOk result (Turns C.World.table C.World.keeps C.World.face from world.old saved.old world.new saved.new) }
-    ensures kind { OnOk result (IsSameKind C.World.table C.World.told saved.old saved.new) }
-    ensures turned { OnOk result (IsTurned C.World.needs_memory C.World.needs_memory_after saved.old saved.new) }
-    ensures free { C.World.needs_memory saved.old ≡ false → IsOk result }
-    ensures err { OnErr result (RefusesTurn C.World.World world.old saved.old world.new saved.new) }
-    ensures counts { IsNoMore C.World.newest C.World.stored C.World.limit C.World.counts world.old world.new }
-{
-    match from {
-        Standing::Done => C::back(world, saved),
-        _ => C::again(world, saved),
-    }
-}
+use change_law::Standing;
 
 /// The standing of a change after its turn.
 pub(crate) fn turned(from: Standing) -> Standing

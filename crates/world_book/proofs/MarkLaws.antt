@@ -9,8 +9,8 @@ use Rattle.std.proofs.lemmas.List.Folds.{list_any-append}
 use Rattle.change_law.specs.declared.kept.KeptChange.{KeptChange}
 use Rattle.change_law.specs.declared.kept.Standing.{Standing}
 use Rattle.change_law.specs.declared.kept.Standing.TheVariants.{Done, Undone, Cleared}
-use Rattle.change_law.specs.Choice.{is_done}
-use Rattle.undo_journal.specs.Journal.{AreAscending, AreChanges, Changes, HasTurned, done_of, in_effect, is_among, standing_in, standings_of, standings_with, tickets_of, turned}
+use Rattle.change_law.specs.Choice.{is_done, turned}
+use Rattle.undo_journal.specs.Journal.{AreAscending, AreChanges, Changes, HasTurned, done_of, in_effect, is_among, standing_in, standings_of, standings_with, tickets_of}
 use Rattle.world_book.specs.Course.{struck_with, struck_without}
 use Rattle.undo_journal.specs.TicketLaws.{all_among, among_without}
 use Rattle.world_book.specs.Turned.{turn_marks}

@@ -12,10 +12,10 @@ use Rattle.change_law.specs.declared.kept.KeptChange.{KeptChange}
 use Rattle.change_law.specs.declared.kept.Standing.{Standing}
 use Rattle.change_law.specs.declared.kept.Standing.TheVariants.{Done, Undone, Cleared}
 use Rattle.change_law.specs.declared.world.World.{Ghosts}
-use Rattle.change_law.specs.Choice.{AllowsAt, AreLeftOut, IsChoice, IsFounded, IsOneTable, IsPresent, IsUncovered, is_done}
+use Rattle.change_law.specs.Choice.{AllowsAt, AreLeftOut, IsChoice, IsFounded, IsOneTable, IsPresent, IsUncovered, is_done, IsClear, passed, turned}
 use Rattle.change_law.specs.Row.{kept_as}
-use Rattle.change_law.specs.Turn.{CanTurn, HoldsOver}
-use Rattle.undo_journal.specs.Journal.{AreAscending, AreChanges, CanBeTurned, Changes, IsClear, IsClosed, passed, standings_of, tickets_of, turned}
+use Rattle.change_law.specs.Turn.{CanTurnOver, HoldsOver}
+use Rattle.undo_journal.specs.Journal.{AreAscending, AreChanges, CanBeTurned, Changes, IsClosed, standings_of, tickets_of}
 use Rattle.world_book.specs.Course.{IsFair}
 use Rattle.world_book.proofs.CourseLaws.{differs, other_struck}
 use Rattle.history.specs.declared.event.Command.{Command}
@@ -32,6 +32,12 @@ use Rattle.world_book.specs.Turned.{turn_marks}
 use Rattle.world_book.proofs.MarkLaws.{struck_after}
 use Rattle.world_book.proofs.ReplyLaws.{shown_same}
 use Rattle.world_book.proofs.VersionLaws.{face_is}
+
+pub done_lives : Done ≢ Cleared
+done_lives e = absurd cc
+
+pub undone_lives : Undone ≢ Cleared
+undone_lives e = absurd cc
 
 not_not : (b : Bool) → not (not b) ≡ b
 not_not true = refl
@@ -76,15 +82,15 @@ module _ {S : Type 0} where
 
   -- a change that the journal can undo or redo can be turned
   pub can_turn : {W : Type 0} (table : S → Option ℕ) (keeps : W → List (KeptChange S) → Type 0) (w : W) (kept : List (KeptChange S)) (place : ℕ) (k : KeptChange S) → slice_get kept place ≡ Some k
-      → keeps w kept → CanBeTurned table Done kept place ⊎ CanBeTurned table Undone kept place → CanTurn table keeps w k.saved
+      → keeps w kept → CanBeTurned table Done kept place ⊎ CanBeTurned table Undone kept place → CanTurnOver table keeps w k.saved
   can_turn {W} table keeps w kept place k there holds (inl can) =
       let same : can.here ≡ k = cc (can.there, there) in
-      subst (λ (x : KeptChange S). CanTurn table keeps w x.saved) same
-      (inl (take place kept, (can.here.ticket, (drop (place + 1) kept, record { kept = subst (keeps w) (kept_at kept place can.here Done can.there can.stands) holds; uncovered = can.clear }))))
+      subst (λ (x : KeptChange S). CanTurnOver table keeps w x.saved) same
+      (Done, (take place kept, (can.here.ticket, (drop (place + 1) kept, record { live = done_lives; kept = subst (keeps w) (kept_at kept place can.here Done can.there can.stands) holds; clear = can.clear }))))
   can_turn {W} table keeps w kept place k there holds (inr can) =
       let same : can.here ≡ k = cc (can.there, there) in
-      subst (λ (x : KeptChange S). CanTurn table keeps w x.saved) same
-      (inr (take place kept, (can.here.ticket, (drop (place + 1) kept, record { kept = subst (keeps w) (kept_at kept place can.here Undone can.there can.stands) holds; founded = can.clear }))))
+      subst (λ (x : KeptChange S). CanTurnOver table keeps w x.saved) same
+      (Undone, (take place kept, (can.here.ticket, (drop (place + 1) kept, record { live = undone_lives; kept = subst (keeps w) (kept_at kept place can.here Undone can.there can.stands) holds; clear = can.clear }))))
 
   pub is_there : (table : S → Option ℕ) (kept : List (KeptChange S)) (place : ℕ) → CanBeTurned table Done kept place ⊎ CanBeTurned table Undone kept place → slice_get kept place ≢ None
   is_there table kept place (inl can) e = let f = sym can.there ∙ e in absurd cc
@@ -203,12 +209,6 @@ module _ {W S : Type 0} (by : Ghosts W Tables S Command) (w : W) (changes : Chan
         → seen ≡ answer_by (chosen_over (is_struck past.marks) ticket to) past.log q clock → seen ≡ answer_by chosen past.log q clock
     as_chosen chosen to same e = e ∙ ap (λ (c : ℕ → Bool). answer_by c past.log q clock) (sym same)
 
-    seen_over : (from : Standing) → from ≢ Cleared → by.keeps w (earlier ++ kept_as from ticket saved ∷ later) → IsClear by.table from saved (passed from earlier later) → (chosen : ℕ → Bool)
-        → IsPresent (earlier ++ kept_as (turned from) ticket saved ∷ later) chosen → seen ≡ answer_in (by.face w (earlier ++ kept_as from ticket saved ∷ later) chosen) q clock
-    seen_over Done live kept clear = over.back earlier ticket later (record { kept = kept; uncovered = clear })
-    seen_over Undone live kept clear = over.again earlier ticket later (record { kept = kept; founded = clear })
-    seen_over Cleared live kept clear = absurd (live refl)
-
     pub tells : (from : Standing) → from ≢ Cleared → changes.kept ≡ earlier ++ kept_as from ticket saved ∷ later → IsClear by.table from saved (passed from earlier later)
         → seen ≡ answer_by (is_unstruck (turn_marks from past.marks ticket)) past.log q clock
     tells from live e clear =
@@ -217,7 +217,7 @@ module _ {W S : Type 0} (by : Ghosts W Tables S Command) (w : W) (changes : Chan
         let choice = subst (λ (l : List (KeptChange S)). IsChoice by.table l chosen) (sym e)
         (choice_over by.table chosen ticket saved later from live earlier (subst (λ (l : List (KeptChange S)). IsClosed by.table l) e are.closed) clear here) in
         as_chosen (is_unstruck (turn_marks from past.marks ticket)) (turned from) (ap unstruck (struck_after from live past.marks ticket))
-        (seen_over from live (subst (by.keeps w) e tied.stands.kept) clear chosen here
+        (over from earlier ticket later (record { live = live; kept = subst (by.keeps w) e tied.stands.kept; clear = clear }) chosen here
         ∙ ap (λ (l : List (KeptChange S)). answer_in (by.face w l chosen) q clock) (sym e)
         ∙ face_tells chosen choice (fair_over from (turned from) e))
 
@@ -230,9 +230,3 @@ module _ {W S : Type 0} (by : Ghosts W Tables S Command) (w : W) (changes : Chan
       subst (λ (n : ℕ). seen ≡ answer_by (is_unstruck (turn_marks from past.marks n)) past.log q clock) own
       (tells (take place changes.kept) can.here.ticket can.here.saved (drop (place + 1) changes.kept) (over can.here can.there) from live
       (kept_at changes.kept place can.here from can.there can.stands) can.clear)
-
-pub done_lives : Done ≢ Cleared
-done_lives e = absurd cc
-
-pub undone_lives : Undone ≢ Cleared
-undone_lives e = absurd cc

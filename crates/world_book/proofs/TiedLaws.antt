@@ -13,13 +13,13 @@ use Rattle.change_law.specs.declared.kept.KeptChange.{KeptChange}
 use Rattle.change_law.specs.declared.kept.Standing.{Standing}
 use Rattle.change_law.specs.declared.kept.Standing.TheVariants.{Done, Undone, Cleared}
 use Rattle.change_law.specs.declared.world.World.{Ghosts}
-use Rattle.change_law.specs.Choice.{IsChoice, IsPresent, is_done}
+use Rattle.change_law.specs.Choice.{IsChoice, IsPresent, is_done, turned}
 use Rattle.change_law.specs.Effect.{effect}
 use Rattle.change_law.specs.Face.{IsSame, IsSameAt, face_with, face_without}
 use Rattle.change_law.specs.Row.{IsRowAfter, IsRowFrom, IsSameRow, any, same_face, where_chosen}
 use Rattle.undo_journal.specs.declared.outcome.Outcome.{Outcome}
 use Rattle.undo_journal.specs.declared.outcome.Outcome.TheVariants.{Moved, NotKept, Buried}
-use Rattle.undo_journal.specs.Journal.{Changes, AreChanges, HasTurned, IsChange, IsTurn, IsTurnOf, done_of, in_effect, told_of, newest, settled_by, turned}
+use Rattle.undo_journal.specs.Journal.{Changes, AreChanges, HasTurned, IsChange, IsTurn, IsTurnOf, done_of, in_effect, told_of, newest, settled_by}
 use Rattle.undo_journal.specs.Moving.{MovesStandings}
 use Rattle.undo_journal.specs.TicketLaws.{all_back, all_filter, all_images, map_length}
 use Rattle.world_book.specs.Course.{Deed, Came, Forgot, Made, AreAscending, Stands, face_by, moved_by}

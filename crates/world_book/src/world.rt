@@ -6,7 +6,7 @@ ghost use Rattle.dns_text.specs.declared.record.Question.{Question};
 ghost use Rattle.history.specs.declared.tables.Tables.{Tables};
 ghost use Rattle.history.specs.Changes.{after_command_on, reason_on};
 ghost use Rattle.history.specs.Event.{covers};
-ghost use Rattle.change_law.specs.Turn.{CanTurn};
+ghost use Rattle.change_law.specs.Turn.{CanTurnOver};
 ghost use Rattle.world_book.specs.Deeds.{shown_in};
 ghost use Rattle.world_book.specs.Removals.{removes};
 ghost use Rattle.world_book.specs.Seen.{AnswersOver};
@@ -47,7 +47,7 @@ pub trait BookWorld: World<Tables = Tables, Told = Command> + CellSource {
         question: &Question,
         moment: u64,
     ) -> Result<Seen, NoMemory>
-        requires { CanTurn Self.table Self.keeps self.now saved.now }
+        requires { CanTurnOver Self.table Self.keeps self.now saved.now }
         ensures { IfOk result (AnswersOver Self.table Self.keeps Self.face self.now saved.now question.now moment) };
 
     /// Counts of how many names a kept change hides a cell, some names from a place on. No clause says what is counted.

@@ -5,11 +5,12 @@ use Rattle.local_zone.specs.Answer.{local_of}
 use Rattle.history.specs.declared.tables.Tables.{Tables}
 use Rattle.history.specs.Reply.{seen_by, seen_first}
 use Rattle.store.specs.World.{shows_over}
-use Rattle.store.proofs.OverLaws.{flush_over, table_can_turn, table_over}
+use Rattle.store.specs.StoreLaws.{table_can_turn}
+use Rattle.store.proofs.OverLaws.{flush_over, table_over}
 use Rattle.store.proofs.book.StoreBookWorld.answer_over.Goals as goal
 
 pub answer_over-requires : goal.answer_over-requires
-answer_over-requires c = table_can_turn c.args.self.now c.args.saved.now c.in-Table.saved c.in-Table.is c.requires
+answer_over-requires c = (c.requires.0, table_can_turn c.args.self.now c.requires.0 c.args.saved.now c.in-Table.saved c.in-Table.is c.requires.1)
 
 pub returns-in_ok-answer-in-Table : goal.returns-in_ok-answer-in-Table
 returns-in_ok-answer-in-Table c =

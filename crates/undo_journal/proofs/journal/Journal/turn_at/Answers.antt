@@ -5,8 +5,8 @@ use Rattle.undo_journal.proofs.RingLaws.{at_place, on_err}
 use Rattle.undo_journal.proofs.PlaceLaws.{can_turn, moved_here, refused_are, refused_here, turned_at, turned_sound, turns_then, undone_fit}
 use Rattle.undo_journal.proofs.journal.Journal.turn_at.Goals as goal
 
-pub turn_saved-requires : goal.turn_saved-requires
-turn_saved-requires g c =
+pub turn-requires : goal.turn-requires
+turn-requires g c =
     let j = c.self.inside in
     can_turn g.C.World.World j.ring.items j.undone.items j.tickets j.ring.capacity c.args.self.now c.self.view_is c.args.place c.in-Some.kept.now (sym c.in-Some.ensures.value)
     c.args.world.now c.args.from c.requires.live c.requires.keeps c.requires.turns
@@ -24,30 +24,30 @@ turn_undone-requires g c = λ done.
 pub invariant_of-self-in-Some : goal.invariant_of-self-in-Some
 invariant_of-self-in-Some g c =
     let j = c.self.inside in (
-      rw c.turned-kept.ensures (turned_sound g.C.World.World j.ring.items j.undone.items j.tickets j.ring.capacity c.args.self.now c.self.view_is c.args.place c.in-Some.kept.now (sym c.in-Some.ensures.value) c.turn_undone.new.undone.items c.turn_saved.new.saved
-          c.args.from c.requires.live c.requires.turns c.in_ok-turn_saved-in-Some.ensures.kind.0 c.self.invariant.0 c.turn_undone.ensures.undone),
+      rw c.turned-kept.ensures (turned_sound g.C.World.World j.ring.items j.undone.items j.tickets j.ring.capacity c.args.self.now c.self.view_is c.args.place c.in-Some.kept.now (sym c.in-Some.ensures.value) c.turn_undone.new.undone.items c.turn.new.saved
+          c.args.from c.requires.live c.requires.turns c.in_ok-turn-in-Some.ensures.kind.0 c.self.invariant.0 c.turn_undone.ensures.undone),
       omega (arith, c.self.invariant.1, c.turn_undone.ensures.capacity),
     )
 
 pub invariant_of-self : goal.invariant_of-self
 invariant_of-self g c =
     let j = c.self.inside in
-    (refused_are g.C.World.World j.ring.items j.undone.items j.tickets j.ring.capacity c.args.self.now c.self.view_is c.args.place c.in-Some.kept.now (sym c.in-Some.ensures.value) c.turn_saved.new.saved c.in_err-turn_saved-in-Some.ensures.err.1 c.self.invariant.0, c.self.invariant.1)
+    (refused_are g.C.World.World j.ring.items j.undone.items j.tickets j.ring.capacity c.args.self.now c.self.view_is c.args.place c.in-Some.kept.now (sym c.in-Some.ensures.value) c.turn.new.saved c.in_err-turn-in-Some.ensures.err.1 c.self.invariant.0, c.self.invariant.1)
 
-pub returns-in_err-turn_saved-in-Some-clause-err : goal.returns-in_err-turn_saved-in-Some-clause-err
-returns-in_err-turn_saved-in-Some-clause-err g c =
+pub returns-in_err-turn-in-Some-clause-err : goal.returns-in_err-turn-in-Some-clause-err
+returns-in_err-turn-in-Some-clause-err g c =
     let j = c.self.inside in
-    on_err _ (refused_here g.C.World.World j.ring.items j.undone.items j.tickets j.ring.capacity c.args.self.now c.self.view_is c.args.place c.in-Some.kept.now (sym c.in-Some.ensures.value) c.args.world.now c.turn_saved.new.world c.turn_saved.new.saved c.in_err-turn_saved-in-Some.ensures.err)
+    on_err _ (refused_here g.C.World.World j.ring.items j.undone.items j.tickets j.ring.capacity c.args.self.now c.self.view_is c.args.place c.in-Some.kept.now (sym c.in-Some.ensures.value) c.args.world.now c.turn.new.world c.turn.new.saved c.in_err-turn-in-Some.ensures.err)
 
 pub returns-clause-ticket : goal.returns-clause-ticket
 returns-clause-ticket g c =
     let j = c.self.inside in
-    rw c.turned-kept.ensures (turned_at g.C.World.World j.ring.items j.undone.items j.tickets j.ring.capacity c.args.self.now c.self.view_is c.args.place c.in-Some.kept.now (sym c.in-Some.ensures.value) c.turn_undone.new.undone.items c.turn_saved.new.saved
-    c.args.from c.requires.live c.requires.turns c.in_ok-turn_saved-in-Some.ensures.kind.0 c.self.invariant.0 c.turn_undone.ensures.undone)
+    rw c.turned-kept.ensures (turned_at g.C.World.World j.ring.items j.undone.items j.tickets j.ring.capacity c.args.self.now c.self.view_is c.args.place c.in-Some.kept.now (sym c.in-Some.ensures.value) c.turn_undone.new.undone.items c.turn.new.saved
+    c.args.from c.requires.live c.requires.turns c.in_ok-turn-in-Some.ensures.kind.0 c.self.invariant.0 c.turn_undone.ensures.undone)
 
 pub returns-clause-moved : goal.returns-clause-moved
 returns-clause-moved g c =
     let j = c.self.inside in
-    rw c.turned-kept.ensures (moved_here g.C.World.World j.ring.items j.undone.items j.tickets j.ring.capacity c.args.self.now c.self.view_is c.args.place c.in-Some.kept.now (sym c.in-Some.ensures.value) c.turn_undone.new.undone.items c.turn_saved.new.saved
-    c.args.from c.requires.live c.requires.turns c.args.world.now c.turn_saved.new.world c.requires.keeps
-    c.in_ok-turn_saved-in-Some.ensures.kind c.in_ok-turn_saved-in-Some.ensures.turned c.in_ok-turn_saved-in-Some.ensures.row)
+    rw c.turned-kept.ensures (moved_here g.C.World.World j.ring.items j.undone.items j.tickets j.ring.capacity c.args.self.now c.self.view_is c.args.place c.in-Some.kept.now (sym c.in-Some.ensures.value) c.turn_undone.new.undone.items c.turn.new.saved
+    c.args.from c.requires.live c.requires.turns c.args.world.now c.turn.new.world c.requires.keeps
+    c.in_ok-turn-in-Some.ensures.kind c.in_ok-turn-in-Some.ensures.turned c.in_ok-turn-in-Some.ensures.row)
